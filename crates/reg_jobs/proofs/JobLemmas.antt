@@ -1,41 +1,58 @@
 -- Sessions over what was opened, listings and audits of it.
-use Rattle.std.proofs.Common.{ℕ, List, refl}
-use Rattle.std.specs.Prelude.{IsTrue, Option}
-use Rattle.sqlite.specs.Held.{state}
-use Rattle.sqlite.specs.State.{State}
+use Rattle.std.proofs.Common.{ℕ, List, refl, sym, ap, subst}
+use Rattle.std.specs.Prelude.{IsTrue, Option, Some}
+use Rattle.sqlite.specs.Held.{Held, state}
+use Rattle.sqlite.specs.State.{State, HasCleanDisk}
 use Rattle.sqlite_trees.specs.declared.store.Store.{Ghosts}
 use Rattle.reg_core.specs.Stored.{Stored, new_stored}
 use Rattle.reg_http.specs.declared.serving.Ended.{Ended}
-use Rattle.reg_http.specs.OverTables.{Over}
-use Rattle.reg_http.specs.Sessions.{Session}
+use Rattle.reg_service.specs.Services.{state_in}
 use Rattle.reg_jobs.specs.declared.job.Opened.{Opened}
 use Rattle.reg_jobs.specs.declared.job.Opened.TheVariants.{Nothing, Texts, Failed, Empty, OrphanedLog, Fresh, Database}
 use Rattle.reg_store.specs.declared.error.StoreError.{StoreError}
 use Rattle.reg_store.specs.declared.error.StoreError.TheVariants.{Memory, Disk, NotARegistry, OldLayout, NewerLayout}
 use Rattle.reg_store.specs.Failures.{IsFaultBy, IsFaultOver, is_fault}
 use Rattle.reg_store.specs.Opening.{OpensOver}
-use Rattle.reg_store.specs.Spells.{SpellsWhileOpen}
-use Rattle.reg_store.specs.Stores.{SpellsOn}
+use Rattle.reg_store.specs.Spells.{IsOpenOver, SpellsWhileOpen}
+use Rattle.reg_store.specs.Stores.{SpellsOn, state_of}
+use Rattle.reg_store.specs.declared.store.Store.{Store}
 use Rattle.reg_words.specs.declared.task.Listing.{Listing}
 use Rattle.reg_jobs.specs.declared.listings.ListOutcome.{ListOutcome}
 use Rattle.reg_jobs.specs.declared.listings.ListOutcome.TheVariants.{Whole, Unread, NotWritten, OutOfMemory}
 use Rattle.reg_jobs.specs.declared.auditing.AuditOutcome.{AuditOutcome}
 use Rattle.reg_jobs.specs.Auditing.{AuditsAs}
 use Rattle.reg_jobs.specs.Listings.{IfUnread, ListsAs, table_of}
-use Rattle.reg_jobs.specs.Jobs.{AuditsOver, HasRegistry, ListsOver, OverDatabase, SessionOver}
+use Rattle.reg_jobs.specs.Databases.{ServesStore}
+use Rattle.reg_jobs.specs.Jobs.{AuditsOver, BeginsWith, HasRegistry, ListsOver, OverDatabase, SessionOver}
+
+-- what is stored as a session over the registry of what was opened begins
+record BeginsOver {S : Type 0} (g : Ghosts S) (opened : Opened S) (begun : State) : Type 0 where
+  was : Stored
+  begins : BeginsWith g opened was
+  is_open : IsOpenOver begun was
+
+begins_over : {S : Type 0} (g : Ghosts S) (opened : Opened S) (begun : State) → HasRegistry g opened begun → BeginsOver g opened begun
+begins_over g Nothing begun has = absurd has
+begins_over g (Texts texts) begun has = absurd has
+begins_over g Failed begun has = absurd has
+begins_over g Empty begun has = absurd has
+begins_over g OrphanedLog begun has = absurd has
+begins_over g (Fresh old) begun has = record { was = new_stored; begins = (has.empty, refl); is_open = has.spells }
+begins_over g (Database old) begun has = record { was = has.stored; begins = has.spelled; is_open = has.spells }
 
 -- a session over the registry of what was opened
-pub SessionOver-has : {S : Type 0} (g : Ghosts S) (opened : Opened S) (begun new : State) (reader reader' writer writer' : Option (List ℕ)) (ended : Ended)
-    → HasRegistry g opened begun → Over begun new (λ was now. Session reader reader' writer writer' was now ended) → SessionOver g opened reader reader' writer writer' ended new
-SessionOver-has g Nothing begun new reader reader' writer writer' ended has over = absurd has
-SessionOver-has g (Texts texts) begun new reader reader' writer writer' ended has over = absurd has
-SessionOver-has g Failed begun new reader reader' writer writer' ended has over = absurd has
-SessionOver-has g Empty begun new reader reader' writer writer' ended has over = absurd has
-SessionOver-has g OrphanedLog begun new reader reader' writer writer' ended has over = absurd has
-SessionOver-has g (Fresh old) begun new reader reader' writer writer' ended has over =
-    record { was = new_stored; begins = (has.empty, refl); leads = over new_stored (λ _. has.spells) }
-SessionOver-has g (Database old) begun new reader reader' writer writer' ended has over =
-    record { was = has.stored; begins = has.spelled; leads = over has.stored (λ _. has.spells) }
+pub SessionOver-has : {S : Type 0} (g : Ghosts S) (opened : Opened S) (store : Store S g) (back : Held S) (reader reader' writer writer' : Option (List ℕ)) (ended : Ended)
+    → (HasCleanDisk (state g back) → HasRegistry g opened (state_of store)) → ServesStore store back reader reader' writer writer' ended → SessionOver g opened (Some back) reader reader' writer writer' ended
+SessionOver-has {S} g opened store back reader reader' writer writer' ended has s = record {
+  before = s.before;
+  after = s.after;
+  given = ap Some s.ends;
+  holds = λ clean.
+      let still : HasCleanDisk (state g back) = subst (λ (held : Held S). HasCleanDisk (state g held)) (sym s.ends) clean in
+      let b = begins_over g opened (state_of store) (has still) in
+      let over : IsOpenOver (state_in s.before) b.was = subst (λ (at : Store S g). IsOpenOver (state_of at) b.was) (sym s.begins) b.is_open in
+      record { was = b.was; begins = b.begins; is_open = over; leads = s.leads clean b.was (λ _. over) };
+}
 
 -- an error that stands for memory or the disk
 pub is_fault-by : (old new : State) (error : StoreError) → IsFaultBy old new error → IsTrue (is_fault error)

@@ -1,10 +1,17 @@
 -- Connections, one after the other.
 use Rattle.std.proofs.Common.{◌≡◌, ◌∙◌, ◌+◌, ◌≤◌, ℕ, zero, suc, List, [], ◌++◌, refl, sym, ap, subst, append_assoc, append-nil, inl, inr, arith}
 use Rattle.std.specs.Prelude.{Option}
-use Rattle.sqlite.specs.State.{State}
+use Rattle.sqlite.specs.State.{HasCleanDisk}
+use Rattle.sqlite_trees.specs.declared.store.Store.{Ghosts}
+use Rattle.reg_service.specs.declared.service.Service.{Service}
+use Rattle.reg_service.specs.Services.{state_in}
+use Rattle.reg_service.specs.Crashes.{LeavesSpelled, ServesDurably}
+use Rattle.reg_service.proofs.FoundLists.{durable_none, durable_both}
 use Rattle.reg_http.specs.declared.serving.Ended.{Ended}
 use Rattle.reg_http.specs.OverTables.{Over}
+use Rattle.reg_http.specs.Output.{exchanges}
 use Rattle.reg_http.specs.Sessions.{Session}
+use Rattle.reg_http.proofs.EndLemmas.{Session-same}
 use Rattle.reg_jobs.specs.declared.errors.Errors.{Errors}
 use Rattle.reg_jobs.specs.declared.outcome.Fault.TheVariants.{CannotAccept}
 use Rattle.reg_jobs.specs.Errors.{Puts}
@@ -12,36 +19,47 @@ use Rattle.reg_jobs.specs.Listening.{ServesNext, ServesUpTo, ReportsAcceptFailur
 use Rattle.reg_jobs.specs.Outcomes.{line_of}
 use Rattle.reg_jobs.proofs.LineLemmas.{Puts-append, Puts-none}
 
--- no connection came yet
-pub Over-none : (s : State) → Over s s (ServesUpTo 0)
-Over-none s was spells = record { stored = was; spells = spells; holds = refl }
+module _ {S : Type 0} {g : Ghosts S} where
+  -- no connection came yet
+  pub Over-none : (s : Service S g) → LeavesSpelled (state_in s) → Over (state_in s) (state_in s) (ServesUpTo 0 s s)
+  Over-none s spelled was spells = record { stored = was; spells = spells; holds = record { exchanges = []; are = refl; serves = durable_none s was [] refl spelled } }
 
--- none was accepted
-pub Over-unaccepted : (s : State) → Over s s ServesNext
-Over-unaccepted s was spells = record { stored = was; spells = spells; holds = inl refl }
+  -- none was accepted
+  pub Over-unaccepted : (s : Service S g) → LeavesSpelled (state_in s) → Over (state_in s) (state_in s) (ServesNext s s)
+  Over-unaccepted s spelled was spells = record { stored = was; spells = spells; holds = record { exchanges = []; are = inl refl; serves = durable_none s was [] refl spelled } }
 
--- a session
-pub Over-session : (old new : State) (reader reader' writer writer' : Option (List ℕ)) (ended : Ended)
-    → Over old new (λ was now. Session reader reader' writer writer' was now ended) → Over old new ServesNext
-Over-session old new reader reader' writer writer' ended over was spells =
-    let s = over was spells in
-    record {
-      stored = s.stored;
-      spells = s.spells;
-      holds = inr (record { reader = reader; reader' = reader'; writer = writer; writer' = writer'; ended = ended; session = s.holds });
-    }
+  -- a session
+  pub Over-session : (old new : Service S g) (reader reader' writer writer' : Option (List ℕ)) (ended : Ended)
+      → Over (state_in old) (state_in new) (λ was now. Session (ServesDurably old new was now) reader reader' writer writer' ended) → Over (state_in old) (state_in new) (ServesNext old new)
+  Over-session old new reader reader' writer writer' ended over was spells =
+      let s = over was spells in
+      let xs = exchanges s.holds.answered in
+      record {
+        stored = s.stored;
+        spells = s.spells;
+        holds = record {
+          exchanges = xs;
+          are = inr (record { reader = reader; reader' = reader'; writer = writer; writer' = writer'; ended = ended; session = Session-same (ServesDurably old new was s.stored) reader reader' writer writer' ended s.holds });
+          serves = s.holds.carries.serves;
+        };
+      }
 
--- one more connection
-pub Over-next : (old mid new : State) (count : ℕ) → Over old mid (ServesUpTo count) → Over mid new ServesNext → Over old new (ServesUpTo (count + 1))
-Over-next old mid new count before next was spells =
-    let b = before was spells in
-    let n = next b.stored b.spells in
-    let e : suc count ≡ count + 1 = omega arith in
-    record {
-      stored = n.stored;
-      spells = n.spells;
-      holds = rw (sym e) (record { between = b.stored; first = b.holds; next = n.holds });
-    }
+  -- one more connection
+  pub Over-next : (old mid new : Service S g) (count : ℕ) → HasCleanDisk (state_in new) → Over (state_in old) (state_in mid) (ServesUpTo count old mid)
+      → Over (state_in mid) (state_in new) (ServesNext mid new) → Over (state_in old) (state_in new) (ServesUpTo (count + 1) old new)
+  Over-next old mid new count clean before next was spells =
+      let b = before was spells in
+      let n = next b.stored b.spells in
+      let e : suc count ≡ count + 1 = omega arith in
+      record {
+        stored = n.stored;
+        spells = n.spells;
+        holds = rw (sym e) (record {
+          exchanges = b.holds.exchanges ++ n.holds.exchanges;
+          are = (b.holds.exchanges, n.holds.exchanges, refl, b.holds.are, n.holds.are);
+          serves = durable_both old mid new was b.stored n.stored clean b.spells b.holds.exchanges n.holds.exchanges b.holds.serves n.holds.serves;
+        });
+      }
 
 -- so many lines, and then so many more
 accept_failure_lines-add : (a b : ℕ) → accept_failure_lines a ++ accept_failure_lines b ≡ accept_failure_lines (a + b)

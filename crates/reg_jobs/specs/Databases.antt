@@ -1,5 +1,5 @@
 -- The registry that a database gives, and why it gives none.
-use Rattle.std.specs.Prelude.{◌≡◌, ◌≢◌, ◌⊎◌, Option, Some, IsTrue}
+use Rattle.std.specs.Prelude.{◌≡◌, ◌≢◌, ◌⊎◌, ℕ, List, Option, Some, IsTrue}
 use Rattle.sqlite.specs.Held.{Held, state}
 use Rattle.sqlite.specs.State.{State, HasCleanDisk}
 use Rattle.sqlite.specs.Tree.{Trees}
@@ -11,14 +11,29 @@ use Rattle.reg_store.specs.declared.error.StoreError.TheVariants.{Disk, NotARegi
 use Rattle.reg_store.specs.Failures.{IsFaultBy}
 use Rattle.reg_store.specs.Opening.{IsIndexed, LosesNothing}
 use Rattle.reg_store.specs.Spells.{IsOpenOver}
-use Rattle.reg_store.specs.Stores.{LeavesConnection}
+use Rattle.reg_store.specs.Stores.{LeavesConnection, connection_of}
 use Rattle.reg_store.specs.UnopenedFaults.{IsUnopened}
+use Rattle.reg_store.specs.declared.store.Store.{Store}
+use Rattle.reg_service.specs.declared.service.Service.{Service}
+use Rattle.reg_service.specs.Crashes.{ServesDurably}
+use Rattle.reg_service.specs.Services.{state_in, store_in}
+use Rattle.reg_http.specs.declared.serving.Ended.{Ended}
+use Rattle.reg_http.specs.OverTables.{Over}
+use Rattle.reg_http.specs.Sessions.{Session}
 
 -- a connection comes back, and this holds of what it shows
 pub record GivesBack {S : Type 0} (g : Ghosts S) (back : Option (Held S)) (P : State → Type 0) : Type 0 where
   pub connection : Held S
   pub given : back ≡ Some connection
   pub holds : HasCleanDisk (state g connection) → P (state g connection)
+
+-- a session of a service over the store, whose connection comes back
+pub record ServesStore {S : Type 0} {g : Ghosts S} (store : Store S g) (back : Held S) (reader reader' writer writer' : Option (List ℕ)) (ended : Ended) : Type 0 where
+  pub before : Service S g
+  pub after : Service S g
+  pub begins : store_in before ≡ store
+  pub ends : back ≡ connection_of (store_in after)
+  pub leads : HasCleanDisk (state_in after) → Over (state_in before) (state_in after) (λ was now. Session (ServesDurably before after was now) reader reader' writer writer' ended)
 
 -- the database was empty, and its tables spell a new registry, which keeps no reply and has no evidence
 pub record IsMadeIn (old new : State) : Type 0 where

@@ -2,7 +2,7 @@
 use Rattle.std.specs.Prelude.{◌≡◌, ◌≢◌, ℕ, Bool, true, false, IsTrue, List, [], slice_get, is_some, Option, None, Some, Result, Vec, string_bytes}
 use Rattle.std.specs.Global.{Global}
 use Rattle.sqlite.specs.Held.{Held, state}
-use Rattle.sqlite.specs.State.{State}
+use Rattle.sqlite.specs.State.{State, HasCleanDisk}
 use Rattle.sqlite_trees.specs.declared.store.Store.{Ghosts}
 use Rattle.reg_core.specs.Stored.{Stored, new_stored}
 use Rattle.reg_tables.specs.Layout.{no_schema}
@@ -10,7 +10,12 @@ use Rattle.reg_store.specs.declared.error.StoreError.{StoreError}
 use Rattle.reg_store.specs.declared.error.StoreError.TheVariants.{Disk, NotARegistry}
 use Rattle.reg_store.specs.Failures.{is_fault}
 use Rattle.reg_store.specs.Opening.{OpensOver}
-use Rattle.reg_store.specs.Spells.{SpellsUnopened, SpellsWhileOpen}
+use Rattle.reg_store.specs.Spells.{IsOpenOver, SpellsUnopened, SpellsWhileOpen}
+use Rattle.reg_service.specs.declared.service.Service.{Service}
+use Rattle.reg_service.specs.Crashes.{ServesDurably}
+use Rattle.reg_service.specs.Deliveries.{Serves, served}
+use Rattle.reg_service.specs.Services.{state_in, store_in}
+use Rattle.reg_store.specs.Stores.{connection_of}
 use Rattle.reg_http.specs.OverTables.{Reaches}
 use Rattle.reg_http.specs.declared.serving.Ended.{Ended}
 use Rattle.reg_jobs.specs.declared.files.TextOutcome.{TextOutcome}
@@ -87,7 +92,7 @@ connection_in (Database connection) = Some connection
 pub record RunsAs (reader reader' writer writer' : Option (List ℕ)) (outcome : Outcome) : Type 0 where
   pub now : Stored
   pub ended : Ended
-  pub session : Session reader reader' writer writer' new_stored now ended
+  pub session : Session (λ xs. Serves new_stored (served xs) now) reader reader' writer writer' ended
   pub outcome_is : outcome ≡ SessionEnded ended
 
 -- the registry of what was opened: the new one that was made in an empty database, or the one that the tables of a database spelled
@@ -120,11 +125,19 @@ BeginsWith g OrphanedLog was = ⊥
 BeginsWith g (Fresh old) was = ¬ ((state g old).now.schema ≢ no_schema) × (was ≡ new_stored)
 BeginsWith g (Database old) was = SpellsUnopened (state g old).now was
 
--- a session led from that to what the tables spell
-pub record SessionOver {S : Type 0} (g : Ghosts S) (opened : Opened S) (reader reader' writer writer' : Option (List ℕ)) (ended : Ended) (new : State) : Type 0 where
+-- a session of a service led from that to what the tables spell, and a crash leaves all that was acknowledged
+pub record SessionFrom {S : Type 0} (g : Ghosts S) (opened : Opened S) (before after : Service S g) (reader reader' writer writer' : Option (List ℕ)) (ended : Ended) : Type 0 where
   pub was : Stored
   pub begins : BeginsWith g opened was
-  pub leads : Reaches new (λ now. Session reader reader' writer writer' was now ended)
+  pub is_open : IsOpenOver (state_in before) was
+  pub leads : Reaches (state_in after) (λ now. Session (ServesDurably before after was now) reader reader' writer writer' ended)
+
+-- so did a session over what was opened, and its connection comes back
+pub record SessionOver {S : Type 0} (g : Ghosts S) (opened : Opened S) (back : Option (Held S)) (reader reader' writer writer' : Option (List ℕ)) (ended : Ended) : Type 0 where
+  pub before : Service S g
+  pub after : Service S g
+  pub given : back ≡ Some (connection_of (store_in after))
+  pub holds : HasCleanDisk (state_in after) → SessionFrom g opened before after reader reader' writer writer' ended
 
 -- there was no registry, and nothing was read or written
 pub record RunsOnNothing {S : Type 0} (g : Ghosts S) (opened : Opened S) (back : Option (Held S)) (reader reader' writer writer' : Option (List ℕ)) (error : StoreError) : Type 0 where
@@ -134,7 +147,7 @@ pub record RunsOnNothing {S : Type 0} (g : Ghosts S) (opened : Opened S) (back :
 
 -- how a session over what was opened comes out
 abbrev pub RunsOn : {S : Type 0} (g : Ghosts S) → Opened S → Option (Held S) → Option (List ℕ) → Option (List ℕ) → Option (List ℕ) → Option (List ℕ) → Outcome → Type 0
-RunsOn g opened back reader reader' writer writer' (SessionEnded ended) = GivesBack g back (SessionOver g opened reader reader' writer writer' ended)
+RunsOn g opened back reader reader' writer writer' (SessionEnded ended) = SessionOver g opened back reader reader' writer writer' ended
 RunsOn g opened back reader reader' writer writer' (Unopened error) = RunsOnNothing g opened back reader reader' writer writer' error
 RunsOn g opened back reader reader' writer writer' (NotListening port) = ⊥
 RunsOn g opened back reader reader' writer writer' (TextEnded printed) = ⊥

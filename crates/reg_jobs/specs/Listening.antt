@@ -1,6 +1,10 @@
 -- Connections, one after the other.
 use Rattle.std.specs.Prelude.{◌≡◌, ◌⊎◌, ◌≤◌, ℕ, zero, suc, List, [], ◌++◌, Option}
+use Rattle.sqlite_trees.specs.declared.store.Store.{Ghosts}
 use Rattle.reg_core.specs.Stored.{Stored}
+use Rattle.reg_service.specs.declared.service.Service.{Service}
+use Rattle.reg_service.specs.Deliveries.{Exchange}
+use Rattle.reg_service.specs.Crashes.{ServesDurably}
 use Rattle.reg_http.specs.declared.serving.Ended.{Ended}
 use Rattle.reg_http.specs.Sessions.{Session}
 use Rattle.reg_jobs.specs.declared.errors.Errors.{Errors}
@@ -8,33 +12,37 @@ use Rattle.reg_jobs.specs.declared.outcome.Fault.TheVariants.{CannotAccept}
 use Rattle.reg_jobs.specs.Errors.{Puts}
 use Rattle.reg_jobs.specs.Outcomes.{line_of}
 
--- a whole session, whatever was read and written
-pub record IsSession (was now : Stored) : Type 0 where
+-- a whole session with these exchanges, whatever was read and written
+pub record IsSession (xs : List Exchange) : Type 0 where
   pub reader : Option (List ℕ)
   pub reader' : Option (List ℕ)
   pub writer : Option (List ℕ)
   pub writer' : Option (List ℕ)
   pub ended : Ended
-  pub session : Session reader reader' writer writer' was now ended
-
--- what is stored is as it was
-abbrev pub Stays : Stored → Stored → Type 0
-Stays was now = now ≡ was
+  pub session : Session (λ ys. ys ≡ xs) reader reader' writer writer' ended
 
 -- a connection: none was accepted, or a session
-abbrev pub ServesNext : Stored → Stored → Type 0
-ServesNext was now = Stays was now ⊎ IsSession was now
+abbrev pub IsConnection : List Exchange → Type 0
+IsConnection xs = (xs ≡ []) ⊎ IsSession xs
 
--- the one, and then the other
-pub record ServesThen (First Next : Stored → Stored → Type 0) (was now : Stored) : Type 0 where
-  pub between : Stored
-  pub first : First was between
-  pub next : Next between now
+-- the exchanges of so many connections, in order
+abbrev pub AreConnections : ℕ → List Exchange → Type 0
+AreConnections zero xs = xs ≡ []
+AreConnections (suc count) xs = (before : List Exchange) × (last : List Exchange) × (xs ≡ before ++ last) × AreConnections count before × IsConnection last
+
+-- such exchanges were carried out in order, from what was stored to what is, and a crash leaves all that was acknowledged
+pub record ServesSome (Are : List Exchange → Type 0) {S : Type 0} {g : Ghosts S} (old new : Service S g) (was now : Stored) : Type 0 where
+  pub exchanges : List Exchange
+  pub are : Are exchanges
+  pub serves : ServesDurably old new was now exchanges
+
+-- a connection
+abbrev pub ServesNext : {S : Type 0} {g : Ghosts S} → Service S g → Service S g → Stored → Stored → Type 0
+ServesNext old new = ServesSome IsConnection old new
 
 -- so many connections, one after the other
-abbrev pub ServesUpTo : ℕ → Stored → Stored → Type 0
-ServesUpTo zero = Stays
-ServesUpTo (suc count) = ServesThen (ServesUpTo count) ServesNext
+abbrev pub ServesUpTo : {S : Type 0} {g : Ghosts S} → ℕ → Service S g → Service S g → Stored → Stored → Type 0
+ServesUpTo count old new = ServesSome (AreConnections count) old new
 
 -- the line that no connection can be accepted, so many times
 abbrev pub accept_failure_lines : ℕ → List ℕ

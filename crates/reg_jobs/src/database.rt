@@ -5,9 +5,7 @@ ghost use Rattle.sqlite.specs.Held.{state};
 ghost use Rattle.sqlite.specs.State.{HasCleanDisk};
 ghost use Rattle.reg_store.specs.Stores.{has_failed, state_of};
 ghost use Rattle.reg_store.specs.Opening.{OpensOver};
-ghost use Rattle.reg_http.specs.OverTables.{Over};
-ghost use Rattle.reg_http.specs.Sessions.{Session};
-ghost use Rattle.reg_jobs.specs.Databases.{GivesBack, IsMadeIn, LacksMade, LacksFound};
+ghost use Rattle.reg_jobs.specs.Databases.{GivesBack, IsMadeIn, LacksMade, LacksFound, ServesStore};
 
 use reg_http::{Ended, serve};
 use reg_service::Service;
@@ -24,9 +22,8 @@ pub fn run_on_store<R: Read, W: Write, S: Alter>(
     writer: &mut W,
 ) -> (Ended, Connection<S>)
     ensures clean { HasCleanDisk (state S.Store result.1) → HasCleanDisk (state_of store) }
-    ensures session { HasCleanDisk (state S.Store result.1)
-        → Over (state_of store) (state S.Store result.1) (λ was now. Session (R.remaining reader.old)
-        (R.remaining reader.new) (W.contents writer.old) (W.contents writer.new) was now result.0) }
+    ensures session { ServesStore store result.1 (R.remaining reader.old) (R.remaining reader.new)
+        (W.contents writer.old) (W.contents writer.new) result.0 }
 {
     let mut service = Service::new(alloc, store);
     let ended = serve(alloc, reader, writer, &mut service);

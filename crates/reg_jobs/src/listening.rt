@@ -77,7 +77,8 @@ fn serve_next<C: Clock, S: Alter, E: Write + Drop>(
     errors: &mut Errors<E>,
 )
     ensures clean { HasCleanDisk (state_in service.new) → HasCleanDisk (state_in service.old) }
-    ensures session { HasCleanDisk (state_in service.new) → Over (state_in service.old) (state_in service.new) ServesNext }
+    ensures session { HasCleanDisk (state_in service.new) → Over (state_in service.old) (state_in service.new)
+        (ServesNext service.old service.new) }
     ensures reports { ReportsAcceptFailures E.contents 1 errors.old errors.new }
 {
     let Some(stream) = accept_next(clock, queue, errors) else {
@@ -109,7 +110,7 @@ pub fn serve_with_clock<C: Clock, S: Alter, E: Write + Drop>(
 )
     ensures clean { HasCleanDisk (state_in service.new) → HasCleanDisk (state_in service.old) }
     ensures sessions { HasCleanDisk (state_in service.new)
-        → Over (state_in service.old) (state_in service.new) (ServesUpTo connections) }
+        → Over (state_in service.old) (state_in service.new) (ServesUpTo connections service.old service.new) }
     ensures reports { ReportsAcceptFailures E.contents connections errors.old errors.new }
 {
     let mut queue = Queue::of(listener);
@@ -130,7 +131,7 @@ pub fn serve_on<S: Alter, E: Write + Drop>(
 )
     ensures clean { HasCleanDisk (state_in service.new) → HasCleanDisk (state_in service.old) }
     ensures sessions { HasCleanDisk (state_in service.new)
-        → Over (state_in service.old) (state_in service.new) (ServesUpTo connections) }
+        → Over (state_in service.old) (state_in service.new) (ServesUpTo connections service.old service.new) }
     ensures reports { ReportsAcceptFailures E.contents connections errors.old errors.new }
 {
     serve_with_clock(alloc, &NoClock, listener, connections, service, errors);

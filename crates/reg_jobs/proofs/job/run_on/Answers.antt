@@ -3,12 +3,9 @@ use Rattle.reg_jobs.proofs.JobLemmas.{SessionOver-has}
 use Rattle.reg_jobs.proofs.job.run_on.Goals as goal
 
 pub returns-in-Ok : goal.returns-in-Ok
-returns-in-Ok g c = record {
-  connection = c.run_on_store-ended.result.1;
-  given = refl;
-  holds = λ clean. SessionOver-has g.S.Store c.args.opened _ _ _ _ _ _ c.run_on_store-ended.result.0
-      (c.in-Ok.ensures.has (c.run_on_store-ended.ensures.clean clean)) (c.run_on_store-ended.ensures.session clean);
-}
+returns-in-Ok g c =
+    SessionOver-has g.S.Store c.args.opened c.in-Ok.store c.run_on_store-ended.result.1 _ _ _ _ c.run_on_store-ended.result.0
+    (λ clean. c.in-Ok.ensures.has (c.run_on_store-ended.ensures.clean clean)) c.run_on_store-ended.ensures.session
 
 pub returns-in-Err : goal.returns-in-Err
 returns-in-Err g c = record { unread = refl; unwritten = refl; lacks = c.in-Err.ensures.lacks }

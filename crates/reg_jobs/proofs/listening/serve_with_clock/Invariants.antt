@@ -7,6 +7,6 @@ use Rattle.reg_jobs.proofs.listening.serve_with_clock.Given as goal
 abbrev pub invariant-loop-number : goal.invariant-loop-number
 invariant-loop-number g l = record {
   clean : HasCleanDisk (state_in l.service) → HasCleanDisk (state_in l.initial.service);
-  served : HasCleanDisk (state_in l.service) → Over (state_in l.initial.service) (state_in l.service) (ServesUpTo l.number);
+  served : HasCleanDisk (state_in l.service) → Over (state_in l.initial.service) (state_in l.service) (ServesUpTo l.number l.initial.service l.service);
   reported : ReportsAcceptFailures g.E.Write.contents l.number l.initial.errors l.errors;
 }
