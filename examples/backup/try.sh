@@ -1,46 +1,64 @@
 #!/usr/bin/env bash
-# Tries hot-copy and restore-drill: copies of a registry under load, each checked, also with kill -9 between copies; then a
-# drill. As root it also tries xfs and btrfs in a file, if this machine may mount them.
+# Tries hot-copy and restore-drill: copies with a new log or a checkpoint at a chosen moment, copies under load with and
+# without kill -9, and then a drill. trial.sh makes many more copies, on any file systems.
 #
-#   AVROREG=PROGRAM examples/backup/try.sh [COPIES]     for each file system, 10 by default
+#   AVROREG=PROGRAM examples/backup/try.sh [COPIES]          so many copies under load, 4 by default
+#   AVROREG=PROGRAM examples/backup/try.sh breaks [NAME]..   breaks hot-copy, and expects this script to detect it
+#   HOT_COPY        the script to try; by default the one next to this file
 set -u
 source "$(dirname "$0")/../serving.sh"
 need python3 curl
+[ -x "$avroreg" ] || fail "there is no program $avroreg; build it, or name it in AVROREG"
 here=$examples/backup
-copies=${1:-10}
+AVROREG=$(realpath "$avroreg")
+export AVROREG HOT_COPY=${HOT_COPY:-$here/hot-copy}
 
-# try_on NAME FOLDER: copies without and with kills.
-try_on() {
-  mkdir -p "$2/calm" "$2/killed"
-  AVROREG=$avroreg python3 "$here/try.py" --copies "$copies" --folder "$2/calm" || fail "a copy on $1 was wrong"
-  AVROREG=$avroreg python3 "$here/try.py" --copies "$copies" --folder "$2/killed" --kill || fail "a copy on $1 was wrong after a kill"
-  echo "$1: $((2 * copies)) copies are right"
+# try_breaks [NAME]..: each break, or each named one, has to fail in the case that is for it.
+try_breaks() {
+  local name report found outcome tried=0 undetected=0
+  while read -r name report; do
+    [ $# = 0 ] || [[ " $* " == *" $name "* ]] || continue
+    tried=$((tried + 1))
+    python3 "$here/breaks.py" "$name" "$scratch/$name" || fail "the break $name can't be made"
+    HOT_COPY=$scratch/$name "$here/try.sh" </dev/null >"$scratch/$name.log" 2>&1
+    outcome=$?
+    if [ $outcome = 1 ] && found=$(grep -m1 "^WRONG: $report" "$scratch/$name.log"); then
+      echo "$name: detected: $found"
+    else
+      echo "$name: NOT DETECTED, status $outcome: $(grep -m1 '^WRONG' "$scratch/$name.log"); $(tail -n 1 "$scratch/$name.log")"
+      undetected=$((undetected + 1))
+    fi
+  done < <(python3 "$here/breaks.py")
+  [ $tried != 0 ] || fail "there is no break $*; there are: $(python3 "$here/breaks.py" | cut -d' ' -f1 | paste -sd ' ')"
+  return $((undetected != 0))
 }
 
-try_on "$(stat -f -c %T "$scratch")" "$scratch/here"
-for kind in xfs btrfs; do
-  if [ "$(id -u)" = 0 ] && command -v "mkfs.$kind" >/dev/null; then
-    truncate -s 600M "$scratch/$kind.img"
-    mkfs.$kind -q "$scratch/$kind.img"
-    mkdir "$scratch/$kind"
-    if mount -o loop "$scratch/$kind.img" "$scratch/$kind" 2>/dev/null; then
-      (try_on "$kind" "$scratch/$kind")
-      status=$?
-      umount "$scratch/$kind"
-      [ $status = 0 ] || exit 1
-      continue
-    fi
-  fi
-  echo "$kind: not tried here"
-done
+if [ "${1:-}" = breaks ]; then
+  shift
+  try_breaks "$@"
+  exit
+fi
+
+mkdir "$scratch/certain" "$scratch/load"
+python3 "$here/certain.py" "$scratch/certain" || fail "a copy was wrong, or hot-copy didn't end"
+python3 "$here/trial.py" "${1:-4}" "$scratch/load" || fail "a copy under load was wrong"
 
 start_server "$scratch/registry.db"
 curl -s -o "$scratch/reply" -d '{"schema":"\"string\""}' "$url/subjects/orders/versions"
-"$here/hot-copy" "$scratch/registry.db" "$scratch/backup.db" || fail "no copy"
-AVROREG=$avroreg "$here/restore-drill" "$url" "$scratch/backup.db" || fail "the drill found a difference"
+"$HOT_COPY" "$scratch/registry.db" "$scratch/backup.db" || fail "no copy"
+"$here/restore-drill" "$url" "$scratch/backup.db" || fail "the drill found a difference"
 curl -s -o "$scratch/reply" -d '{"schema":"\"int\""}' "$url/subjects/other/versions"
-AVROREG=$avroreg "$here/restore-drill" "$url" "$scratch/backup.db" >"$scratch/drill" && fail "the drill missed a difference"
+"$here/restore-drill" "$url" "$scratch/backup.db" >"$scratch/drill" && fail "the drill missed a difference"
 grep -q '^differs: GET /subjects$' "$scratch/drill" || fail "the drill doesn't name the difference"
-"$here/hot-copy" "$scratch/registry.db" "$scratch/backup.db" 2>"$scratch/error" && fail "an existing backup was overwritten"
-"$here/hot-copy" "$scratch/none.db" "$scratch/other.db" 2>"$scratch/error" && fail "a missing file was copied"
+"$HOT_COPY" "$scratch/registry.db" "$scratch/backup.db" 2>"$scratch/error" && fail "an existing backup was overwritten"
+"$HOT_COPY" "$scratch/none.db" "$scratch/other.db" 2>"$scratch/error" && fail "a missing file was copied"
+(ulimit -f 40 && "$HOT_COPY" "$scratch/registry.db" "$scratch/other.db" 2>"$scratch/error") && fail "40 KB were enough for a copy"
+[ ! -e "$scratch/other.db" ] || fail "a copy that didn't fit was left"
+grep -q 'Nothing was copied' "$scratch/error" || fail "no message about a copy that didn't fit: $(cat "$scratch/error")"
+
+mkdir "$scratch/nights" "$scratch/bad"
+"$here/nightly" "$scratch/registry.db" "$scratch/nights" || fail "no nightly backup"
+[ -s "$scratch/nights/last-good.json" ] || fail "the nightly backup isn't noted"
+"$here/nightly" --program false "$scratch/registry.db" "$scratch/bad" 2>"$scratch/error" && fail "a failed audit wasn't noticed"
+[ -z "$(ls "$scratch/bad")" ] || fail "a backup that failed its audit was left"
 echo "backup: passed"

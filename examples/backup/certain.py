@@ -1,0 +1,204 @@
+#!/usr/bin/env python3
+"""Tries hot-copy where only chance would: something happens at a chosen moment of a copy, and then the copy is checked.
+
+A real server fills the registry. While hot-copy runs, between its two files or within one of
+them, the log begins anew, or a checkpoint copies the log into the database. hot-copy may reject
+such a copy or accept it. An accepted copy has to pass every check of checks.py.
+
+    certain.py FOLDER       an empty folder; AVROREG names the program, HOT_COPY the script
+"""
+
+import random
+import shutil
+import subprocess
+import sys
+from collections.abc import Callable
+from dataclasses import dataclass
+from pathlib import Path
+from unittest import mock
+
+from checks import HOT_COPY, PROGRAM, Server, Write, fault_of, remove, write_of
+
+HEADER_BYTES = 32
+PAGE_SIZE_BYTE = 10
+TRIES_SECONDS = 30
+# A process that is killed in a checkpoint: it has copied the log into the database, and the log's header is the old one.
+CHECKPOINT = """
+import os, sqlite3, sys
+busy, frames, copied = sqlite3.connect(sys.argv[1]).execute("PRAGMA wal_checkpoint(PASSIVE)").fetchone()
+os._exit(0 if not busy and frames == copied > 0 else 1)
+"""
+
+
+def log_of(database: Path) -> Path:
+    return Path(f"{database}-wal")
+
+
+def header_of(database: Path) -> bytes:
+    with log_of(database).open("rb") as log:
+        return log.read(HEADER_BYTES)
+
+
+@dataclass
+class Interruption:
+    """hot-copy's copy_file with an event: after the first block of this file or, without one, after the first file."""
+
+    event: Callable[[], None]
+    within: Path | None = None
+    happened: bool = False
+
+    def __call__(self, source: Path, target: Path) -> None:
+        with source.open("rb", buffering=0) as file, target.open("xb") as out:
+            out.write(file.read(HOT_COPY.BLOCK_BYTES))
+            if source == self.within:
+                self.happen()
+            out.write(file.read())
+        if self.within is None:
+            self.happen()
+
+    def happen(self) -> None:
+        if not self.happened:
+            self.happened = True
+            self.event()
+
+
+class Registry:
+    """A served registry, with the writes that it acknowledged."""
+
+    def __init__(self, file: Path):
+        self.file = file
+        self.server = Server(file)
+        self.server.ask("PUT", "/config", '{"compatibility":"NONE"}')
+        self.acknowledged: list[Write] = []
+        self.chance = random.Random(1)
+        self.number = 0
+
+    def write(self, count: int, digits: int = 6000) -> None:
+        for _ in range(count):
+            self.number += 1
+            write = self.server.send(write_of(1, self.number, self.chance, digits))
+            if write is None:
+                raise RuntimeError("a write failed")
+            self.acknowledged.append(write)
+
+    def begin_new_log(self) -> None:
+        """Writes until the log has begun anew, and then some more."""
+        before = header_of(self.file)
+        while header_of(self.file) == before:
+            self.write(1, 30000)
+        self.write(5, 30000)
+
+    def write_and_checkpoint(self) -> None:
+        """Takes writes, and is killed in the checkpoint that follows."""
+        before, database = header_of(self.file), self.file.read_bytes()
+        self.write(40, 1000)
+        if header_of(self.file) != before:
+            raise RuntimeError("the log began anew too early")
+        self.server.kill()
+        subprocess.run([sys.executable, "-c", CHECKPOINT, self.file], check=True)
+        if header_of(self.file) != before or self.file.read_bytes() == database:
+            raise RuntimeError("this was no checkpoint")
+
+    def close(self) -> None:
+        """Ends with the log copied into the database, and removed."""
+        self.server.kill()
+        subprocess.run([PROGRAM, "list", "--db", self.file, "subjects"], check=True, capture_output=True)
+
+    def live_with_empty_log(self) -> None:
+        """Is served for some writes, closed, and opened by a program that is killed at once."""
+        log_of(self.file).unlink()
+        self.server.start()
+        self.write(40, 1000)
+        self.close()
+        log_of(self.file).touch()
+
+
+class Cases:
+    """The cases, each with what it found wrong."""
+
+    def __init__(self, folder: Path):
+        self.folder = folder
+        self.copy = folder / "copy.db"
+        self.registry = Registry(folder / "registry.db")
+        self.wrong = 0
+
+    def report(self, name: str, outcome: str, fault: str) -> None:
+        self.wrong += fault != ""
+        print(f"WRONG: {name}: {fault}"[:300] if fault else f"{name}: {outcome}", flush=True)
+
+    def attempt(self, name: str, event: Callable[[], None], within: Path | None = None) -> None:
+        """Copies with the event. The copy is rejected with nothing left, or it is right."""
+        writes = list(self.registry.acknowledged)
+        interruption = Interruption(event, within)
+        with mock.patch.object(HOT_COPY, "copy_file", interruption):
+            accepted = HOT_COPY.copy_once(self.registry.file, self.copy)
+        if accepted:
+            fault = fault_of(self.copy, writes)
+        else:
+            fault = "a rejected copy is left" if self.copy.exists() or log_of(self.copy).exists() else ""
+        if not interruption.happened and accepted:
+            fault = "hot-copy doesn't copy with copy_file"
+        self.report(name, "accepted, and right" if accepted else "rejected", fault)
+        remove(self.copy)
+
+    def calm(self, name: str) -> None:
+        """Copies while nothing happens: accepted, and right."""
+        accepted = HOT_COPY.copy_once(self.registry.file, self.copy)
+        fault = fault_of(self.copy, self.registry.acknowledged) if accepted else "rejected"
+        self.report(name, "accepted, and right", fault)
+        remove(self.copy)
+
+    def damaged(self, name: str) -> None:
+        """A damaged header of the served log, which the server doesn't read: rejected, or right. A new log repairs it."""
+        with log_of(self.registry.file).open("r+b") as log:
+            log.seek(PAGE_SIZE_BYTE)
+            log.write(b"\xff")
+        accepted = HOT_COPY.copy_once(self.registry.file, self.copy)
+        fault = fault_of(self.copy, self.registry.acknowledged) if accepted else ""
+        self.report(name, "accepted, and right" if accepted else "rejected", fault)
+        remove(self.copy)
+        self.registry.begin_new_log()
+        self.calm("a copy after the next log began")
+
+    def tries_end(self) -> None:
+        """The script itself, on a log that is never valid: it ends after its tries, says how many, and leaves nothing."""
+        damaged = self.folder / "endless.db"
+        shutil.copyfile(self.registry.file, damaged)
+        log_of(damaged).touch()
+        name = "a log that is never valid"
+        try:
+            ran = subprocess.run([HOT_COPY.__file__, damaged, self.copy], capture_output=True, text=True, timeout=TRIES_SECONDS)
+        except subprocess.TimeoutExpired:
+            self.report(name, "", f"hot-copy still tries after {TRIES_SECONDS} seconds")
+        else:
+            right = ran.returncode == 1 and "in 100 tries. The header of its log is invalid" in ran.stderr and not self.copy.exists()
+            self.report(name, "hot-copy ends after 100 tries", "" if right else f"status {ran.returncode}, {ran.stderr}")
+        remove(damaged)
+        remove(self.copy)
+
+    def run(self) -> None:
+        registry = self.registry
+        registry.begin_new_log()
+        self.calm("a copy while nothing happens")
+        self.attempt("a new log between the files", registry.begin_new_log)
+        self.attempt("a new log while the log is copied", registry.begin_new_log, log_of(registry.file))
+        self.calm("a copy after that")
+        self.damaged("a damaged header")
+        self.attempt("a checkpoint between the files", registry.write_and_checkpoint)
+        registry.close()
+        log_of(registry.file).touch()
+        self.attempt("an empty log, before and after", registry.live_with_empty_log, registry.file)
+        self.tries_end()
+
+
+def main() -> int:
+    cases = Cases(Path(sys.argv[1]))
+    try:
+        cases.run()
+    finally:
+        cases.registry.server.kill()
+    return 1 if cases.wrong else 0
+
+
+if __name__ == "__main__":
+    sys.exit(main())

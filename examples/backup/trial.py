@@ -1,0 +1,202 @@
+#!/usr/bin/env python3
+"""Copies a registry under write load again and again, and checks each copy with checks.py.
+
+    trial.py COPIES FOLDER..      so many copies in each folder, half of them with kills
+
+Two clients write while hot-copy runs, and pause while a copy is checked. Every second copy reads
+as if from a slow disk, so that the log often begins anew meanwhile. With kills, the server is
+killed at random moments, also within a copy, and starts again. A registry is used for at most 25
+copies. AVROREG names the program, HOT_COPY the script.
+"""
+
+import http.client
+import os
+import random
+import shutil
+import signal
+import subprocess
+import sys
+import tempfile
+import threading
+import time
+from dataclasses import dataclass, field
+from pathlib import Path
+from unittest import mock
+
+from checks import HOT_COPY, Server, Write, fault_of, remove, write_of
+
+ROUND = 25
+TRIES = 100
+WRITES_BETWEEN_COPIES = 20
+LONGEST_SECONDS = 60
+DIGITS = 12000
+SLOWEST_SECONDS = 0.8
+KILL_SECONDS = (0.05, 0.6)
+
+
+@dataclass
+class Load:
+    """Clients that write, and perhaps a killer, while `runs` is set; and the acknowledged writes, in the order of their replies."""
+
+    server: Server
+    acknowledged: list[Write] = field(default_factory=list)
+    kills: int = 0
+    copying: bool = False
+    kills_in_copies: int = 0
+    runs: threading.Event = field(default_factory=threading.Event)
+    stopped: bool = False
+    lock: threading.Lock = field(default_factory=threading.Lock)
+
+    def write(self, client: int) -> None:
+        chance, number = random.Random(client), 0
+        while not self.stopped:
+            number += 1
+            write = write_of(client, number, chance, DIGITS)
+            while self.runs.wait() and not self.stopped:
+                try:
+                    replied = self.server.send(write)
+                except (OSError, http.client.HTTPException):
+                    time.sleep(0.02)
+                    continue
+                if replied:
+                    with self.lock:
+                        self.acknowledged.append(replied)
+                    break
+
+    def kill(self) -> None:
+        while self.runs.wait() and not self.stopped:
+            time.sleep(random.uniform(*KILL_SECONDS))
+            if self.runs.is_set() and not self.stopped:
+                self.kills += 1
+                self.kills_in_copies += self.copying
+                self.server.kill()
+                self.server.start()
+
+    def wait_for(self, count: int) -> None:
+        """Waits until so many more writes are acknowledged."""
+        last, deadline = len(self.acknowledged) + count, time.monotonic() + LONGEST_SECONDS
+        while len(self.acknowledged) < last and time.monotonic() < deadline:
+            time.sleep(0.01)
+
+    def so_far(self) -> list[Write]:
+        with self.lock:
+            return list(self.acknowledged)
+
+
+@dataclass
+class Counts:
+    """What a folder's copies came to."""
+
+    copies: int = 0
+    wrong: int = 0
+    rejected: int = 0
+    kills: int = 0
+    kills_in_copies: int = 0
+    writes: int = 0
+    logs: set[bytes] = field(default_factory=set)
+
+    def __str__(self) -> str:
+        return (f"{self.copies} copies, {self.wrong} wrong; {self.rejected} tries rejected by hot-copy; {len(self.logs)} different logs; "
+                f"{self.kills} kills, {self.kills_in_copies} of them within a copy; {self.writes} writes")
+
+
+@dataclass
+class SlowCopy:
+    """hot-copy's copy_file with a pause after each block."""
+
+    pause: float
+
+    def __call__(self, source: Path, target: Path) -> None:
+        with source.open("rb", buffering=0) as file, target.open("xb", buffering=0) as out:
+            while block := file.read(HOT_COPY.BLOCK_BYTES):
+                out.write(block)
+                time.sleep(self.pause)
+            os.fsync(out.fileno())
+
+
+def copy_file_of(number: int, database: Path):
+    """How a copy reads: every second one slowly."""
+    if number % 2 == 0:
+        return HOT_COPY.copy_file
+    blocks = sum(file.stat().st_size for file in (database, HOT_COPY.log_of(database))) // HOT_COPY.BLOCK_BYTES + 2
+    return SlowCopy(random.uniform(0, SLOWEST_SECONDS) / blocks)
+
+
+def copy_under_load(load: Load, copy: Path, number: int, counts: Counts) -> str:
+    """Copies while the load runs, and says what is wrong with the copy."""
+    database = load.server.file
+    load.runs.set()
+    load.wait_for(WRITES_BETWEEN_COPIES)
+    for _ in range(TRIES):
+        acknowledged = load.so_far()
+        load.copying = True
+        with mock.patch.object(HOT_COPY, "copy_file", copy_file_of(number, database)):
+            accepted = HOT_COPY.copy_once(database, copy)
+        load.copying = False
+        if accepted:
+            break
+        counts.rejected += 1
+        time.sleep(HOT_COPY.PAUSE_SECONDS)
+    load.runs.clear()
+    counts.copies += 1
+    if not accepted:
+        return f"none of {TRIES} tries gave a copy"
+    counts.logs.add(HOT_COPY.log_of(copy).read_bytes()[:HOT_COPY.HEADER_BYTES])
+    fault = fault_of(copy, acknowledged)
+    remove(copy)
+    return fault
+
+
+def round_of(folder: Path, copies: int, with_kills: bool, counts: Counts) -> None:
+    """Fills a new registry and copies it."""
+    folder = Path(tempfile.mkdtemp(prefix="avroreg-trial-", dir=folder))
+    load = Load(Server(folder / "registry.db"))
+    load.server.ask("PUT", "/config", '{"compatibility":"NONE"}')
+    threads = [threading.Thread(target=load.write, args=(client,)) for client in (1, 2)]
+    threads += [threading.Thread(target=load.kill)] if with_kills else []
+    for thread in threads:
+        thread.start()
+    try:
+        for number in range(copies):
+            fault = copy_under_load(load, folder / f"copy{number}.db", number, counts)
+            if fault:
+                counts.wrong += 1
+                print(f"WRONG: a copy in {folder}: {fault}"[:300], flush=True)
+    finally:
+        load.stopped = True
+        load.runs.set()
+        for thread in threads:
+            thread.join()
+        if load.server.process.poll() is not None or len(load.acknowledged) < copies * WRITES_BETWEEN_COPIES:
+            counts.wrong += 1
+            print(f"WRONG: the server in {folder} ended, or acknowledged too few writes", flush=True)
+        load.server.kill()
+    counts.kills += load.kills
+    counts.kills_in_copies += load.kills_in_copies
+    counts.writes += len(load.acknowledged)
+    shutil.rmtree(folder)
+
+
+def trial(folder: Path, copies: int) -> int:
+    """Half of the copies without kills, then the others with kills. How many are wrong."""
+    kind = subprocess.run(["stat", "-f", "-c", "%T", folder], check=True, capture_output=True, text=True).stdout.strip()
+    wrong = 0
+    for with_kills, part in ((False, copies - copies // 2), (True, copies // 2)):
+        counts = Counts()
+        while counts.copies < part:
+            round_of(folder, min(ROUND, part - counts.copies), with_kills, counts)
+        print(f"{kind}, {'with' if with_kills else 'without'} kills: {counts}", flush=True)
+        wrong += counts.wrong
+    return wrong
+
+
+def main() -> int:
+    if len(sys.argv) < 3 or not sys.argv[1].isdigit():
+        print(__doc__, file=sys.stderr)
+        return 2
+    signal.signal(signal.SIGTERM, signal.default_int_handler)
+    return 1 if sum(trial(Path(folder), int(sys.argv[1])) for folder in sys.argv[2:]) else 0
+
+
+if __name__ == "__main__":
+    sys.exit(main())

@@ -1,0 +1,14 @@
+#!/usr/bin/env bash
+# Copies registries under write load with hot-copy, and checks each copy: `avroreg audit`, sqlite3's integrity check, every
+# acknowledged write, and retries at a server on the copy. In each folder, half of the copies are made while the server is
+# killed at random moments.
+#
+#   AVROREG=PROGRAM examples/backup/trial.sh COPIES FOLDER..     so many copies in each folder; README.md mounts folders
+#   HOT_COPY        the script to try; by default the one next to this file
+#
+# Ends with status 0 if all copies were right. Takes two to five seconds for a copy.
+set -u
+source "$(dirname "$0")/../serving.sh"
+need python3
+[ -x "$avroreg" ] || fail "there is no program $avroreg; build it, or name it in AVROREG"
+AVROREG=$(realpath "$avroreg") python3 "$examples/backup/trial.py" "$@"
