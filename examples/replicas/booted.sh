@@ -10,18 +10,24 @@ set -u
 source "$(dirname "$0")/../serving.sh"
 top=$(realpath "$examples/..")
 source "$top/packaging/checks.sh"
+source "$top/packaging/boot.sh"
 [ -x "$avroreg" ] || fail "there is no program $avroreg; build it, or name it in AVROREG"
 [ "$(id -u)" = 0 ] || fail "namespaces and mounts need root"
 program=$(realpath "$avroreg")
+exec 9>/run/avroreg-booted.lock
+flock -n 9 || fail "this script runs already on this machine"
 rmdir "$scratch"
 scratch=$(mktemp -d /var/tmp/avroreg-booted.XXXXXX)
 bridge=avrboot
 packages=systemd,systemd-sysv,dbus,curl,procps,iproute2,python3,etcd-server,openssl,nginx-light
 declare -A leaders=() containers=()
+container=
 
 clean_nodes() {
   local node
+  [ -z "$container" ] || containers[booting]=$container
   for node in "${!containers[@]}"; do off "$node"; done
+  for node in n1 n2 n3; do remove_cgroup "avrboot-$node"; done
   ip link del "$bridge" 2>/dev/null
   rm -rf --one-file-system "$scratch"
 }
@@ -29,7 +35,10 @@ trap clean_nodes EXIT
 trap 'exit 130' INT TERM
 
 # block FILE HEADING: the first block of shell commands after that line of a page.
-block() { awk -v heading="$2" 'index($0, heading) == 1 { on = 1 } on && /^```$/ { exit } inside { print } on && /^```sh$/ { inside = 1 }' "$top/$1"; }
+block() {
+  awk -v heading="$2" 'index($0, heading) == 1 { on = 1 } on && /^```$/ { exit } inside { print } on && /^```sh$/ { inside = 1 }' "$top/$1" |
+    grep . || echo "echo 'no commands under $2 in $1'; exit 1"
+}
 
 # tree NODE: a Debian with the repository's files, the node's certificate, and a script of the pages' commands.
 tree() {
@@ -47,31 +56,20 @@ STATE=new
 ENV
   {
     echo "set -eux; cd /root/avroreg; ip addr add 10.78.0.${node#n}/24 dev host0; ip link set host0 up"
-    block docs/running.md "**On another Linux with systemd**" | sed 's/^curl /curl --retry 9 --retry-connrefused -s -f /'
+    block docs/running.md "**Another Linux with systemd.**" | sed 's/^curl /curl --retry 9 --retry-connrefused -s -f /'
     block examples/replicas/README.md "## Set up three nodes" |
       sed "s,tls/n1\.,tls/$node.,g; s,^editor \(.*\),cp etcd.env \1,; s,\(/etc/avroreg/\)  .*,\1 \&\& sed -i 's/^node = .*/node = \"$node\"/' /etc/avroreg/relay.toml," |
       sed '/^avroreg-cluster/d'
   } >"$to/set-up.sh"
 }
 
-# boot NODE: boots its tree. A host that mounts cgroups of version 1 gets a mount namespace with version 2 alone.
+# boot NODE: boots its tree.
 boot() {
-  local node=$1 prepare=: leader _
-  if [ "$(stat -fc %T /sys/fs/cgroup)" != cgroup2fs ]; then
-    prepare='umount -R /sys/fs/cgroup && mount -t cgroup2 cgroup2 /sys/fs/cgroup && mkdir -p /sys/fs/cgroup/$M && echo $$ >/sys/fs/cgroup/$M/cgroup.procs'
-  fi
-  M=avrboot-$node SYSTEMD_SECCOMP=0 unshare -m bash -c "$prepare"' && exec systemd-nspawn "$@"' boot --boot -D "$scratch/$node" --register=no \
-    --keep-unit --network-bridge="$bridge" --console=pipe --capability=all -M "avrboot-$node" >"$scratch/$node.log" 2>&1 </dev/null &
-  containers[$node]=$!
-  for _ in $(seq 600); do
-    leader=$(pgrep -P "${containers[$node]}" -x systemd | head -n 1)
-    leaders[$node]=${leader:-}
-    [ -z "$leader" ] || [[ "$(on "$node" systemctl is-system-running 2>/dev/null)" != @(running|degraded) ]] || return 0
-    kill -0 "${containers[$node]}" 2>/dev/null || break
-    sleep 0.5
-  done
-  tail -n 5 "$scratch/$node.log"
-  return 1
+  local outcome
+  boot_tree "avrboot-$1" "$scratch/$1" "$scratch/$1.log" --network-bridge="$bridge"
+  outcome=$?
+  containers[$1]=$container leaders[$1]=$leader container=
+  return $outcome
 }
 
 # off NODE: takes its power away.
@@ -82,12 +80,7 @@ off() {
 }
 
 # on NODE COMMAND..: a command in its booted tree.
-on() {
-  local leader=${leaders[$1]}
-  shift
-  nsenter -t "$leader" -m -u -i -n -p --root="/proc/$leader/root" --wd="/proc/$leader/root" \
-    env -i PATH=/usr/local/bin:/usr/sbin:/usr/bin:/sbin:/bin LANG=C.UTF-8 SYSTEMD_PAGER= "$@"
-}
+on() { in_tree "${leaders[$1]}" "${@:2}"; }
 
 # asks NODE STATUS TEXT CURL'S ARGUMENT..: whether the node's relay answers so; the last argument is the path.
 asks() {
@@ -135,6 +128,7 @@ for node in n1 n2 n3; do
   for pair in etcd=etcd avroreg=avroreg avroreg-relay=avroreg-relay; do
     check "$node: ${pair%=*} runs as its own user" user_of "$node" "${pair%=*}" "${pair#*=}"
   done
+  check "$node: nginx may read from avroreg" eventually 30 on "$node" runuser -u www-data -- test -f /run/avroreg-relay/local-reads
   check "$node: the relay starts after both" on "$node" bash -c '[[ " $(systemctl show -P After avroreg-relay) " == *" etcd.service "*"avroreg.service "* || " $(systemctl show -P After avroreg-relay) " == *" avroreg.service "*"etcd.service "* ]]'
 done
 check "a write at n1" eventually 60 register n1 a 1
@@ -147,6 +141,7 @@ done
 off n1
 check "n1 has no power, and n2 takes a write" eventually 60 register n2 c 3
 check "n1 boots" boot n1 || exit 1
+sleep 12  # its address may come late
 on n1 bash -c 'ip addr add 10.78.0.1/24 dev host0; ip link set host0 up'
 check "n1 is healthy without a command" eventually 120 is_healthy n1
 check "the nodes are equal" fingerprints
@@ -165,6 +160,7 @@ check "a write at n3" eventually 60 register n3 d 4
 check "entries are trimmed" cluster n3 trim
 check "the nodes are equal" fingerprints
 check "the relay ends by SIGTERM with its position saved" on n1 systemctl stop avroreg-relay
+check "and nginx may read from avroreg no more" on n1 test ! -e /run/avroreg-relay/local-reads
 check "its journal says so" on n1 bash -c "journalctl -u avroreg-relay -o cat | grep -q 'ended at revision'"
 counts
 [ "$failures" = 0 ]

@@ -1,4 +1,4 @@
-# What trial.sh and odd.sh share: it breaks the relay, and runs a script that has to detect that. It is sourced, not run.
+# What trial.sh, odd.sh and operations.sh share: it breaks the relay or nginx.conf, and runs a script that has to detect that. It is sourced, not run.
 
 # try_breaks KIND "NAME.." COMMAND..: for each break of the kind, or each named one, runs the command with --relay BROKEN. It
 # has to end with status 1 and the report of the break. Ends with status 1 if a break wasn't detected.

@@ -2,8 +2,18 @@
 # Tests each operation of README.md on three nodes of this machine's loopback. Installs what it needs.
 #
 #   AVROREG=PROGRAM examples/replicas/operations.sh [NAME]..
+#   AVROREG=PROGRAM examples/replicas/operations.sh breaks [NAME]..   breaks the relay or nginx.conf, and expects that to be detected
 set -u
 source "$(dirname "$0")/../serving.sh"
+source "$examples/replicas/breaks.sh"
+here=$examples/replicas
+python=/usr/bin/python3
 packages python3 etcd-server openssl nginx
 [ -x "$avroreg" ] || fail "there is no program $avroreg; build it, or name it in AVROREG"
-/usr/bin/python3 "$examples/replicas/trial/operations.py" "$avroreg" "$@"
+
+if [ "${1:-}" = breaks ]; then
+  shift
+  try_breaks clients "$*" "$python" "$here/trial/operations.py" "$avroreg" clients
+  exit
+fi
+"$python" "$here/trial/operations.py" "$avroreg" "$@"

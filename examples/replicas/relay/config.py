@@ -41,6 +41,7 @@ class Config:
     database: pathlib.Path
     program: pathlib.Path
     owner: str = ""
+    local_reads: pathlib.Path = pathlib.Path("/run/avroreg-relay/local-reads")
     patience_seconds: float = 8.0
     idle_seconds: float = 75.0
     max_connections: int = 512

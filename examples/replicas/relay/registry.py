@@ -1,9 +1,12 @@
 """This node's avroreg.
 
-avroreg serves one connection at a time, so the relay keeps one, and sends a message after the response to the one before.
-It sends nothing ahead: if avroreg answers a write 50001, no later write may be applied before that write is.
+avroreg serves one connection at a time, and nginx reads from it too. So the relay has at most one connection, and closes it
+once it has nothing more to send, or after a short turn: a kept one would delay nginx's next read by a quarter of a second.
+It sends a message after the response to the one before, and nothing ahead: if avroreg answers a write 50001, no later write
+may be applied before that write is.
 """
 import asyncio
+import time
 
 from relay import http1
 from relay.config import Address
@@ -12,6 +15,7 @@ from relay.http1 import Response
 
 LIMIT = 65536  # a response head is far shorter
 SECONDS = 60.0  # a check of two large schemas takes six
+TURN_SECONDS = 0.01  # a connection is kept so long while messages follow: reads of nginx wait no longer
 BACKEND_FAULT = 500
 
 
@@ -19,26 +23,40 @@ class Registry:
     def __init__(self, address: Address) -> None:
         self.address = address
         self.turn = asyncio.Lock()
+        self.asking = 0  # the messages that wait for their turn or for their response
         self.streams: tuple[asyncio.StreamReader, asyncio.StreamWriter] | None = None
+        self.turn_ends = 0.0
 
-    async def ask(self, message: bytes) -> Response:
+    async def ask(self, message: bytes, is_followed: bool = False) -> Response:
         """The response to a message that may be sent twice: a read, a write that has a key, or one that is refused.
 
-        avroreg may close a kept connection between two messages at any time, so a failure on one is no failure yet.
+        `is_followed` says that another message comes at once. avroreg may close a kept connection between two messages at any
+        time, so a failure on one is no failure yet.
         """
-        async with self.turn:
-            if self.streams:
-                try:
-                    return await self.exchange(message)
-                except Unavailable:
-                    pass
-            return await self.exchange(message)
+        self.asking += 1
+        try:
+            async with self.turn:
+                response = await self.exchange_again(message)
+                if time.monotonic() >= self.turn_ends or not (is_followed or self.asking > 1):
+                    self.close()
+                return response
+        finally:
+            self.asking -= 1
+
+    async def exchange_again(self, message: bytes) -> Response:
+        if self.streams:
+            try:
+                return await self.exchange(message)
+            except Unavailable:
+                pass
+        return await self.exchange(message)
 
     async def exchange(self, message: bytes) -> Response:
         try:
             async with asyncio.timeout(SECONDS):
                 if not self.streams:
                     self.streams = await asyncio.open_connection(*self.address, limit=LIMIT)
+                    self.turn_ends = time.monotonic() + TURN_SECONDS
                 reader, writer = self.streams
                 writer.write(message)
                 response, is_last = await http1.read_response(reader)

@@ -40,6 +40,7 @@ class Replica:
         self.metrics = Metrics()
         self.broken: str | None = None
         self.troubles: dict[str, str] = {}  # what doesn't work now, by the part that found it
+        self.end_local_reads()  # a relay that was killed has left the file
 
     # --- Applying the log
 
@@ -70,8 +71,9 @@ class Replica:
         """Sends each message of an entry until avroreg answers it. A message that was applied before changes nothing."""
         seen = self.position.digest
         responses = []
-        for message in batch_of(entry):
-            response = await self.until_answered(message)
+        batch = batch_of(entry)
+        for message in batch:
+            response = await self.until_answered(message, message is not batch[-1])
             seen = digest.extended(seen, entry.revision, message, response.status, response.body)
             responses.append(response)
         self.position = Position(self.position.log, entry.revision, seen)
@@ -80,10 +82,10 @@ class Replica:
         self.appender.answer(entry, responses)
         self.barrier.reached(entry.revision)
 
-    async def until_answered(self, message: bytes) -> Response:
+    async def until_answered(self, message: bytes, is_followed: bool) -> Response:
         while True:
             try:
-                response = await self.registry.ask(message)
+                response = await self.registry.ask(message, is_followed)
                 self.troubles.pop("registry", None)
                 return response
             except Unavailable as fault:
@@ -106,6 +108,7 @@ class Replica:
                     await self.log.publish(self.config.node, saved.revision, saved.digest)
                     published = saved
                 self.compare(await self.log.positions())
+                self.allow_local_reads()
                 self.troubles.pop("books", None)
             except (Unavailable, OSError) as fault:
                 self.note("books", str(fault))
@@ -135,9 +138,18 @@ class Replica:
         self.troubles[part] = trouble
 
     def stop(self, reason: str) -> None:
-        """Stops for good: this node answers 503 until somebody rebuilds it."""
+        """Stops permanently: this node answers 503 until somebody rebuilds it."""
         logger.error("stopped: %s", reason)
         self.broken = reason
+        self.end_local_reads()
+
+    def allow_local_reads(self) -> None:
+        """Makes the file that has nginx send reads to avroreg itself, if this node follows the log and hasn't stopped."""
+        if self.log.is_followed and not self.broken:
+            self.config.local_reads.touch()
+
+    def end_local_reads(self) -> None:
+        self.config.local_reads.unlink(missing_ok=True)
 
     # --- Requests
 
@@ -203,6 +215,7 @@ class Replica:
 
     def close(self) -> None:
         """Saves the position and closes the connections. The work must have ended."""
+        self.end_local_reads()
         self.save_position()
         self.registry.close()
         self.log.etcd.close()

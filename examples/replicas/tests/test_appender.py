@@ -86,8 +86,9 @@ class Appending(unittest.IsolatedAsyncioTestCase):
         second.cancel()
         with self.assertRaises(Unavailable):
             await first
-        self.log.failures = []
         third = asyncio.create_task(self.appender.response_to(b"third"))
+        await eventually(lambda: len(set(self.log.calls)) == 2)
+        self.log.failures = []
         await eventually(lambda: bool(self.log.batches))
         self.assertEqual(list(self.log.batches.values()), [b"third"])
         self.answer_all()

@@ -7,7 +7,7 @@ import unittest
 from typing import AsyncGenerator
 from unittest import mock
 
-from relay import config, digest, messages, position
+from relay import config, digest, messages, position, registry
 from relay.config import Address
 from relay.faults import Unavailable
 from relay.http1 import Request
@@ -46,13 +46,15 @@ class StandIn:
                 self.heads.append(head)
                 if mood == "close":
                     return
+                if mood == "slow":
+                    await asyncio.sleep(0.2)
                 status = b"500 Internal Server Error" if mood == "fault" else b"404 Not Found" if mood == "missing" else b"200 OK"
                 body = b"%d" % len(self.got)
                 end = b"Connection: close\r\n" if mood == "last" else b""
                 writer.write(b"HTTP/1.1 %s\r\nContent-Length: %d\r\n%s\r\n%s" % (status, len(body), end, body))
                 if mood == "last":
                     return
-        except asyncio.IncompleteReadError:
+        except (asyncio.IncompleteReadError, asyncio.CancelledError):
             pass
         finally:
             writer.close()
@@ -75,22 +77,36 @@ class Asking(unittest.IsolatedAsyncioTestCase):
         self.registry.close()
         self.avroreg.server.close()
 
-    async def test_one_connection(self) -> None:
+    @mock.patch.object(registry, "TURN_SECONDS", 30)
+    async def test_one_connection_while_messages_follow(self) -> None:
         await asyncio.gather(*(self.registry.ask(write(it)) for it in range(5)))
         self.assertEqual((self.avroreg.got, self.avroreg.connections), ([line(it) for it in range(5)], 1))
+        self.assertIsNone(self.registry.streams)
+        for number in range(5, 8):
+            await self.registry.ask(write(number), number < 7)
+        self.assertEqual((len(self.avroreg.got), self.avroreg.connections), (8, 2))
+        self.assertIsNone(self.registry.streams)
 
+    @mock.patch.object(registry, "TURN_SECONDS", 0)
+    async def test_a_turn_ends_though_messages_follow(self) -> None:
+        await asyncio.gather(*(self.registry.ask(write(it), True) for it in range(5)))
+        self.assertEqual((self.avroreg.got, self.avroreg.connections), ([line(it) for it in range(5)], 5))
+        self.assertIsNone(self.registry.streams)
+
+    @mock.patch.object(registry, "TURN_SECONDS", 30)
     async def test_a_kept_connection_that_was_closed(self) -> None:
         self.avroreg.moods = ["answer", "close unread", "answer", "last", "answer"]
         for number in range(4):
-            self.assertEqual((await self.registry.ask(write(number))).status, 200)
+            self.assertEqual((await self.registry.ask(write(number), True)).status, 200)
         self.assertEqual((self.avroreg.got, self.avroreg.connections), ([line(it) for it in range(4)], 3))
 
+    @mock.patch.object(registry, "TURN_SECONDS", 30)
     async def test_faults(self) -> None:
         for moods in (["close"], ["fault"], ["answer", "fault", "fault"], ["answer", "close", "close"]):
             self.avroreg.moods = moods
             with self.assertRaises(Unavailable):
                 for number in range(len(moods)):
-                    await self.registry.ask(write(number))
+                    await self.registry.ask(write(number), True)
 
     async def test_nobody_listens(self) -> None:
         self.avroreg.server.close()
@@ -98,8 +114,9 @@ class Asking(unittest.IsolatedAsyncioTestCase):
             await self.registry.ask(write(0))
 
     async def test_a_cancelled_request_leaves_no_response_behind(self) -> None:
-        asking = asyncio.create_task(self.registry.ask(write(0)))
-        await eventually(lambda: bool(self.registry.streams))
+        self.avroreg.moods = ["slow"]
+        asking = asyncio.create_task(self.registry.ask(write(0), True))
+        await eventually(lambda: bool(self.avroreg.got))
         asking.cancel()
         await asyncio.gather(asking, return_exceptions=True)
         found = await self.registry.ask(write(1))
@@ -114,6 +131,7 @@ class StandInLog(Log):
         self.is_followed = True
         self.published: list[tuple[int, int]] = []
         self.others: dict[str, dict[str, object]] = {}
+        self.compared = 0
         self.start: Base | None = None
         self.is_new = False
         self.path = pathlib.Path()
@@ -140,6 +158,7 @@ class StandInLog(Log):
         self.published.append((revision, position.load(self.path).revision))
 
     async def positions(self) -> dict[str, dict[str, object]]:
+        self.compared += 1
         return self.others
 
 
@@ -157,9 +176,11 @@ class Applying(unittest.IsolatedAsyncioTestCase):
         self.avroreg = StandIn()
         self.folder = tempfile.TemporaryDirectory()
         self.path = pathlib.Path(self.folder.name) / "position"
-        path = pathlib.Path(self.folder.name) / "relay.toml"
+        self.local_reads = self.path.with_name("local-reads")
+        path = self.path.with_name("relay.toml")
         host, port = await self.avroreg.start()
         text = RELAY_TOML.read_text().replace("/var/lib/avroreg-relay/position", str(self.path))
+        text = text.replace("/run/avroreg-relay/local-reads", str(self.local_reads))
         path.write_text(text.replace("127.0.0.1:8081", f"{host}:{port}").replace("patience_seconds = 8.0", "patience_seconds = 3.0"))
         self.config = config.load(path)
         self.work: list[asyncio.Task[None]] = []
@@ -257,6 +278,30 @@ class Applying(unittest.IsolatedAsyncioTestCase):
         log.others["n3"]["digest"] = "x"
         await eventually(lambda: replica.broken is not None)
         self.assertEqual(replica.health()["status"], "stopped")
+
+    async def test_when_nginx_may_read_from_avroreg(self) -> None:
+        """Once the node follows the log and no majority contradicts it, until it stops or ends."""
+        self.local_reads.touch()  # a relay that was killed has left it
+        log = StandInLog(entries(1))
+        log.is_followed = False
+        replica = self.replica(log)
+        self.assertFalse(self.local_reads.exists())
+        await eventually(lambda: bool(log.compared))
+        self.assertFalse(self.local_reads.exists())
+        log.is_followed = True
+        await eventually(self.local_reads.exists)
+        replica.stop("it is to be rebuilt")
+        self.assertFalse(self.local_reads.exists())
+        replica.allow_local_reads()  # a comparison that was under way
+        self.assertFalse(self.local_reads.exists())
+
+    async def test_a_relay_that_ends_leaves_no_file(self) -> None:
+        replica = self.replica(StandInLog(entries(1)))
+        await eventually(self.local_reads.exists)
+        self.work[-1].cancel()
+        await asyncio.gather(self.work[-1], return_exceptions=True)
+        replica.close()
+        self.assertFalse(self.local_reads.exists())
 
     async def test_which_reads_ask_the_majority(self) -> None:
         log = StandInLog([], newest=0)

@@ -5,6 +5,7 @@ from relay import messages
 from trial.clients import Write
 from trial.compare import out_of_order
 from trial.machine import Machine
+from trial.report import Fault, longest_gap
 
 
 def write(name: str, began: float, answered: float) -> Write:
@@ -23,6 +24,14 @@ class Order(unittest.TestCase):
     def test_one_that_was_acknowledged_comes_before_one_that_begins_later(self) -> None:
         first, second, third = write("a", 1, 2), write("b", 3, 6), write("c", 4, 5)
         self.assertEqual([self.count(it, first, second, third) for it in ("abc", "acb", "bac", "bca", "aba")], [0, 0, 1, 1, 0])
+
+
+class Gap(unittest.TestCase):
+    def test_the_longest_time_and_its_faults(self) -> None:
+        writes = [write(str(it), it, it) for it in (1, 2, 3, 9, 10)]
+        faults = [Fault("kill all", ("n1",), False, 1, 1.5, 2), Fault("kill etcd", ("n1", "n3"), True, 2.5, 5, 6), Fault("cut", ("n2",), False, 8, 8.2, 9.5)]
+        self.assertEqual(longest_gap(0, 11, faults, writes), "6.0 s (kill etcd, n1 and n3; cut, n2)")
+        self.assertEqual(longest_gap(0, 30, faults, writes), "20.0 s (between faults)")
 
 
 class SecondRegistry(unittest.TestCase):

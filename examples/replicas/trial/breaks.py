@@ -1,8 +1,9 @@
 #!/usr/bin/env python3
-"""Copies the relay with one break, which a script has to detect: trial.sh the breaks of the log, odd.sh those of requests.
+"""Copies the relay and nginx.conf with one break, which a script has to detect: trial.sh the breaks of the log, odd.sh those of
+requests, operations.sh those of reads through nginx.
 
-    breaks.py trial|odd             prints the name of each break and what the script has to report, a regular expression
-    breaks.py trial|odd NAME FOLDER copies the relay with that break into a new folder
+    breaks.py trial|odd|clients             prints the name of each break and what the script has to report, a regular expression
+    breaks.py trial|odd|clients NAME FOLDER copies both with that break into a new folder
 """
 import pathlib
 import shutil
@@ -13,7 +14,7 @@ HERE = pathlib.Path(__file__).resolve().parent.parent
 
 
 class Edit(NamedTuple):
-    """One text of one file of the relay, and what stands there instead."""
+    """One text of one file of the relay, or of nginx.conf, and what stands there instead."""
 
     file: str
     text: str
@@ -34,9 +35,9 @@ REQUEST = "messages.message(request.line, key, request.body)"
 # n2 counts every tenth entry as applied without sending it to avroreg.
 SKIP_AN_ENTRY = Edit(
     "replica.py",
-    "        for message in batch_of(entry):\n",
+    "        for message in batch:\n",
     '        is_skipped = self.config.node == "n2" and sum(entry.name) % 10 == 0\n'
-    "        for message in [] if is_skipped else batch_of(entry):\n",
+    "        for message in [] if is_skipped else batch:\n",
 )
 # A write goes to this node's avroreg first and then into the log.
 APPLY_BEFORE_APPEND = Edit(
@@ -95,16 +96,46 @@ ODD = {
 }
 
 
+OTHERS = "Wrong..another node answers for it"
+ANY_GET = Edit("nginx.conf", '"$request_method:$http_cache_control"', '"$request_method:"')
+ANY_METHOD = Edit("nginx.conf", '    default 1;\n    "GET:"  0;', "    default 0;")
+
+CLIENTS = {
+    # nginx passes on the 404 of its own avroreg.
+    "answer-404-alone": Break(
+        "Wrong..and a read of what n1 doesn.t know",
+        (Edit("nginx.conf", "        error_page 404 ", "        error_page 418 "),),
+    ),
+    # nginx reads from its own avroreg whatever Cache-Control says.
+    "read-fresh-locally": Break("Wrong..a fresh read is not", (ANY_GET,)),
+    # nginx reads from its own avroreg though the relay has stopped.
+    "read-from-a-stopped-node": Break(OTHERS, (Edit("nginx.conf", "if (!-f ", "if (-d "),)),
+    # A relay that stops leaves the file.
+    "leave-the-file": Break(
+        OTHERS,
+        (Edit("replica.py", "        self.broken = reason\n        self.end_local_reads()\n", "        self.broken = reason\n"),),
+    ),
+    # nginx sends writes to its own avroreg. With the key that nginx gives them, avroreg refuses them.
+    "send-writes-past-the-log": Break("Wrong..a write at n1 is answered Found.status=400", (ANY_METHOD,)),
+    # The relay keeps its connection, so avroreg doesn't serve nginx for a quarter of a second.
+    "keep-the-connection": Break(
+        "Wrong..after a write it isn.t slower",
+        (Edit("registry.py", "or not (is_followed or self.asking > 1)", "and False"),),
+    ),
+}
+
+
 def main() -> None:
-    breaks = {"trial": TRIAL, "odd": ODD}[sys.argv[1]]
+    breaks = {"trial": TRIAL, "odd": ODD, "clients": CLIENTS}[sys.argv[1]]
     if len(sys.argv) != 4:
         print("\n".join(f"{name} {it.report}" for name, it in breaks.items()))
         return
     folder = pathlib.Path(sys.argv[3])
     shutil.copytree(HERE / "relay", folder / "relay")
-    shutil.copy(HERE / "avroreg-relay", folder)
+    for name in ("avroreg-relay", "nginx.conf"):
+        shutil.copy(HERE / name, folder)
     for edit in breaks[sys.argv[2]].edits:
-        path = folder / "relay" / edit.file
+        path = folder / edit.file if edit.file == "nginx.conf" else folder / "relay" / edit.file
         text = path.read_text()
         if text.count(edit.text) != 1:
             sys.exit(f"breaks.py: {edit.file} doesn't have the text of {sys.argv[2]} once")

@@ -7,7 +7,7 @@ import ssl
 import subprocess
 import time
 
-from trial.local import HERE, Cluster, Node
+from trial.local import Cluster, Node
 
 USER = ("producer", "secret")
 WRAPPER = """daemon off;
@@ -66,11 +66,13 @@ class Nginx:
 def of_node(cluster: Cluster, node: Node) -> Nginx:
     """The nginx of one node of three."""
     tls, (second, third) = cluster.folder / "tls", [it for it in cluster.nodes.values() if it is not node]
-    config = (HERE / "nginx.conf").read_text()
+    config = (node.relay.parent / "nginx.conf").read_text()
     for old, new in (
         ("10.0.0.2:8444", f"127.0.0.1:{second.ports['nodes']}"),
         ("10.0.0.3:8444", f"127.0.0.1:{third.ports['nodes']}"),
         ("127.0.0.1:8080", f"127.0.0.1:{node.ports['relay']}"),
+        ("127.0.0.1:8081", f"127.0.0.1:{node.ports['registry']}"),
+        ("/run/avroreg-relay/local-reads", str(node.local_reads)),
         ("listen 443 ", f"listen 127.0.0.1:{node.ports['https']} "),
         ("listen 8444 ", f"listen 127.0.0.1:{node.ports['nodes']} "),
         ("/etc/avroreg/tls/clients.", f"{tls}/{node.name}."),

@@ -48,7 +48,7 @@ class Node:
         first = cluster.first_port + 10 * NODES.index(name)
         self.ports = {name: first + at for at, name in enumerate(PORTS)}
         self.database, self.position = self.folder / "registry.db", self.folder / "position"
-        self.config = self.folder / "relay.toml"
+        self.config, self.local_reads = self.folder / "relay.toml", self.folder / "local-reads"
         self.host, self.peer_host, self.prefix = "127.0.0.1", "127.0.0.1", list[str]()
         self.relay = HERE / "avroreg-relay"
 
@@ -69,6 +69,7 @@ class Node:
             **{name: f"{self.host}:{self.ports[port]}" for name, port in (("listen", "relay"), ("admin", "admin"))},
             **{name: f"127.0.0.1:{self.ports[name]}" for name in ("registry", "etcd")},
             "position": str(self.position), "database": str(self.database), "program": str(self.folder / "avroreg"), "owner": "",
+            "local_reads": str(self.local_reads),
             **{f"{verb}_{service}": [*control, verb, self.name, service]
                for verb in ("start", "stop") for service in ("relay", "registry")},
         }  # fmt: skip

@@ -1,10 +1,11 @@
 #!/usr/bin/env python3
 """Each operation of README.md on three nodes of this machine's loopback, one after the other, with its outcome compared.
 
-    operations.py PROGRAM [NAME]..     the names of the operations, none all
+    operations.py PROGRAM [--relay FILE] [NAME]..     the names of the operations, none all; another relay, as one with a break
 
-Ends with status 0 if each did what README.md says.
+Ends with status 0 if each did what README.md says, 1 if one didn't, 2 if a name is unknown.
 """
+import argparse
 import http.client
 import json
 import pathlib
@@ -17,6 +18,7 @@ import sys
 import tempfile
 import threading
 import time
+import urllib.request
 
 HERE = pathlib.Path(__file__).resolve().parent.parent
 sys.path.insert(0, str(HERE))
@@ -191,14 +193,27 @@ class Operations(ThroughNginx):
                 return
         raise Wrong("etcd's quota doesn't get full")
 
+    def serves(self, node: Node) -> bool:
+        """Whether a node's etcd serves. It isn't healthy while the alarm of a full quota is on."""
+        try:
+            with urllib.request.urlopen(f"http://127.0.0.1:{node.ports['etcd']}/version", timeout=5) as found:
+                return bool(found.status == 200)
+        except OSError:
+            return False
+
     def full_quota(self) -> None:
-        """etcd's quota is full: writes stop, reads go on, and trimming makes room."""
+        """etcd's quota is full: writes stop, reads go on, and after a larger quota trimming makes room."""
         self.set_up(quota=16 * 1048576)
         first, second, third = self.nodes
         self.register(first, 1)
         self.write_until_full()
         check(ask(second, "GET", "/subjects")[0] == 200, "reads go on")
         check(ask(third, "GET", "/subjects", None, **{"Cache-Control": "no-cache"})[0] == 200, "fresh reads go on")
+        self.cluster.quota *= 4
+        for node in self.nodes:
+            node.end("etcd", signal.SIGTERM)
+            node.start("etcd")
+            self.wait_for(lambda: self.serves(node), f"etcd of {node.name} has a larger quota")
         for node in self.nodes:
             self.command(node, "defragment")
         self.wait_for(self.have_published, "the nodes have published their positions")
@@ -267,10 +282,17 @@ NAMES = ("from_nothing", "clients", "adopt", "replace", "upgrade", "trim", "full
 
 def main() -> None:
     end_on_sigterm()
-    program, chosen = pathlib.Path(sys.argv[1]).resolve(), sys.argv[2:] or NAMES
+    parser = argparse.ArgumentParser(description=(__doc__ or "").split("\n")[0])
+    parser.add_argument("program", type=pathlib.Path)
+    parser.add_argument("--relay", type=pathlib.Path, default=HERE / "avroreg-relay")
+    parser.add_argument("names", nargs="*", metavar="NAME")
+    options = parser.parse_args()
+    if unknown := [name for name in options.names if name not in NAMES]:
+        parser.error(f"there is no operation {', '.join(unknown)}. There are: {', '.join(NAMES)}")
+    chosen = options.names or NAMES
     began = time.monotonic()
     with tempfile.TemporaryDirectory() as folder:
-        trial = Operations(pathlib.Path(folder), program)
+        trial = Operations(pathlib.Path(folder), options.program.resolve(), options.relay.resolve())
         try:
             for name in chosen:
                 start = time.monotonic()

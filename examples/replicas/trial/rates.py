@@ -104,17 +104,27 @@ def compare(way: str, kind: str, clients: int, systems: tuple[System, System], s
 
 
 def single_front(folder: pathlib.Path, port: int, tls: pathlib.Path, users: pathlib.Path) -> front.Nginx:
-    """The nginx of a single avroreg, with the lines for TLS and users."""
-    config, https = (HERE.parent / "nginx" / "avroreg.conf").read_text(), free_ports(2)
+    """The nginx of a single avroreg, with the lines for TLS and users, and without its limits and its cache of schemas."""
+    source, roles, https = HERE.parent / "nginx", folder / "roles.conf", free_ports(2)
+    roles.write_text((source / "roles.conf").read_text().replace('"~^admin$"', f'"~^{front.USER[0]}$"'))
+    config = (source / "avroreg.conf").read_text()
     for name in ("listen 443", "ssl_", "auth_"):
         config = config.replace(f"# {name}", name)
     for old, new in (
         ("127.0.0.1:8081", f"127.0.0.1:{port}"),
         ("listen 127.0.0.1:8080", f"listen 127.0.0.1:{https + 1}"),
         ("listen 443", f"listen 127.0.0.1:{https}"),
+        ("include avroreg-roles.conf", f"include {roles}"),
         ("/etc/nginx/avroreg.users", str(users)),
         ("/etc/nginx/avroreg", f"{tls}/n1"),
+        ("/var/log/nginx/", f"{folder}/"),
+        ("/var/lib/nginx/avroreg", f"{folder}/cache"),
+        ("rate=200r/s", "rate=1000000r/s"),
+        ("avroreg_connections 50;", "avroreg_connections 1000;"),
+        ("proxy_cache           $schema_cache;", "proxy_cache           off;"),
     ):
+        if old not in config:
+            raise SystemExit(f"rates.py: avroreg.conf has no {old}")
         config = config.replace(old, new)
     return front.Nginx(folder / "nginx", config, https)
 

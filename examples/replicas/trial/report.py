@@ -9,8 +9,18 @@ from trial.clients import Client, Write
 
 class Fault(NamedTuple):
     name: str
+    nodes: tuple[str, ...]
     is_at_leader: bool
-    seconds_until_equal: float  # from its end until each node had caught up
+    began: float
+    ended: float
+    caught_up: float  # when each node had what any node had at the end
+
+    @property
+    def seconds_until_equal(self) -> float:
+        return self.caught_up - self.ended
+
+    def __str__(self) -> str:
+        return f"{self.name}, {' and '.join(self.nodes)}"
 
 
 @dataclasses.dataclass
@@ -28,6 +38,7 @@ class Outcome:
 def table(began: float, ended: float, faults: list[Fault], clients: list[Client], outcome: Outcome) -> str:
     writes = [it for client in clients for it in client.writes]
     counts = sum((it.counts for it in clients), collections.Counter[str]())
+    slowest = max(faults, key=lambda it: it.seconds_until_equal)
     rows = {
         "seconds": f"{ended - began:.0f}",
         "faults": f"{len(faults)}, of them {sum(it.is_at_leader for it in faults)} at etcd's leader",
@@ -41,19 +52,22 @@ def table(began: float, ended: float, faults: list[Fault], clients: list[Client]
         "repeats in the log, each without effect": outcome.repeats,
         "fresh reads, all right": counts["fresh reads"],
         "local reads elsewhere that were stale": counts["stale reads"],
-        "longest time without an acknowledged write": f"{longest_gap(began, ended, writes):.1f} s",
+        "longest time without an acknowledged write": longest_gap(began, ended, faults, writes),
         "response times": within([it for client in clients for it in client.seconds]),
-        "until each node had caught up after a fault": f"at most {max(it.seconds_until_equal for it in faults):.1f} s",
+        "until each node had caught up after a fault": f"at most {slowest.seconds_until_equal:.1f} s ({slowest})",
         "kinds of faults": listed(collections.Counter(it.name for it in faults)),
         "what clients saw": listed(counts),
     }
     return "\n".join(["| | |", "|---|---|", *(f"| {name} | {value} |" for name, value in rows.items())])
 
 
-def longest_gap(began: float, ended: float, writes: list[Write]) -> float:
+def longest_gap(began: float, ended: float, faults: list[Fault], writes: list[Write]) -> str:
+    """The longest time without an acknowledged write, and the faults that it overlaps."""
     answered = sorted(it.answered for it in writes)
     moments = [began, *answered[bisect.bisect(answered, began) : bisect.bisect(answered, ended)], ended]
-    return max(later - earlier for earlier, later in zip(moments, moments[1:]))
+    start, end = max(zip(moments, moments[1:]), key=lambda it: it[1] - it[0])
+    found = [str(it) for it in faults if it.began < end and it.caught_up > start]
+    return f"{end - start:.1f} s ({'; '.join(found) or 'between faults'})"
 
 
 def within(seconds: list[float]) -> str:

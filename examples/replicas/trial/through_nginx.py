@@ -1,18 +1,33 @@
 """Clients of three nodes that speak to nginx, by the repository's nginx.conf."""
 import base64
+import http.client
+import json
 import os
 import re
 import signal
 import ssl
+import statistics
+import time
+import urllib.request
+from typing import NamedTuple
 
 from trial import front
 from trial.local import Node
-from trial.steps import FAULTS, LocalTrial, ask, check, schema
+from trial.steps import FAULTS, LocalTrial, Wrong, ask, check, schema
+
+
+FRESH = {"Cache-Control": "no-cache"}
+
+
+class Found(NamedTuple):
+    status: int
+    key: str
+    body: bytes
 
 
 class ThroughNginx(LocalTrial):
     def clients(self) -> None:
-        """Clients speak to nginx, which asks another node if its own one doesn't answer."""
+        """Clients speak to nginx, which reads from its own avroreg, and asks another node if its own one doesn't answer."""
         self.set_up()
         fronts = [front.of_node(self.cluster, it) for it in self.nodes]
         try:
@@ -20,21 +35,28 @@ class ThroughNginx(LocalTrial):
                 it.wait()
             self.certificates()
             self.users()
+            self.local_reads()
             self.another_node()
+            self.old_node()
+            self.stopped_node()
         finally:
             for it in fronts:
                 it.stop()
         self.meet()
 
-    def through(self, method: str, target: str, body: bytes | None = None, user: str = ":".join(front.USER), **fields: str) -> tuple[int, str]:
-        """The status and the retry key of a response from the first node's nginx."""
+    def through(self, method: str, target: str, body: bytes | None = None, user: str = ":".join(front.USER), **fields: str) -> Found:
+        """The response of the first node's nginx."""
         connection = front.connection(self.nodes[0].ports["https"], self.cluster.folder / "tls" / "ca.crt")
         authorization = {"Authorization": "Basic " + base64.b64encode(user.encode()).decode()} if user else {}
         connection.request(method, target, body, {**authorization, **fields})
         response = connection.getresponse()
-        response.read()
+        found = Found(response.status, response.headers.get("Registry-Retry-Key", ""), response.read())
         connection.close()
-        return response.status, response.headers.get("Registry-Retry-Key", "")
+        return found
+
+    def read(self, target: str, **fields: str) -> tuple[int, bytes]:
+        found = self.through("GET", target, **fields)
+        return found.status, found.body
 
     def certificates(self) -> None:
         """nginx and etcd of a node answer other nodes only if these show a certificate of the cluster."""
@@ -56,25 +78,106 @@ class ThroughNginx(LocalTrial):
             connection.close()
 
     def users(self) -> None:
-        statuses = [self.through("GET", "/subjects", user=user)[0] for user in ("", "producer:guess")]
+        statuses = [self.through("GET", "/subjects", user=user).status for user in ("", "producer:guess")]
         check(statuses == [401, 401], "no password, no answer")
-        status, key = self.through("POST", "/subjects/a/versions", schema(1))
+        status, key, _ = self.through("POST", "/subjects/a/versions", schema(1))
         check(status == 200 and re.fullmatch("[0-9a-f]{32}", key), f"a write without a key gets one: {key}")
-        status, key = self.through("POST", "/subjects/a/versions", schema(1), **{"Registry-Retry-Key": "mine"})
+        status, key, _ = self.through("POST", "/subjects/a/versions", schema(1), **{"Registry-Retry-Key": "mine"})
         check((status, key) == (200, "mine"), "one with a key keeps it")
-        foreign = [self.through(method, "/config", b'{"compatibility":"NONE"}', Origin="http://elsewhere")[0] for method in ("PUT", "GET")]
+        foreign = [
+            self.through(method, "/config", b'{"compatibility":"NONE"}', Origin="http://elsewhere").status for method in ("PUT", "GET")
+        ]
         check(foreign == [403, 200], "another site's page can't write")
+
+    def reads_of_relay(self) -> int:
+        """How many reads n1's relay has answered, fresh ones aside."""
+        with urllib.request.urlopen(f"http://127.0.0.1:{self.nodes[0].ports['admin']}/metrics", timeout=30) as found:
+            count = re.search(r'avroreg_relay_seconds_count\{kind="read"\} ([0-9]+)', found.read().decode())
+        return int(count[1]) if count else 0
+
+    def timed(self, target: str) -> tuple[float, tuple[int, bytes]]:
+        began = time.monotonic()
+        found = self.read(target)
+        return time.monotonic() - began, found
+
+    def local_reads(self) -> None:
+        """nginx reads from n1's avroreg itself. The relay answers what may have to be fresh, and what avroreg doesn't find."""
+        self.wait_for(self.nodes[0].local_reads.exists, "n1's relay lets nginx read from avroreg")
+        before, first, second = self.reads_of_relay(), list[float](), list[float]()
+        for number in range(20):
+            written = self.through("POST", f"/subjects/l{number}/versions", schema(10 + number))
+            if written.status != 200:
+                raise Wrong(f"a write at n1 is answered {written}")
+            seconds, by_id = self.timed(f"/schemas/ids/{json.loads(written.body)['id']}")
+            first.append(seconds)
+            seconds, versions = self.timed(f"/subjects/l{number}/versions")
+            second.append(seconds)
+            if by_id[0] != 200 or versions != (200, b"[1]"):
+                raise Wrong(f"what n1 acknowledged isn't in a read there: {by_id}, {versions}")
+        check(True, "a read at n1 has what n1 acknowledged")
+        check(self.reads_of_relay() == before, "without its relay")
+        halves = statistics.median(first), statistics.median(second)
+        check(halves[0] < halves[1] + 0.15, f"after a write it isn't slower: {halves[0] * 1000:.0f} ms, otherwise {halves[1] * 1000:.0f} ms")
+        check(self.through("POST", "/subjects/a%2Fb/versions", schema(1)).status == 200, "a subject with an escape is registered")
+        check(self.read("/subjects/a%2Fb/versions") == (200, b"[1]"), "and read")
+        unknown = [self.read(target)[0] for target in ("/subjects/a%2Fc/versions", "/schemas/ids/999")]
+        check(unknown == [404, 404], f"an unknown subject and id: {unknown}")
+        for value in ("no-cache", "max-age=0, No-Cache", "max-age=0"):
+            check(self.read("/subjects/a/versions", **{"Cache-Control": value}) == (200, b"[1]"), f"a read with {value}")
+        check(self.through("POST", "/subjects/a", schema(1)).status == 200, "a look-up with a body")
+        check(self.through("HEAD", "/subjects").status == 405, "avroreg knows no HEAD")
+
     def another_node(self) -> None:
-        first, second = self.nodes[:2]
+        first = self.nodes[0]
         first.end("relay", signal.SIGKILL)
-        check(self.through("POST", "/subjects/b/versions", schema(2))[0] == 200, "n1's relay is away, and another node takes a write")
-        check(self.through("GET", "/subjects/b/versions")[0] == 200, "and a read")
+        check(self.through("POST", "/subjects/b/versions", schema(2)).status == 200, "n1's relay is away, and another node takes a write")
+        check(self.read("/subjects/b/versions") == (200, b"[1]"), "and a read of what n1 doesn't know")
+        check(self.read("/subjects/a/versions", **FRESH) == (200, b"[1]"), "and a fresh read")
         self.cluster.start("n1", "relay")
+        self.meet()
+        first.end("registry", signal.SIGKILL)
+        check(self.read("/subjects/a/versions") == (200, b"[1]"), "n1's avroreg is away, and another node answers a read")
+        self.cluster.start("n1", "registry")
+
+    def old_node(self) -> None:
+        """n1's etcd hangs, so n1 doesn't learn of writes at the others."""
+        first, second = self.nodes[:2]
+        self.wait_for(first.local_reads.exists, "n1's relay lets nginx read from avroreg")
         etcd = first.process("etcd")
         assert etcd
         os.kill(etcd, signal.SIGSTOP)
         try:
-            check(self.through("POST", "/subjects/c/versions", schema(3))[0] == 200, "n1's etcd hangs, and another node takes a write")
+            check(self.through("POST", "/subjects/c/versions", schema(3)).status == 200, "n1's etcd hangs, and another node takes a write")
+            check(self.register_at(second, "a", 4) == 200, "n2 takes another one")
+            check(self.read("/subjects/a/versions") == (200, b"[1]"), "a read at n1 is as old as that")
+            check(self.read("/subjects/a/versions", **FRESH) == (200, b"[1,2]"), "a fresh read is not")
+            check(self.read("/subjects/c/versions") == (200, b"[1]"), "and n1 answers 404 for no subject that another node has acknowledged")
         finally:
             os.kill(etcd, signal.SIGCONT)
         check(ask(second, "GET", "/subjects/c/versions") == (200, b"[1]"), "it is applied once")
+        self.meet()
+
+    def register_at(self, node: Node, subject: str, number: int) -> int:
+        for _ in range(50):
+            status, _ = ask(node, "POST", f"/subjects/{subject}/versions", schema(number), **{"Registry-Retry-Key": f"at-{number}"})
+            if status == 200:
+                break
+        return status
+
+    def stopped_node(self) -> None:
+        """Somebody writes to n1's avroreg past the log. Once n1 has stopped, no client sees that write."""
+        first, second = self.nodes[:2]
+        direct = http.client.HTTPConnection("127.0.0.1", first.ports["registry"], timeout=60)
+        direct.request("POST", "/subjects/past/versions", schema(9999))
+        check(direct.getresponse().status == 200, "a schema is registered at n1's avroreg itself")
+        direct.close()
+        check(self.register_at(second, "d", 5) == 200, "n2 takes a write")
+        self.wait_for(lambda: first.health().get("status") == "stopped", "n1 stops")
+        subjects = self.read("/subjects")
+        check(subjects[0] == 200 and b'"d"' in subjects[1] and b'"past"' not in subjects[1], "another node answers for it")
+        check(self.read("/subjects/past/versions")[0] == 404, "for one subject too")
+        backup = self.folder / "for-n1"
+        self.command(second, "backup", backup)
+        self.command(first, "restore", backup)
+        self.wait_for(first.local_reads.exists, "n1 is rebuilt, and its relay lets nginx read from avroreg")
+        check(b'"past"' not in self.read("/subjects")[1], "which is right again")

@@ -61,6 +61,7 @@ class Trial:
             leader, chosen = self.cluster.leader(), self.random.sample(self.nodes, 2 if self.random.random() < 0.1 else 1)
             if leader and self.random.random() < 0.4:
                 chosen = [leader]
+            began = time.monotonic()
             for node in chosen:
                 kinds[name][0](node)
             time.sleep(self.random.uniform(0.5, 5))
@@ -68,7 +69,7 @@ class Trial:
                 kinds[name][1](node)
             ended = time.monotonic()
             self.meet()
-            self.faults.append(Fault(name, leader in chosen, time.monotonic() - ended))
+            self.faults.append(Fault(name, tuple(it.name for it in chosen), leader in chosen, began, ended, time.monotonic()))
             self.report_progress()
             time.sleep(self.random.uniform(0.2, 1.5))
 
