@@ -1,5 +1,6 @@
 #!/usr/bin/env bash
-# The part of packaging/try.sh that runs inside a booted Debian, in which /root/avroreg.deb is to be installed.
+# The part of packaging/try.sh that runs inside a booted Debian, in which /root/avroreg.deb is to be installed, and then
+# /root/program by the script install of /root/sources.
 set -u
 source /root/checks.sh
 url=http://127.0.0.1:8081
@@ -40,6 +41,12 @@ check "the backup passed its audit" test -s /var/lib/avroreg-backup/last-good.js
 check "metrics are written" systemctl start avroreg-watch
 check "they say that the server answers" grep -qx 'avroreg_up 1' /var/lib/avroreg-metrics/avroreg.prom
 check "the timers start" systemctl start avroreg-backup.timer avroreg-watch.timer
+check "a backup of the second registry is made" systemctl start avroreg-backup@payments
+check "it has the second registry's subject" grep -q '"subjects": 1' /var/lib/avroreg-backup-payments/last-good.json
+check "metrics of the second registry are written" systemctl start avroreg-watch@payments
+check "they have its name" grep -qx 'avroreg_up{registry="payments"} 1' /var/lib/avroreg-metrics/avroreg-payments.prom
+check "and its backup's" grep -qE '^avroreg_backup_schemas\{registry="payments"\} 1$' /var/lib/avroreg-metrics/avroreg-payments.prom
+check "its timers start" systemctl start avroreg-backup@payments.timer avroreg-watch@payments.timer
 
 cp /etc/default/avroreg /root/default
 sed -i 's/^AVROREG_PORT=.*/AVROREG_PORT=none/' /etc/default/avroreg
@@ -63,5 +70,25 @@ systemctl reset-failed avroreg
 check "with the file restored, it starts" systemctl start avroreg
 check "the versions are there" answers 200 '[1]' "$url/subjects/orders/versions"
 check "an upgrade restarts it" bash -c "dpkg -i /root/avroreg.deb && curl -s -f $url/config"
+
+cat >>/etc/default/avroreg <<'SETTINGS'
+AVROREG_DB=/var/lib/avroreg/moved.db
+SETTINGS
+check "another file is served" bash -c "systemctl stop avroreg && runuser -u avroreg -- avroreg list --db /var/lib/avroreg/registry.db versions &&
+  mv /var/lib/avroreg/registry.db /var/lib/avroreg/moved.db && systemctl start avroreg && curl -s -f $url/subjects/orders/versions"
+sleep 1 # (a backup's name has its second)
+check "the backup follows it" systemctl start avroreg-backup
 check "a removal stops both registries" bash -c "dpkg -r avroreg && ! curl -s $url/config && ! curl -s http://127.0.0.1:8082/config"
+check "and the timers of both" bash -c "! systemctl is-active avroreg-backup.timer && ! systemctl is-active avroreg-watch@payments.timer"
+check "it is purged" dpkg -P avroreg
+
+check "the sources install it without a package" env AVROREG=/root/program /root/sources/packaging/install
+check "the program is the one that its record names" sha256sum -c /usr/share/avroreg/program
+mv /var/lib/avroreg/moved.db /var/lib/avroreg/registry.db
+check "it is enabled and starts" systemctl enable --now avroreg
+check "it serves the registry" answers 200 '[1]' "$url/subjects/orders/versions"
+check "its template starts the second one" bash -c "echo AVROREG_PORT=8082 >/etc/default/avroreg-payments && systemctl start avroreg@payments"
+check "a backup is made without the package" systemctl start avroreg-backup
+echo AVROREG_PORT=8083 >>/etc/default/avroreg
+check "installed again, it keeps the settings" bash -c "AVROREG=/root/program /root/sources/packaging/install && grep -qx AVROREG_PORT=8083 /etc/default/avroreg"
 counts

@@ -75,6 +75,16 @@ check "the registry starts again" podman start registry
 check "the acknowledged write is kept" eventually 120 through_nginx 200 '[1]' "$url/subjects/orders/versions"
 check "the registry stops at once" podman stop -t 10 registry
 
+check "a new volume takes the registry" podman run -d --name fresh "${closed[@]}" --network none -v fresh:/var/lib/avroreg "localhost/avroreg:$version"
+volume=$(podman volume inspect -f '{{.Mountpoint}}' fresh)
+check "the volume belongs to the image's user" test "$(stat -c %u "$volume")" = 10001
+check "the registry is in it" eventually 60 test -s "$volume/registry.db-wal"
+mkdir "$scratch/backup"
+check "the host copies it while it runs" "$here/../examples/backup/hot-copy" "$volume/registry.db" "$scratch/backup/registry.db"
+check "the image audits the copy" podman run --rm --user 0 --network none -v "$scratch/backup:/backup" "localhost/avroreg:$version" audit --db /backup/registry.db
+check "the image sets the variable of the C library" grep -qx GLIBC_TUNABLES=glibc.malloc.tcache_count=2000 \
+  <(podman inspect -f '{{range .Config.Env}}{{println .}}{{end}}' fresh)
+
 check "the pod file makes a pod" makes_pod "$here/oci/pod.yaml"
 check "its containers are read-only, without capabilities" is_closed avroreg-registry avroreg-nginx
 skipped "the start of that pod: its cgroup needs a limit that a container may not raise"

@@ -11,18 +11,19 @@
 set -u
 here=$(cd "$(dirname "$0")" && pwd)
 source "$here/checks.sh"
+source "$here/boot.sh"
 top=$(cd "$here/.." && pwd)
 program=$(realpath "${AVROREG:-$top/crates/avroreg/out/avroreg}")
 [ -x "$program" ] || { echo "packaging/try.sh: there is no program $program; build it, or name it in AVROREG" >&2; exit 1; }
 [ "$(id -u)" = 0 ] || { echo "packaging/try.sh: run this as root" >&2; exit 1; }
 export AVROREG=$program
 scratch=$(mktemp -d /var/tmp/avroreg-try.XXXXXX)
-booted=
+container=
 
 clean() {
-  [ -z "$booted" ] || kill "$booted" 2>/dev/null
+  [ -z "$container" ] || kill "$container" 2>/dev/null
   wait
-  remove_cgroup
+  remove_cgroup avroreg-try
   rm -rf --one-file-system "$scratch"
 }
 trap clean EXIT
@@ -51,6 +52,11 @@ same_bytes() {
   cp "$program" "$scratch/program"
   second=$(umask 077 && cd / && AVROREG=$scratch/program TZ=Asia/Tokyo "$here/deb/build" "$scratch/second") && cmp "$deb" "$second"
 }
+# older: the same package with a lower version, in the tree.
+older() {
+  dpkg-deb -R "$deb" "$scratch/older" && sed -i 's/^Version: .*/Version: 0.0.9/' "$scratch/older/DEBIAN/control" &&
+    dpkg-deb --root-owner-group -Znone -b "$scratch/older" "$scratch/debian/tmp/older.deb"
+}
 # lintian prints errors and warnings, and nothing else.
 no_tags() { [ -z "$(lintian --allow-root --tag-display-limit 0 "$deb" 2>&1 | grep '^[EW]:' | tee /dev/stderr)" ]; }
 no_remarks() { [ -z "$(mandoc -T lint -W warning "$here/man/avroreg.1" 2>&1 | tee /dev/stderr)" ]; }
@@ -67,13 +73,20 @@ try_deb() {
   check "the service is enabled" test -L "$scratch/debian/etc/systemd/system/multi-user.target.wants/avroreg.service"
   check "every file is as packaged" inside debian dpkg -V avroreg
   echo '{"type":"int"}' >"$scratch/debian/tmp/schema"
+  check "the program is the one that its record names" inside debian sha256sum --quiet -c /usr/share/avroreg/program
+  check "the record doesn't call this program proved" grep -q '^# proved: not known' "$scratch/debian/usr/share/avroreg/program"
   check "the program runs" grep -qx '"int"' <(inside debian avroreg text /tmp/schema)
-  check "the units are valid" inside debian systemd-analyze verify --man=no avroreg.service avroreg@orders.service avroreg-backup.timer avroreg-watch.timer
+  check "the units are valid" inside debian systemd-analyze verify --man=no avroreg.service avroreg@orders.service avroreg-backup.timer avroreg-watch.timer \
+    avroreg-backup@orders.timer avroreg-watch@orders.timer
   mkdir -p "$scratch/debian/var/lib/avroreg"
   echo data >"$scratch/debian/var/lib/avroreg/registry.db"
   echo AVROREG_PORT=9000 >>"$scratch/debian/etc/default/avroreg"
   check "it is upgraded" inside debian dpkg -i --force-confdef --force-confold /tmp/avroreg.deb
   check "an upgrade keeps the settings" grep -q AVROREG_PORT=9000 "$scratch/debian/etc/default/avroreg"
+  check "an older package is built" older
+  check "it goes back to the older package" inside debian apt-get install -y -q --allow-downgrades -o Dpkg::Options::=--force-confold \
+    /tmp/older.deb
+  check "the older version is there" grep -qx 0.0.9 <(inside debian dpkg-query -W -f '${Version}\n' avroreg)
   check "it is removed" inside debian dpkg -r avroreg
   check "a removal keeps the settings" test -f "$scratch/debian/etc/default/avroreg"
   check "a purge says that it keeps the registry" grep -q "kept /var/lib/avroreg" <(inside debian dpkg -P avroreg 2>&1)
@@ -81,49 +94,21 @@ try_deb() {
   check "a purge removes everything else" test -z "$(find "$scratch/debian/etc" "$scratch/debian/usr" "$scratch/debian/lib/" -name '*avroreg*' -print -quit)"
 }
 
-# remove_cgroup: removes the cgroup that `boot` made.
-remove_cgroup() {
-  unshare -m bash -c 'umount -R /sys/fs/cgroup && mount -t cgroup2 cgroup2 /sys/fs/cgroup &&
-    find /sys/fs/cgroup/avroreg-try -depth -type d -exec rmdir {} +' 2>/dev/null
-}
-
-# boot NAME: boots that tree; $leader is its process 1. A host that mounts cgroups of version 1 gets a mount namespace with
-# version 2 alone.
-boot() {
-  local prepare=: _
-  if [ "$(stat -fc %T /sys/fs/cgroup)" != cgroup2fs ]; then
-    prepare='umount -R /sys/fs/cgroup && mount -t cgroup2 cgroup2 /sys/fs/cgroup && mkdir -p /sys/fs/cgroup/avroreg-try && echo $$ >/sys/fs/cgroup/avroreg-try/cgroup.procs'
-  fi
-  SYSTEMD_SECCOMP=0 unshare -m bash -c "$prepare"' && exec systemd-nspawn "$@"' boot --boot -D "$scratch/$1" --register=no \
-    --keep-unit --private-network --console=pipe --capability=all -M avroreg-try >"$scratch/boot.log" 2>&1 </dev/null &
-  booted=$!
-  for _ in $(seq 1200); do
-    leader=$(pgrep -P "$booted" -x systemd | head -n 1)
-    [ -z "$leader" ] || [[ "$(booted systemctl is-system-running 2>/dev/null)" != running && "$(booted systemctl is-system-running 2>/dev/null)" != degraded ]] || return 0
-    kill -0 "$booted" 2>/dev/null || break
-    sleep 0.5
-  done
-  tail -n 5 "$scratch/boot.log"
-  return 1
-}
-
-# booted COMMAND..: a command in the booted tree.
-booted() {
-  nsenter -t "$leader" -m -u -i -n -p --root="/proc/$leader/root" --wd="/proc/$leader/root" \
-    env -i PATH=/usr/sbin:/usr/bin:/sbin:/bin LANG=C.UTF-8 SYSTEMD_PAGER= "$@"
-}
-
 try_systemd() {
   [ -n "${deb:-}" ] || check "the package is built" built || return
   fresh booted || return
   cp "$deb" "$scratch/booted/root/avroreg.deb"
   cp "$here/checks.sh" "$here/try-booted.sh" "$scratch/booted/root/"
-  check "systemd boots" boot booted || return
-  booted bash /root/try-booted.sh | tee "$scratch/booted.log"
+  mkdir -p "$scratch/booted/root/sources/examples"
+  cp -r "$here" "$scratch/booted/root/sources/"
+  cp -r "$top/examples/backup" "$top/examples/watch" "$scratch/booted/root/sources/examples/"
+  cp "$program" "$scratch/booted/root/program"
+  check "systemd boots" boot_tree avroreg-try "$scratch/booted" "$scratch/boot.log" --private-network || return
+  in_tree "$leader" bash /root/try-booted.sh | tee "$scratch/booted.log"
   take_counts "$scratch/booted.log"
   kill -s RTMIN+4 "$leader"
-  wait "$booted"
-  booted=
+  wait "$container"
+  container=
 }
 
 # In namespaces of their own, so that this machine's network, cgroups and images stay as they are.
