@@ -15,7 +15,7 @@ cd "$examples" || exit 1
 python="curl python3-confluent-kafka python3-requests python3-avro"
 go="golang-go golang-github-lensesio-schema-registry-dev"
 try first-hour "curl sqlite3" ./first-hour.sh
-try backup "curl python3" backup/try.sh 5
+try backup "curl python3" backup/try.sh
 try watch "curl python3" watch/try.sh
 try check-schemas "curl jq python3-avro" check-schemas/try.sh
 try clients "$python $go" clients/run.sh

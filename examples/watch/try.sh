@@ -59,6 +59,10 @@ shows backup_versions 2
 shows backup_schemas 1
 [ "$(age)" -lt 3600 ] || fail "the new backup is $(age) seconds old"
 echo "up: the metrics are right"
+python3 "$here/watch" "$url" "$scratch/registry.db" "$scratch/named.prom" --backups "$scratch/backups" --registry orders || fail "watch failed"
+[ "$(grep -c '^avroreg_[a-z_]*{registry="orders"' "$scratch/named.prom")" = "$(grep -vc '^#' "$scratch/named.prom")" ] &&
+  grep -q '^avroreg_file_bytes{registry="orders",file="log"} ' "$scratch/named.prom" || fail "a metric lacks the registry's name"
+echo "several registries: each metric has the name"
 
 for name in $(grep -oh 'avroreg_[a-z_]*' "$here/alerts.yml" "$here/dashboard.json" | sort -u); do
   grep -q "^# TYPE $name gauge$" "$metrics" || fail "the rules or the dashboard name $name, which watch doesn't write"
