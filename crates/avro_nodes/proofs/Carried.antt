@@ -11,7 +11,7 @@ use Rattle.avro_nodes.specs.declared.node.Order.{Order}
 use Rattle.avro_nodes.specs.declared.node.Order.TheVariants.{Ascending, Descending, Ignore}
 use Rattle.avro_nodes.specs.Names.{has_dot, namespace_of}
 use Rattle.avro_nodes.specs.Nodes.{NamedView, FieldView, NodeView, primitive, array, mapping, union, enumeration, fixed, rec}
-use Rattle.avro_nodes.specs.Identity.{kind_text, texts, with_text, with_aliases, with_default, with_order, with_namespace, primitive_value, array_value, map_value, enum_value, fixed_value, record_value, field_value, Speller, Spelt, branch_items, field_items, name_of, spelt_node, spelt_at}
+use Rattle.avro_nodes.specs.Identity.{kind_text, texts, with_text, with_aliases, with_default, with_order, with_namespace, primitive_value, array_value, map_value, enum_value, fixed_value, record_value, field_value, ValueAt, Counted, branch_items, field_items, name_of, node_value, identity_at}
 
 abbrev pub AllMembers : (Data → Type 0) → Members → Type 0
 AllMembers P no_members = Unit {0}
@@ -146,7 +146,7 @@ module _ (E : Data → Type 0) (F : Members → Type 0) (K : ℕ → Data → Ty
 
   -- ---- places
 
-  module _ (one : Speller) (n : ℕ) (each : (place written : ℕ) → K n (one place written).0) where
+  module _ (one : ValueAt) (n : ℕ) (each : (place written : ℕ) → K n (one place written).0) where
     branches_are : (ps : List ℕ) (written : ℕ) → AllItems (K n) (branch_items one ps written).0
     unfolding branch_items
     branches_are [] written = tt
@@ -160,7 +160,7 @@ module _ (E : Data → Type 0) (F : Members → Type 0) (K : ℕ → Data → Ty
   lifted : (n m : ℕ) (k : ℕ) (d : Data) → n + k ≡ m → K n d → K m d
   lifted n m k d e h = let P : ℕ → Type 0 = λ i. K i d in subst P e (more n k d h)
 
-  node_is : (types : List ℕ → Speller) (n : ℕ) (each : (enclosing : List ℕ) (place written : ℕ) → K n (types enclosing place written).0) (enclosing : List ℕ) (written : ℕ) (o : Option NodeView) → IfSome o (OfNode E F) → K (n + 3) (spelt_node types enclosing written o).0
+  node_is : (types : List ℕ → ValueAt) (n : ℕ) (each : (enclosing : List ℕ) (place written : ℕ) → K n (types enclosing place written).0) (enclosing : List ℕ) (written : ℕ) (o : Option NodeView) → IfSome o (OfNode E F) → K (n + 3) (node_value types enclosing written o).0
   node_is types n each enclosing written None h = of_null (n + 3)
   node_is types n each enclosing written (Some (primitive kind extra)) h = lifted (n + 1) (n + 3) 2 _ (omega arith) (primitive_is n kind extra h)
   node_is types n each enclosing written (Some (array items extra)) h = lifted (n + 1) (n + 3) 2 _ (omega arith) (array_is n _ extra (each enclosing items (written + 1)) h)
@@ -171,16 +171,16 @@ module _ (E : Data → Type 0) (F : Members → Type 0) (K : ℕ → Data → Ty
   node_is types n each enclosing written (Some (rec named fields extra)) h =
       lifted (n + 1 + 2) (n + 3) 0 _ (omega arith) (record_is (n + 1) enclosing named _ extra (fields_are (types (namespace_of named.name)) n (each (namespace_of named.name)) fields (written + 1) h.0) h.1)
 
-  either_is : (b : Bool) (m : ℕ) (x y : Spelt Data) → K m x.0 → K m y.0 → K m (cond b x y).0
+  either_is : (b : Bool) (m : ℕ) (x y : Counted Data) → K m x.0 → K m y.0 → K m (cond b x y).0
   either_is true m x y h g = h
   either_is false m x y h g = g
 
   -- what holds so of each node holds of the value of each type
-  pub spelt_is : (n : ℕ) (nodes : List NodeView) → AllByRecursion (OfNode E F) nodes → (enclosing : List ℕ) (place written : ℕ) → K (3 * n) (spelt_at n nodes enclosing place written).0
-  unfolding spelt_at
+  pub spelt_is : (n : ℕ) (nodes : List NodeView) → AllByRecursion (OfNode E F) nodes → (enclosing : List ℕ) (place written : ℕ) → K (3 * n) (identity_at n nodes enclosing place written).0
+  unfolding identity_at
   spelt_is zero nodes all enclosing place written = of_null (3 * zero)
   spelt_is (suc n) nodes all enclosing place written =
       let three : 3 * n + 3 ≡ 3 * suc n = omega arith in
-      let found = node_is (spelt_at n nodes) (3 * n) (λ s p w. spelt_is n nodes all s p w) enclosing written (slice_get nodes place) (of_place (OfNode E F) nodes all place) in
-      either_is (place == written) (3 * suc n) (spelt_node (spelt_at n nodes) enclosing written (slice_get nodes place)) (string (name_of (slice_get nodes place)), written)
+      let found = node_is (identity_at n nodes) (3 * n) (λ s p w. spelt_is n nodes all s p w) enclosing written (slice_get nodes place) (of_place (OfNode E F) nodes all place) in
+      either_is (place == written) (3 * suc n) (node_value (identity_at n nodes) enclosing written (slice_get nodes place)) (string (name_of (slice_get nodes place)), written)
       (lifted (3 * n + 3) (3 * suc n) 0 _ (omega arith) found) (of_text (3 * suc n) (name_of (slice_get nodes place)))

@@ -10,8 +10,8 @@ use Rattle.serde_json.proofs.Views.{Entry}
 use Rattle.avro_nodes.specs.declared.node.Kind.{Kind}
 use Rattle.avro_nodes.specs.declared.node.Field.{Field}
 use Rattle.avro_nodes.specs.Nodes.{field_view}
-use Rattle.avro_nodes.specs.Identity.{with_text, kind_text, primitive_value, field_value, Spelt, Speller, then_items, branch_items, field_items}
-use Rattle.avro_nodes.specs.Inside.Objects.{WritesSpelt}
+use Rattle.avro_nodes.specs.Identity.{with_text, kind_text, primitive_value, field_value, Counted, ValueAt, then_items, branch_items, field_items}
+use Rattle.avro_nodes.specs.Inside.Objects.{WritesCounted}
 use Rattle.avro_nodes.proofs.Written.{items_on}
 
 pub drop_item : {A : Type 0} (xs : List A) (i : ℕ) (x : A) → i < length xs → drop i xs ≡ get_or xs i x ∷ drop (i + 1) xs
@@ -26,20 +26,20 @@ primitive_with kind [] other = absurd (other refl)
 primitive_with kind (x ∷ es) other = refl
 
 -- items that begin with a value, where the count goes on after it
-items_turn : (d : Data) (more : ℕ → Spelt Items) (all : Spelt Items) (next next2 : ℕ) (old mid new : List Token) → all ≡ then_items d (more next) → next2 ≡ next → WritesValue d old mid → WritesItems (more next2).0 mid new → WritesItems all.0 old new
+items_turn : (d : Data) (more : ℕ → Counted Items) (all : Counted Items) (next next2 : ℕ) (old mid new : List Token) → all ≡ then_items d (more next) → next2 ≡ next → WritesValue d old mid → WritesItems (more next2).0 mid new → WritesItems all.0 old new
 items_turn d more all next next2 old mid new is same value rest =
-    subst (λ (s : Spelt Items). WritesItems s.0 old new) (sym is) (items_on d (more next).0 old mid new value (subst (λ (n : ℕ). WritesItems (more n).0 mid new) same rest))
+    subst (λ (s : Counted Items). WritesItems s.0 old new) (sym is) (items_on d (more next).0 old mid new value (subst (λ (n : ℕ). WritesItems (more n).0 mid new) same rest))
 
-count_turn : (d : Data) (more : ℕ → Spelt Items) (all : Spelt Items) (next next2 : ℕ) → all ≡ then_items d (more next) → next2 ≡ next → (more next2).1 ≡ all.1
-count_turn d more all next next2 is same = ap (λ (n : ℕ). (more n).1) same ∙ ap (λ (s : Spelt Items). s.1) (sym is)
+count_turn : (d : Data) (more : ℕ → Counted Items) (all : Counted Items) (next next2 : ℕ) → all ≡ then_items d (more next) → next2 ≡ next → (more next2).1 ≡ all.1
+count_turn d more all next next2 is same = ap (λ (n : ℕ). (more n).1) same ∙ ap (λ (s : Counted Items). s.1) (sym is)
 
-module _ (one : Speller) where
+module _ (one : ValueAt) where
   module _ (ps : List ℕ) (i written written2 : ℕ) (h : i < length ps) where
     branch_turn : branch_items one (drop i ps) written ≡ then_items (one (get_or ps i 0) written).0 (branch_items one (drop (i + 1) ps) (one (get_or ps i 0) written).1)
     unfolding branch_items
     branch_turn = ap (λ (qs : List ℕ). branch_items one qs written) (drop_item ps i 0 h)
 
-    pub branch_on : (old mid new : List Token) → WritesSpelt (one (get_or ps i 0) written) old mid written2 → WritesItems (branch_items one (drop (i + 1) ps) written2).0 mid new → WritesItems (branch_items one (drop i ps) written).0 old new
+    pub branch_on : (old mid new : List Token) → WritesCounted (one (get_or ps i 0) written) old mid written2 → WritesItems (branch_items one (drop (i + 1) ps) written2).0 mid new → WritesItems (branch_items one (drop i ps) written).0 old new
     branch_on old mid new spelt rest = items_turn _ (branch_items one (drop (i + 1) ps)) (branch_items one (drop i ps) written) _ written2 old mid new branch_turn spelt.1 spelt.0 rest
 
     pub branch_count : written2 ≡ (one (get_or ps i 0) written).1 → (branch_items one (drop (i + 1) ps) written2).1 ≡ (branch_items one (drop i ps) written).1

@@ -7,7 +7,7 @@ use Rattle.std.proofs.lemmas.Bool.{false≢true, and_parts}
 use Rattle.std.proofs.lemmas.Map.Text.{is_eq-slice_cmp}
 use Rattle.std.proofs.lemmas.Slice.Eq.{bytes_eq-Decides}
 use Rattle.serde_json.specs.Data.{Data, Members, no_members, member, put}
-use Rattle.avro_nodes.specs.Inside.Objects.{Part, put_parts, before_then, behind, merged}
+use Rattle.avro_nodes.specs.Inside.Objects.{Attribute, put_attributes, before_then, rest_after, merged}
 
 abbrev pub order : List ℕ → List ℕ → Ordering
 order k l = slice_cmp nat_cmp k l
@@ -17,13 +17,13 @@ same_name k l e = (bytes_eq-Decides k l).0 (sym (is_eq-slice_cmp k l) ∙ ap is_
 
 -- ---- one attribute
 
-put-at : (o : Ordering) (k : List ℕ) (d : Data) (l : List ℕ) (e : Data) (ms : Members) → order k l ≡ o → put k d ms ≡ before_then k ms (member k d (behind k ms))
-    → put k d (member l e ms) ≡ before_then k (member l e ms) (member k d (behind k (member l e ms)))
+put-at : (o : Ordering) (k : List ℕ) (d : Data) (l : List ℕ) (e : Data) (ms : Members) → order k l ≡ o → put k d ms ≡ before_then k ms (member k d (rest_after k ms))
+    → put k d (member l e ms) ≡ before_then k (member l e ms) (member k d (rest_after k (member l e ms)))
 put-at Less k d l e ms is more = rw is refl
 put-at Equal k d l e ms is more = rw is (ap (λ (m : List ℕ). member m d ms) (sym (same_name k l is)))
 put-at Greater k d l e ms is more = rw is (ap (member l e) more)
 
-put-before_then : (k : List ℕ) (d : Data) (ms : Members) → put k d ms ≡ before_then k ms (member k d (behind k ms))
+put-before_then : (k : List ℕ) (d : Data) (ms : Members) → put k d ms ≡ before_then k ms (member k d (rest_after k ms))
 put-before_then k d no_members = refl
 put-before_then k d (member l e ms) = put-at (order k l) k d l e ms refl (put-before_then k d ms)
 
@@ -32,7 +32,7 @@ put-before_then k d (member l e ms) = put-at (order k l) k d l e ms refl (put-be
 module _ (k l : List ℕ) (d : Data) (below : order k l ≡ Less) where
   -- what is put behind a name changes nothing before it
   abbrev Apart : Members → Type 0
-  Apart ms = ((more : Members) → before_then k (put l d ms) more ≡ before_then k ms more) × (behind k (put l d ms) ≡ put l d (behind k ms))
+  Apart ms = ((more : Members) → before_then k (put l d ms) more ≡ before_then k ms more) × (rest_after k (put l d ms) ≡ put l d (rest_after k ms))
 
   below_all : (m : List ℕ) → order l m ≡ Less → order k m ≡ Less
   below_all m e = nat_list_cmp_total.trans k l m below e
@@ -55,11 +55,11 @@ module _ (k l : List ℕ) (d : Data) (below : order k l ≡ Less) where
 
 -- ---- attributes in byte order
 
-abbrev pub all_after : List ℕ → List Part → Bool
+abbrev pub all_after : List ℕ → List Attribute → Bool
 all_after k [] = true
 all_after k (p ∷ ps) = is_lt (slice_cmp nat_cmp k p.0) && all_after k ps
 
-abbrev pub ascending : List Part → Bool
+abbrev pub ascending : List Attribute → Bool
 ascending [] = true
 ascending (p ∷ ps) = all_after p.0 ps && ascending ps
 
@@ -69,33 +69,33 @@ is_less Equal e = absurd (false≢true e)
 is_less Greater e = absurd (false≢true e)
 
 module _ (k : List ℕ) where
-  before_later : (ps : List Part) (others more : Members) → all_after k ps ≡ true → before_then k (put_parts ps others) more ≡ before_then k others more
+  before_later : (ps : List Attribute) (others more : Members) → all_after k ps ≡ true → before_then k (put_attributes ps others) more ≡ before_then k others more
   before_later [] others more e = refl
   before_later ((l, None) ∷ ps) others more e = let h = and_parts (is_lt (order k l)) (all_after k ps) e in before_later ps others more h.1
   before_later ((l, Some d) ∷ ps) others more e =
       let h = and_parts (is_lt (order k l)) (all_after k ps) e in
-      (apart k l d (is_less (order k l) h.0) (put_parts ps others)).0 more ∙ before_later ps others more h.1
+      (apart k l d (is_less (order k l) h.0) (put_attributes ps others)).0 more ∙ before_later ps others more h.1
 
-  behind_later : (ps : List Part) (others : Members) → all_after k ps ≡ true → behind k (put_parts ps others) ≡ put_parts ps (behind k others)
-  behind_later [] others e = refl
-  behind_later ((l, None) ∷ ps) others e = let h = and_parts (is_lt (order k l)) (all_after k ps) e in behind_later ps others h.1
-  behind_later ((l, Some d) ∷ ps) others e =
+  rest_later : (ps : List Attribute) (others : Members) → all_after k ps ≡ true → rest_after k (put_attributes ps others) ≡ put_attributes ps (rest_after k others)
+  rest_later [] others e = refl
+  rest_later ((l, None) ∷ ps) others e = let h = and_parts (is_lt (order k l)) (all_after k ps) e in rest_later ps others h.1
+  rest_later ((l, Some d) ∷ ps) others e =
       let h = and_parts (is_lt (order k l)) (all_after k ps) e in
-      (apart k l d (is_less (order k l) h.0) (put_parts ps others)).1 ∙ ap (put l d) (behind_later ps others h.1)
+      (apart k l d (is_less (order k l) h.0) (put_attributes ps others)).1 ∙ ap (put l d) (rest_later ps others h.1)
 
-pub merged-put_parts : (ps : List Part) (others : Members) → ascending ps ≡ true → merged ps others ≡ put_parts ps others
-merged-put_parts [] others e = refl
-merged-put_parts ((k, None) ∷ ps) others e = merged-put_parts ps others (and_parts (all_after k ps) (ascending ps) e).1
-merged-put_parts ((k, Some d) ∷ ps) others e =
+pub merged-put_attributes : (ps : List Attribute) (others : Members) → ascending ps ≡ true → merged ps others ≡ put_attributes ps others
+merged-put_attributes [] others e = refl
+merged-put_attributes ((k, None) ∷ ps) others e = merged-put_attributes ps others (and_parts (all_after k ps) (ascending ps) e).1
+merged-put_attributes ((k, Some d) ∷ ps) others e =
     let h = and_parts (all_after k ps) (ascending ps) e in
-    ap (λ (ms : Members). before_then k others (member k d ms)) (merged-put_parts ps (behind k others) h.1 ∙ sym (behind_later k ps others h.0))
-    ∙ sym (before_later k ps others (member k d (behind k (put_parts ps others))) h.0)
-    ∙ sym (put-before_then k d (put_parts ps others))
+    ap (λ (ms : Members). before_then k others (member k d ms)) (merged-put_attributes ps (rest_after k others) h.1 ∙ sym (rest_later k ps others h.0))
+    ∙ sym (before_later k ps others (member k d (rest_after k (put_attributes ps others))) h.0)
+    ∙ sym (put-before_then k d (put_attributes ps others))
 
 -- ---- a member that stands before the name
 
-pub behind_next : (k l : List ℕ) (d : Data) (ms : Members) → order k l ≡ Greater → behind k (member l d ms) ≡ behind k ms
-behind_next k l d ms is = rw is refl
+pub rest_next : (k l : List ℕ) (d : Data) (ms : Members) → order k l ≡ Greater → rest_after k (member l d ms) ≡ rest_after k ms
+rest_next k l d ms is = rw is refl
 
 pub before_next : (k l : List ℕ) (d : Data) (ms more : Members) → order k l ≡ Greater → before_then k (member l d ms) more ≡ member l d (before_then k ms more)
 before_next k l d ms more is = rw is refl

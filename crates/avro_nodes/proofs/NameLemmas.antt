@@ -34,14 +34,14 @@ further : (end i : ℕ) (s : List ℕ) → (end ≡ 0) ⊎ ((end < i) × (get_or
 further end i s (inl e) = inl e
 further end i s (inr e) = inr (omega arith, e.1)
 
-abbrev pub Ends : List ℕ → ℕ → ℕ → Type 0
-Ends s end i = (take end s ≡ namespace_of (take i s)) × ((end ≡ 0) ⊎ ((end < i) × (get_or s end 0 ≡ 46)))
+abbrev pub EndsObject : List ℕ → ℕ → ℕ → Type 0
+EndsObject s end i = (take end s ≡ namespace_of (take i s)) × ((end ≡ 0) ⊎ ((end < i) × (get_or s end 0 ≡ 46)))
 
-pub at_dot : (s : List ℕ) (i : ℕ) → i < length s → get_or s i 0 ≡ 46 → Ends s i (i + 1)
+pub at_dot : (s : List ℕ) (i : ℕ) → i < length s → get_or s i 0 ≡ 46 → EndsObject s i (i + 1)
 at_dot s i h e =
     (sym (ap namespace_of (rw add-one (take-suc s i 0 h)) ∙ namespace_at_dot (take i s) (get_or s i 0) (rw e refl)), inr (omega arith, e))
 
-pub past_dot : (s : List ℕ) (end i : ℕ) → i < length s → (get_or s i 0 ≡ 46 → ⊥) → Ends s end i → Ends s end (i + 1)
+pub past_dot : (s : List ℕ) (end i : ℕ) → i < length s → (get_or s i 0 ≡ 46 → ⊥) → EndsObject s end i → EndsObject s end (i + 1)
 past_dot s end i h other so_far =
     (so_far.0 ∙ sym (ap namespace_of (rw add-one (take-suc s i 0 h)) ∙ namespace_past (take i s) (get_or s i 0) (not_dot (get_or s i 0) other)), further end i s so_far.1)
 
@@ -67,9 +67,9 @@ none_before : (s : List ℕ) (start : ℕ) → start ≤ length s → Stops s st
 none_before s start h (inl e) = rw e refl
 none_before s start h (inr e) = suffix_len-take_no is_no_dot s start 0 e.0 h (rw e.1 refl)
 
-pub part_behind : (s : List ℕ) (start : ℕ) → start ≤ length s → start + suffix_len is_no_dot s ≡ length s + suffix_len is_no_dot (take start s) → Stops s start → drop start s ≡ last_part s
+pub part_after_dot : (s : List ℕ) (start : ℕ) → start ≤ length s → start + suffix_len is_no_dot s ≡ length s + suffix_len is_no_dot (take start s) → Stops s start → drop start s ≡ last_part s
 unfolding last_part
-part_behind s start h passed stops =
+part_after_dot s start h passed stops =
     let none = none_before s start h stops in
     let same : start ≡ length s - suffix_len is_no_dot s = omega arith in
     ap (λ (n : ℕ). drop n s) same

@@ -93,13 +93,13 @@ marks_skipped bs from (suc n) h each =
     ∙ joined_more Inside Inside bs from (from + n) (from + n + 1) (omega arith) (omega arith) (one_inside bs (from + n) (omega (arith, h)) (each n (omega arith)))
     ∙ ap (λ m. before (slice_range bs from m) (joined (pieces Inside (drop m bs)))) next
 
-pub length_behind : (bs : List ℕ) (from : ℕ) → length (take (length bs - from) (drop from bs)) ≡ length bs - from
-length_behind bs from = length-take-le (length bs - from) (drop from bs) (omega (arith, length-drop from bs))
+pub length_from : (bs : List ℕ) (from : ℕ) → length (take (length bs - from) (drop from bs)) ≡ length bs - from
+length_from bs from = length-take-le (length bs - from) (drop from bs) (omega (arith, length-drop from bs))
 
 -- a byte of what is searched that is no mark is none of the text
-pub plain_behind : (bs : List ℕ) (from k : ℕ) → k < length bs - from → ¬ ((get_or (take (length bs - from) (drop from bs)) k 0 == 34 || get_or (take (length bs - from) (drop from bs)) k 0 == 92) ≡ true)
+pub plain_from : (bs : List ℕ) (from k : ℕ) → k < length bs - from → ¬ ((get_or (take (length bs - from) (drop from bs)) k 0 == 34 || get_or (take (length bs - from) (drop from bs)) k 0 == 92) ≡ true)
     → IsPlainByte (get_or bs (from + k) 0)
-plain_behind bs from k h differs =
+plain_from bs from k h differs =
     let same : get_or (take (length bs - from) (drop from bs)) k 0 ≡ get_or bs (from + k) 0 = get_or-take (length bs - from) (drop from bs) k 0 h ∙ get_or-drop from bs k 0 in
     subst IsPlainByte same (false_from_ne_true (get_or (take (length bs - from) (drop from bs)) k 0 == 34 || get_or (take (length bs - from) (drop from bs)) k 0 == 92) differs)
 

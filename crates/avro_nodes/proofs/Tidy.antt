@@ -5,7 +5,7 @@ use Rattle.std.specs.List.{AllByRecursion}
 use Rattle.serde_json.specs.Data.{Data, null, boolean, number, string, array, object, Items, no_items, item, Members, no_members, member, put}
 use Rattle.avro_nodes.specs.Limits.{max_nesting}
 use Rattle.avro_nodes.specs.Nodes.{NodeView}
-use Rattle.avro_nodes.specs.Inside.Objects.{AllBehind, AreOrdered}
+use Rattle.avro_nodes.specs.Inside.Objects.{AllAfter, AreOrdered}
 use Rattle.avro_nodes.specs.Whole.{is_whole_number, has_whole_numbers, items_have_whole_numbers, members_have_whole_numbers}
 use Rattle.avro_nodes.specs.Identity.{texts, identity_value, members_pass, nodes_pass}
 use Rattle.avro_nodes.proofs.Carried.{AllMembers, AllItems, OfNode, all_put, spelt_is}
@@ -27,7 +27,7 @@ abbrev mutual
 
   pub TidyMembers : Members → Type 0
   TidyMembers no_members = Unit {0}
-  TidyMembers (member k d ms) = IsTidy d × AllBehind k ms × TidyMembers ms
+  TidyMembers (member k d ms) = IsTidy d × AllAfter k ms × TidyMembers ms
 
 abbrev pub TidyNodes : List NodeView → Type 0
 TidyNodes nodes = AllByRecursion (OfNode IsTidy TidyMembers) nodes

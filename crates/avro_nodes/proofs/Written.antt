@@ -14,11 +14,11 @@ use Rattle.serde_json.specs.Read.{number_of, of_items, of_members}
 use Rattle.serde_json.specs.View.{members_view}
 use Rattle.serde_json.specs.Written.{number_text, unless_float, outline, members_outline, blank_members, WritesValue, WritesItems}
 use Rattle.serde_json.proofs.Views.{Entry}
-use Rattle.avro_nodes.specs.Inside.Objects.{Part, AreJsonOf, Ends, merged, put_parts, behind, WritesBefore, WritesName, WritesPart, AllBehind, AreOrdered, some_texts, null_namespace}
+use Rattle.avro_nodes.specs.Inside.Objects.{Attribute, AreJsonOf, EndsObject, merged, put_attributes, rest_after, WritesOthersBefore, WritesName, WritesAttribute, AllAfter, AreOrdered, some_texts, null_namespace}
 use Rattle.avro_nodes.specs.Nodes.{texts_view}
 use Rattle.avro_nodes.specs.Identity.{texts}
 use Rattle.avro_nodes.specs.Names.{has_dot}
-use Rattle.avro_nodes.proofs.Merged.{order, ascending, merged-put_parts}
+use Rattle.avro_nodes.proofs.Merged.{order, ascending, merged-put_attributes}
 
 -- ---- values without parts
 
@@ -59,10 +59,10 @@ array_ended ds old opened new e w = (
 
 -- ---- members
 
-pub members_ended : (old new : List Token) → new ≡ old ++ end_object ∷ [] → Ends no_members old new
+pub members_ended : (old new : List Token) → new ≡ old ++ end_object ∷ [] → EndsObject no_members old new
 members_ended old new e = (json.no_members, e, tt)
 
-pub members_on : (k : List ℕ) (d : Data) (ms : Members) (old named mid new : List Token) → named ≡ old ++ key k ∷ [] → WritesValue d named mid → Ends ms mid new → Ends (member k d ms) old new
+pub members_on : (k : List ℕ) (d : Data) (ms : Members) (old named mid new : List Token) → named ≡ old ++ key k ∷ [] → WritesValue d named mid → EndsObject ms mid new → EndsObject (member k d ms) old new
 members_on k d ms old named mid new e v w =
     let value = tree.json_tokens v.0 in
     let rest = tree.members_tokens w.0 in (
@@ -81,14 +81,14 @@ pub joined_on : (done : Members) (k : List ℕ) (d : Data) (ms : Members) → jo
 joined_on no_members k d ms = refl
 joined_on (member l e done) k d ms = ap (member l e) (joined_on done k d ms)
 
-behind_middle : (l : List ℕ) (done : Members) (k : List ℕ) (d : Data) (ms : Members) → AllBehind l (joined done (member k d ms)) → order l k ≡ Less
-behind_middle l no_members k d ms h = h.0
-behind_middle l (member m e done) k d ms h = behind_middle l done k d ms h.1
+after_middle : (l : List ℕ) (done : Members) (k : List ℕ) (d : Data) (ms : Members) → AllAfter l (joined done (member k d ms)) → order l k ≡ Less
+after_middle l no_members k d ms h = h.0
+after_middle l (member m e done) k d ms h = after_middle l done k d ms h.1
 
 pub put_last : (done : Members) (k : List ℕ) (d : Data) (ms : Members) → AreOrdered (joined done (member k d ms)) → put k d done ≡ joined done (member k d no_members)
 put_last no_members k d ms h = refl
 put_last (member l e done) k d ms h =
-    let above : order k l ≡ Greater = nat_list_cmp_total.antisymm k l ∙ ap ordering_reverse (behind_middle l done k d ms h.0) in
+    let above : order k l ≡ Greater = nat_list_cmp_total.antisymm k l ∙ ap ordering_reverse (after_middle l done k d ms h.0) in
     rw above (ap (member l e) (put_last done k d ms h.1))
 
 pub joined_nothing : (done : Members) → joined done no_members ≡ done
@@ -118,7 +118,7 @@ members_outlined (member k d ms) json.no_members h = absurd h
 members_outlined no_members (json.member k j js) h = absurd h
 members_outlined (member l d ms) (json.member k j js) h = rw (h.0, h.1.2) (ap (json.member l (outline d)) (members_outlined ms js h.2))
 
-pub object_ended : (ms : Members) (old opened new : List Token) → opened ≡ old ++ begin_object ∷ [] → Ends ms opened new → AreOrdered ms → WritesValue (object ms) old new
+pub object_ended : (ms : Members) (old opened new : List Token) → opened ≡ old ++ begin_object ∷ [] → EndsObject ms opened new → AreOrdered ms → WritesValue (object ms) old new
 object_ended ms old opened new e w o = (
   json.object w.0,
   w.1 ∙ ap (λ (ts : List Token). ts ++ tree.members_tokens w.0) e ∙ append_assoc old (begin_object ∷ []) (tree.members_tokens w.0),
@@ -129,66 +129,66 @@ object_ended ms old opened new e w o = (
 
 -- ---- a put keeps the order
 
-pub behind_further : (k l : List ℕ) (ms : Members) → order k l ≡ Less → AllBehind l ms → AllBehind k ms
-behind_further k l no_members below h = tt
-behind_further k l (member m e ms) below h = (nat_list_cmp_total.trans k l m below h.0, behind_further k l ms below h.1)
+pub after_further : (k l : List ℕ) (ms : Members) → order k l ≡ Less → AllAfter l ms → AllAfter k ms
+after_further k l no_members below h = tt
+after_further k l (member m e ms) below h = (nat_list_cmp_total.trans k l m below h.0, after_further k l ms below h.1)
 
-behind_put_at : (o : Ordering) (m k : List ℕ) (d : Data) (l : List ℕ) (e : Data) (ms : Members) → order k l ≡ o → order m k ≡ Less → AllBehind m (member l e ms) → AllBehind m (put k d ms) → AllBehind m (put k d (member l e ms))
-behind_put_at Less m k d l e ms is below h more = rw is (below, h)
-behind_put_at Equal m k d l e ms is below h more = rw is h
-behind_put_at Greater m k d l e ms is below h more = rw is (h.0, more)
+after_put_at : (o : Ordering) (m k : List ℕ) (d : Data) (l : List ℕ) (e : Data) (ms : Members) → order k l ≡ o → order m k ≡ Less → AllAfter m (member l e ms) → AllAfter m (put k d ms) → AllAfter m (put k d (member l e ms))
+after_put_at Less m k d l e ms is below h more = rw is (below, h)
+after_put_at Equal m k d l e ms is below h more = rw is h
+after_put_at Greater m k d l e ms is below h more = rw is (h.0, more)
 
-behind_put : (m k : List ℕ) (d : Data) (ms : Members) → order m k ≡ Less → AllBehind m ms → AllBehind m (put k d ms)
-behind_put m k d no_members below h = (below, tt)
-behind_put m k d (member l e ms) below h = behind_put_at (order k l) m k d l e ms refl below h (behind_put m k d ms below h.1)
+after_put : (m k : List ℕ) (d : Data) (ms : Members) → order m k ≡ Less → AllAfter m ms → AllAfter m (put k d ms)
+after_put m k d no_members below h = (below, tt)
+after_put m k d (member l e ms) below h = after_put_at (order k l) m k d l e ms refl below h (after_put m k d ms below h.1)
 
 ordered_put_at : (o : Ordering) (k : List ℕ) (d : Data) (l : List ℕ) (e : Data) (ms : Members) → order k l ≡ o → AreOrdered (member l e ms) → AreOrdered (put k d ms) → AreOrdered (put k d (member l e ms))
-ordered_put_at Less k d l e ms is h more = rw is ((is, behind_further k l ms is h.0), h)
+ordered_put_at Less k d l e ms is h more = rw is ((is, after_further k l ms is h.0), h)
 ordered_put_at Equal k d l e ms is h more = rw is h
 ordered_put_at Greater k d l e ms is h more =
     let below : order l k ≡ Less = nat_list_cmp_total.antisymm l k ∙ ap ordering_reverse is in
-    rw is (behind_put l k d ms below h.0, more)
+    rw is (after_put l k d ms below h.0, more)
 
 pub ordered_put : (k : List ℕ) (d : Data) (ms : Members) → AreOrdered ms → AreOrdered (put k d ms)
 ordered_put k d no_members h = (tt, tt)
 ordered_put k d (member l e ms) h = ordered_put_at (order k l) k d l e ms refl h (ordered_put k d ms h.1)
 
-ordered_parts : (ps : List Part) (ms : Members) → AreOrdered ms → AreOrdered (put_parts ps ms)
+ordered_parts : (ps : List Attribute) (ms : Members) → AreOrdered ms → AreOrdered (put_attributes ps ms)
 ordered_parts [] ms h = h
 ordered_parts ((k, None) ∷ ps) ms h = ordered_parts ps ms h
-ordered_parts ((k, Some d) ∷ ps) ms h = ordered_put k d (put_parts ps ms) (ordered_parts ps ms h)
+ordered_parts ((k, Some d) ∷ ps) ms h = ordered_put k d (put_attributes ps ms) (ordered_parts ps ms h)
 
-pub object_merged : (ps : List Part) (others : Members) (old opened new : List Token) → opened ≡ old ++ begin_object ∷ [] → AreOrdered others → ascending ps ≡ true → Ends (merged ps others) opened new
-    → WritesValue (object (put_parts ps others)) old new
+pub object_merged : (ps : List Attribute) (others : Members) (old opened new : List Token) → opened ≡ old ++ begin_object ∷ [] → AreOrdered others → ascending ps ≡ true → EndsObject (merged ps others) opened new
+    → WritesValue (object (put_attributes ps others)) old new
 object_merged ps others old opened new e o up w =
-    object_ended (put_parts ps others) old opened new e (subst (λ (ms : Members). Ends ms opened new) (merged-put_parts ps others up) w) (ordered_parts ps others o)
+    object_ended (put_attributes ps others) old opened new e (subst (λ (ms : Members). EndsObject ms opened new) (merged-put_attributes ps others up) w) (ordered_parts ps others o)
 
 -- ---- the entries of a map are in order
 
-behind_entries : (s : String Global) (es : List Entry) → AllByRecursion (λ t. string_cmp s t ≡ Less) (keys_of es) → AllBehind (string_bytes s) (members_view es)
-behind_entries s [] h = tt
-behind_entries s (e ∷ es) h = (h.0, behind_entries s es h.1)
+after_entries : (s : String Global) (es : List Entry) → AllByRecursion (λ t. string_cmp s t ≡ Less) (keys_of es) → AllAfter (string_bytes s) (members_view es)
+after_entries s [] h = tt
+after_entries s (e ∷ es) h = (h.0, after_entries s es h.1)
 
 pub ordered_entries : (es : List Entry) → IsStrictlySortedBy string_cmp (keys_of es) → AreOrdered (members_view es)
 unfolding IsStrictlySortedBy
 ordered_entries [] h = tt
-ordered_entries (e ∷ es) h = (behind_entries e.0 es h.0, ordered_entries es h.1)
+ordered_entries (e ∷ es) h = (after_entries e.0 es h.0, ordered_entries es h.1)
 
 -- ---- attributes among others
 
-pub name_written : (k : List ℕ) (others left : Members) (old mid named : List Token) → WritesBefore k others left old mid → named ≡ mid ++ key k ∷ [] → WritesName k others left old named
+pub name_written : (k : List ℕ) (others left : Members) (old mid named : List Token) → WritesOthersBefore k others left old mid → named ≡ mid ++ key k ∷ [] → WritesName k others left old named
 name_written k others left old mid named before e d new value ps end rest =
-    before.1 (member k d (merged ps (behind k others))) end
-    (members_on k d (merged ps (behind k others)) mid named new end e value (subst (λ (ms : Members). Ends (merged ps ms) new end) before.0 rest))
+    before.1 (member k d (merged ps (rest_after k others))) end
+    (members_on k d (merged ps (rest_after k others)) mid named new end e value (subst (λ (ms : Members). EndsObject (merged ps ms) new end) before.0 rest))
 
-pub text_written : (k s : List ℕ) (others left : Members) (old named new : List Token) → WritesName k others left old named → new ≡ named ++ Token.string s ∷ [] → WritesPart (k, Some (string s)) others left old new
+pub text_written : (k s : List ℕ) (others left : Members) (old named new : List Token) → WritesName k others left old named → new ≡ named ++ Token.string s ∷ [] → WritesAttribute (k, Some (string s)) others left old new
 text_written k s others left old named new name e = name (string s) new (string_written s named new e)
 
-pub part_is : (k : List ℕ) (p o : Option Data) (others left : Members) (old new : List Token) → p ≡ o → WritesPart (k, o) others left old new → WritesPart (k, p) others left old new
-part_is k p o others left old new e w = subst (λ (q : Option Data). WritesPart (k, q) others left old new) (sym e) w
+pub attribute_is : (k : List ℕ) (p o : Option Data) (others left : Members) (old new : List Token) → p ≡ o → WritesAttribute (k, o) others left old new → WritesAttribute (k, p) others left old new
+attribute_is k p o others left old new e w = subst (λ (q : Option Data). WritesAttribute (k, q) others left old new) (sym e) w
 
-pub part_written : (k : List ℕ) (o : Option Data) (d : Data) (others left : Members) (old named new : List Token) → o ≡ Some d → WritesName k others left old named → WritesValue d named new → WritesPart (k, o) others left old new
-part_written k o d others left old named new e name value = part_is k o (Some d) others left old new e (name d new value)
+pub attribute_written : (k : List ℕ) (o : Option Data) (d : Data) (others left : Members) (old named new : List Token) → o ≡ Some d → WritesName k others left old named → WritesValue d named new → WritesAttribute (k, o) others left old new
+attribute_written k o d others left old named new e name value = attribute_is k o (Some d) others left old new e (name d new value)
 
 pub some_texts_are : (ts : List (String Global)) → (length ts ≡ 0 → ⊥) → some_texts (texts_view ts) ≡ Some (array (texts (texts_view ts)))
 some_texts_are [] other = absurd (other refl)

@@ -89,23 +89,23 @@ field_value f type =
 -- ---- places
 
 -- a value, and how many places have been written with it
-abbrev pub Spelt : Type 0 → Type 0
-Spelt A = A × ℕ
+abbrev pub Counted : Type 0 → Type 0
+Counted A = A × ℕ
 
 -- the value of a place's type, where so many places have been written before it
-abbrev pub Speller : Type 0
-Speller = ℕ → ℕ → Spelt Data
+abbrev pub ValueAt : Type 0
+ValueAt = ℕ → ℕ → Counted Data
 
-abbrev pub then_items : Data → Spelt Items → Spelt Items
+abbrev pub then_items : Data → Counted Items → Counted Items
 then_items d more = (item d more.0, more.1)
 
 -- one branch after the other
-unfoldable pub branch_items : Speller → List ℕ → ℕ → Spelt Items
+unfoldable pub branch_items : ValueAt → List ℕ → ℕ → Counted Items
 branch_items one [] written = (no_items, written)
 branch_items one (p ∷ ps) written = then_items (one p written).0 (branch_items one ps (one p written).1)
 
 -- one field after the other
-unfoldable pub field_items : Speller → List FieldView → ℕ → Spelt Items
+unfoldable pub field_items : ValueAt → List FieldView → ℕ → Counted Items
 field_items one [] written = (no_items, written)
 field_items one (f ∷ fs) written = then_items (field_value f (one f.place written).0) (field_items one fs (one f.place written).1)
 
@@ -121,26 +121,26 @@ name_of (Some (fixed named size extra)) = named.name
 name_of (Some (rec named fields extra)) = named.name
 
 -- a type that is written for the first time, in the enclosing namespace
-abbrev pub spelt_node : (List ℕ → Speller) → List ℕ → ℕ → Option NodeView → Spelt Data
-spelt_node types enclosing written None = (null, written)
-spelt_node types enclosing written (Some (primitive kind extra)) = (primitive_value kind extra, written + 1)
-spelt_node types enclosing written (Some (array items extra)) = let i = types enclosing items (written + 1) in (array_value i.0 extra, i.1)
-spelt_node types enclosing written (Some (mapping values extra)) = let v = types enclosing values (written + 1) in (map_value v.0 extra, v.1)
-spelt_node types enclosing written (Some (union branches)) = let bs = branch_items (types enclosing) branches (written + 1) in (json.array bs.0, bs.1)
-spelt_node types enclosing written (Some (enumeration named symbols fallback extra)) = (enum_value enclosing named symbols fallback extra, written + 1)
-spelt_node types enclosing written (Some (fixed named size extra)) = (fixed_value enclosing named size extra, written + 1)
-spelt_node types enclosing written (Some (rec named fields extra)) = let fs = field_items (types (namespace_of named.name)) fields (written + 1) in (record_value enclosing named fs.0 extra, fs.1)
+abbrev pub node_value : (List ℕ → ValueAt) → List ℕ → ℕ → Option NodeView → Counted Data
+node_value types enclosing written None = (null, written)
+node_value types enclosing written (Some (primitive kind extra)) = (primitive_value kind extra, written + 1)
+node_value types enclosing written (Some (array items extra)) = let i = types enclosing items (written + 1) in (array_value i.0 extra, i.1)
+node_value types enclosing written (Some (mapping values extra)) = let v = types enclosing values (written + 1) in (map_value v.0 extra, v.1)
+node_value types enclosing written (Some (union branches)) = let bs = branch_items (types enclosing) branches (written + 1) in (json.array bs.0, bs.1)
+node_value types enclosing written (Some (enumeration named symbols fallback extra)) = (enum_value enclosing named symbols fallback extra, written + 1)
+node_value types enclosing written (Some (fixed named size extra)) = (fixed_value enclosing named size extra, written + 1)
+node_value types enclosing written (Some (rec named fields extra)) = let fs = field_items (types (namespace_of named.name)) fields (written + 1) in (record_value enclosing named fs.0 extra, fs.1)
 
 -- The type at a place, nested no deeper than the number. `written` counts the places that have been written. A schema's places are
 -- numbered in the order in which they are first reached, and each is written when it is: so a place is reached for the first time
 -- exactly where so many were written before it, `place == written`. There its type is written, and later a reference, by its full name.
-unfoldable pub spelt_at : ℕ → List NodeView → List ℕ → Speller
-spelt_at zero nodes enclosing place written = (null, written)
-spelt_at (suc n) nodes enclosing place written =
-    if place == written then spelt_node (spelt_at n nodes) enclosing written (slice_get nodes place) else (string (name_of (slice_get nodes place)), written)
+unfoldable pub identity_at : ℕ → List NodeView → List ℕ → ValueAt
+identity_at zero nodes enclosing place written = (null, written)
+identity_at (suc n) nodes enclosing place written =
+    if place == written then node_value (identity_at n nodes) enclosing written (slice_get nodes place) else (string (name_of (slice_get nodes place)), written)
 
 abbrev pub identity_value : List NodeView → Data
-identity_value nodes = (spelt_at max_nesting nodes [] 0 0).0
+identity_value nodes = (identity_at max_nesting nodes [] 0 0).0
 
 -- the JSON text of the value, with no blank
 abbrev pub identity : List NodeView → List ℕ

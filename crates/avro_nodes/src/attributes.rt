@@ -8,9 +8,9 @@ ghost use Rattle.serde_json.specs.View.{view, members_view};
 ghost use Rattle.serde_json.specs.Written.{WritesValue};
 ghost use Rattle.avro_nodes.specs.Nodes.{texts_view};
 ghost use Rattle.avro_nodes.specs.Identity.{texts};
-ghost use Rattle.avro_nodes.specs.Inside.Objects.{WritesBefore, WritesName, WritesPart, some_texts, order_text, null_namespace};
+ghost use Rattle.avro_nodes.specs.Inside.Objects.{WritesOthersBefore, WritesName, WritesAttribute, some_texts, order_text, null_namespace};
 
-use crate::compact::Compact;
+use crate::compact::CompactWriter;
 use crate::names::has_dot;
 use crate::node::Order;
 use crate::value::{Others, write_member, write_value};
@@ -19,8 +19,12 @@ use std::alloc::AllocError;
 use std::cmp::Ordering;
 
 /// An attribute among the others that has the key itself is left out.
-fn write_before(out: &mut Compact, others: &mut Others<'_>, key: &str) -> Result<(), AllocError>
-    ensures { OnOk result (WritesBefore key.now (members_view others.old)
+fn write_others_before(
+    out: &mut CompactWriter,
+    others: &mut Others<'_>,
+    key: &str,
+) -> Result<(), AllocError>
+    ensures { OnOk result (WritesOthersBefore key.now (members_view others.old)
         (members_view others.new) out.old out.new) }
 {
     if others.len() == 0 {
@@ -42,25 +46,25 @@ fn write_before(out: &mut Compact, others: &mut Others<'_>, key: &str) -> Result
 
 /// The name of an attribute, of which the value is to be written next.
 pub(crate) fn write_name(
-    out: &mut Compact,
+    out: &mut CompactWriter,
     others: &mut Others<'_>,
     key: &str,
 ) -> Result<(), AllocError>
     ensures { OnOk result (WritesName key.now (members_view others.old)
         (members_view others.new) out.old out.new) }
 {
-    write_before(out, others, key)?;
+    write_others_before(out, others, key)?;
     out.key(key)
 }
 
 /// An attribute that is a string.
 pub(crate) fn write_text(
-    out: &mut Compact,
+    out: &mut CompactWriter,
     others: &mut Others<'_>,
     key: &str,
     text: &str,
 ) -> Result<(), AllocError>
-    ensures { OnOk result (WritesPart (key.now, Some (string text.now))
+    ensures { OnOk result (WritesAttribute (key.now, Some (string text.now))
         (members_view others.old) (members_view others.new) out.old out.new) }
 {
     write_name(out, others, key)?;
@@ -68,7 +72,7 @@ pub(crate) fn write_text(
 }
 
 /// An array of strings.
-pub(crate) fn write_texts(out: &mut Compact, list: &[String]) -> Result<(), AllocError>
+pub(crate) fn write_texts(out: &mut CompactWriter, list: &[String]) -> Result<(), AllocError>
     ensures { OnOk result (WritesValue (array (texts (texts_view list.now))) out.old out.new) }
 {
     out.begin_array()?;
@@ -80,11 +84,11 @@ pub(crate) fn write_texts(out: &mut Compact, list: &[String]) -> Result<(), Allo
 
 /// A type's or a field's aliases, unless there are none.
 pub(crate) fn write_aliases(
-    out: &mut Compact,
+    out: &mut CompactWriter,
     others: &mut Others<'_>,
     aliases: &[String],
 ) -> Result<(), AllocError>
-    ensures { OnOk result (WritesPart (codes "aliases", some_texts (texts_view aliases.now))
+    ensures { OnOk result (WritesAttribute (codes "aliases", some_texts (texts_view aliases.now))
         (members_view others.old) (members_view others.new) out.old out.new) }
 {
     if aliases.is_empty() {
@@ -96,11 +100,11 @@ pub(crate) fn write_aliases(
 
 /// A field's default, if it has one.
 pub(crate) fn write_default(
-    out: &mut Compact,
+    out: &mut CompactWriter,
     others: &mut Others<'_>,
     value: &Option<Value>,
 ) -> Result<(), AllocError>
-    ensures { OnOk result (WritesPart (codes "default", option_map view value.now)
+    ensures { OnOk result (WritesAttribute (codes "default", option_map view value.now)
         (members_view others.old) (members_view others.new) out.old out.new) }
 {
     let Some(value) = value else {
@@ -112,11 +116,11 @@ pub(crate) fn write_default(
 
 /// An enum's default, if it has one.
 pub(crate) fn write_fallback(
-    out: &mut Compact,
+    out: &mut CompactWriter,
     others: &mut Others<'_>,
     fallback: &Option<String>,
 ) -> Result<(), AllocError>
-    ensures { OnOk result (WritesPart (codes "default", option_map string (option_map string_bytes fallback.now))
+    ensures { OnOk result (WritesAttribute (codes "default", option_map string (option_map string_bytes fallback.now))
         (members_view others.old) (members_view others.new) out.old out.new) }
 {
     match fallback {
@@ -127,11 +131,11 @@ pub(crate) fn write_fallback(
 
 /// A field's order, unless it is ascending.
 pub(crate) fn write_order(
-    out: &mut Compact,
+    out: &mut CompactWriter,
     others: &mut Others<'_>,
     order: Order,
 ) -> Result<(), AllocError>
-    ensures { OnOk result (WritesPart (codes "order", order_text order)
+    ensures { OnOk result (WritesAttribute (codes "order", order_text order)
         (members_view others.old) (members_view others.new) out.old out.new) }
 {
     match order {
@@ -143,12 +147,12 @@ pub(crate) fn write_order(
 
 /// The null namespace, for a name without a namespace inside of one.
 pub(crate) fn write_namespace(
-    out: &mut Compact,
+    out: &mut CompactWriter,
     others: &mut Others<'_>,
     enclosing: &str,
     name: &str,
 ) -> Result<(), AllocError>
-    ensures { OnOk result (WritesPart (codes "namespace", null_namespace enclosing.now name.now)
+    ensures { OnOk result (WritesAttribute (codes "namespace", null_namespace enclosing.now name.now)
         (members_view others.old) (members_view others.new) out.old out.new) }
 {
     if enclosing.is_empty() || has_dot(name) {

@@ -15,11 +15,11 @@ use std::marker::Model;
 
 /// The text so far. Clauses see its tokens.
 #[derive(Drop)]
-pub(crate) struct Compact {
+pub(crate) struct CompactWriter {
     out: Writer,
 }
 
-impl Model for Compact {
+impl Model for CompactWriter {
     ghost use Rattle.std.specs.Prelude.{◌≡◌, List, []};
     ghost use Rattle.json.specs.Token.{Token, tokens_code};
 
@@ -32,12 +32,12 @@ impl Model for Compact {
     ghost invariant = { λ c. c.out.before ≡ [] };
 }
 
-impl Compact {
+impl CompactWriter {
     /// No text yet.
-    pub(crate) fn new(alloc: Global) -> Result<Compact, AllocError>
+    pub(crate) fn new(alloc: Global) -> Result<CompactWriter, AllocError>
         ensures { IfOk result (λ c. c ≡ []) }
     {
-        Ok(Compact {
+        Ok(CompactWriter {
             out: Writer::new(Vec::with_capacity(alloc, 128)?),
         })
     }
@@ -47,7 +47,7 @@ impl Compact {
         ensures text { string_bytes result ≡ print self }
         ensures reads_back { tokens (print self) ≡ self }
     {
-        let Compact { out } = self;
+        let CompactWriter { out } = self;
         String::from_utf8(out.into_inner()).unwrap()
     }
 

@@ -5,10 +5,10 @@
 ghost use Rattle.std.specs.Prelude.{IsTrue, ◌≡◌, ◌<◌, ◌≤◌, length, option_map, string_bytes, slice_get, IfSome, IfOk, OnOk, map};
 ghost use Rattle.avro_nodes.specs.Whole.{has_whole_numbers};
 ghost use Rattle.avro_nodes.specs.Nodes.{field_view, node_view, nodes_view};
-ghost use Rattle.avro_nodes.specs.Identity.{name_of, spelt_at, branch_items, field_items, identity, nodes_pass};
-ghost use Rattle.avro_nodes.specs.Inside.Objects.{WritesSpelt, spelt_array};
+ghost use Rattle.avro_nodes.specs.Identity.{name_of, identity_at, branch_items, field_items, identity, nodes_pass};
+ghost use Rattle.avro_nodes.specs.Inside.Objects.{WritesCounted, counted_array};
 
-use crate::compact::Compact;
+use crate::compact::CompactWriter;
 use crate::error::OutOfMemory;
 use crate::identity::types::{
     begin_array, begin_field, begin_map, begin_record, end_array, end_record, write_enum,
@@ -48,8 +48,8 @@ fn node_at(nodes: &[Node], place: usize) -> Option<&Node>
 
 /// The type at a place, where so many places have been written before it.
 #[cycle(spell)]
-fn write_at(
-    out: &mut Compact,
+fn write_type(
+    out: &mut CompactWriter,
     nodes: &[Node],
     enclosing: &str,
     place: u32,
@@ -57,8 +57,8 @@ fn write_at(
     depth: u32,
 ) -> Result<(), AllocError>
     requires { written.old ≤ length nodes.now }
-    ensures value { OnOk result (WritesSpelt
-        (spelt_at depth (nodes_view nodes.now) enclosing.now place written.old)
+    ensures value { OnOk result (WritesCounted
+        (identity_at depth (nodes_view nodes.now) enclosing.now place written.old)
         out.old out.new written.new) }
     ensures bound { written.new ≤ length nodes.now }
 {
@@ -77,12 +77,12 @@ fn write_at(
         Node::Primitive { kind, extra } => write_primitive(out, *kind, extra),
         Node::Array { items, extra } => {
             let others = begin_array(out, extra)?;
-            write_at(out, nodes, enclosing, *items, written, depth - 1)?;
+            write_type(out, nodes, enclosing, *items, written, depth - 1)?;
             end_array(out, others)
         }
         Node::Map { values, extra } => {
             let others = begin_map(out, extra)?;
-            write_at(out, nodes, enclosing, *values, written, depth - 1)?;
+            write_type(out, nodes, enclosing, *values, written, depth - 1)?;
             write_rest(out, others)
         }
         Node::Union { branches } => {
@@ -110,7 +110,7 @@ fn write_at(
 
 #[cycle(spell)]
 fn write_branches(
-    out: &mut Compact,
+    out: &mut CompactWriter,
     nodes: &[Node],
     enclosing: &str,
     places: &[u32],
@@ -118,21 +118,21 @@ fn write_branches(
     depth: u32,
 ) -> Result<(), AllocError>
     requires { written.old ≤ length nodes.now }
-    ensures value { OnOk result (WritesSpelt (spelt_array
-        (branch_items (spelt_at depth (nodes_view nodes.now) enclosing.now) places.now written.old))
+    ensures value { OnOk result (WritesCounted (counted_array
+        (branch_items (identity_at depth (nodes_view nodes.now) enclosing.now) places.now written.old))
         out.old out.new written.new) }
     ensures bound { written.new ≤ length nodes.now }
 {
     out.begin_array()?;
     for place in places {
-        write_at(out, nodes, enclosing, *place, written, depth)?;
+        write_type(out, nodes, enclosing, *place, written, depth)?;
     }
     out.end_array()
 }
 
 #[cycle(spell)]
 fn write_fields(
-    out: &mut Compact,
+    out: &mut CompactWriter,
     nodes: &[Node],
     enclosing: &str,
     fields: &[Field],
@@ -140,15 +140,15 @@ fn write_fields(
     depth: u32,
 ) -> Result<(), AllocError>
     requires { written.old ≤ length nodes.now }
-    ensures value { OnOk result (WritesSpelt (spelt_array (field_items
-        (spelt_at depth (nodes_view nodes.now) enclosing.now) (map field_view fields.now) written.old))
+    ensures value { OnOk result (WritesCounted (counted_array (field_items
+        (identity_at depth (nodes_view nodes.now) enclosing.now) (map field_view fields.now) written.old))
         out.old out.new written.new) }
     ensures bound { written.new ≤ length nodes.now }
 {
     out.begin_array()?;
     for field in fields {
         let others = begin_field(out, field)?;
-        write_at(out, nodes, enclosing, field.place, written, depth)?;
+        write_type(out, nodes, enclosing, field.place, written, depth)?;
         write_rest(out, others)?;
     }
     out.end_array()
@@ -169,8 +169,8 @@ pub fn identity_of(alloc: Global, nodes: &[Node]) -> Result<String, OutOfMemory>
     ensures text { IfOk result (λ s. IsTrue (nodes_pass has_whole_numbers (nodes_view nodes.now))
         → string_bytes s ≡ identity (nodes_view nodes.now)) }
 {
-    let mut out = Compact::new(alloc)?;
+    let mut out = CompactWriter::new(alloc)?;
     let mut written = 0;
-    write_at(&mut out, nodes, "", 0, &mut written, MAX_NESTING)?;
+    write_type(&mut out, nodes, "", 0, &mut written, MAX_NESTING)?;
     Ok(out.into_string())
 }

@@ -22,7 +22,7 @@ fn is_number_char(c: u8) -> bool
 /// Where what follows a backslash inside a string and the byte that it escapes begins.
 fn escape_end(bytes: &[u8], at: usize) -> usize
     requires { (at < length bytes.now) × (slice_index bytes.now at ≡ 92) }
-    ensures place { (at < result) × (result ≤ length bytes.now) }
+    ensures bounds { (at < result) × (result ≤ length bytes.now) }
     ensures pieces { joined (pieces Inside (drop at bytes.now))
         ≡ before (slice_range bytes.now at result) (joined (pieces Inside (drop result bytes.now))) }
 {
@@ -30,9 +30,9 @@ fn escape_end(bytes: &[u8], at: usize) -> usize
 }
 
 /// Where the first quote or backslash stands, from a byte on that is inside a string.
-fn next_mark(bytes: &[u8], from: usize) -> usize
+fn next_quote_or_backslash(bytes: &[u8], from: usize) -> usize
     requires { from ≤ length bytes.now }
-    ensures place { (from ≤ result) × (result ≤ length bytes.now) }
+    ensures bounds { (from ≤ result) × (result ≤ length bytes.now) }
     ensures found { result < length bytes.now
         → (slice_index bytes.now result ≡ 34) ⊎ (slice_index bytes.now result ≡ 92) }
     ensures pieces { joined (pieces Inside (drop from bytes.now))
@@ -47,16 +47,16 @@ fn next_mark(bytes: &[u8], from: usize) -> usize
 /// Where what follows a string begins, from a byte on that is inside it.
 fn string_end(bytes: &[u8], from: usize) -> usize
     requires { from ≤ length bytes.now }
-    ensures place { (from ≤ result) × (result ≤ length bytes.now) }
+    ensures bounds { (from ≤ result) × (result ≤ length bytes.now) }
     ensures pieces { joined (pieces Inside (drop from bytes.now))
         ≡ before (slice_range bytes.now from result) (joined (pieces Outside (drop result bytes.now))) }
 {
-    let mut at = next_mark(bytes, from);
+    let mut at = next_quote_or_backslash(bytes, from);
     while at < bytes.len() {
         if bytes[at] == b'"' {
             return at + 1;
         }
-        at = next_mark(bytes, escape_end(bytes, at));
+        at = next_quote_or_backslash(bytes, escape_end(bytes, at));
     }
     at
 }
@@ -64,7 +64,7 @@ fn string_end(bytes: &[u8], from: usize) -> usize
 /// Where what follows a string, or the byte that begins none, begins outside the strings.
 fn next_outside(bytes: &[u8], at: usize) -> usize
     requires { (at < length bytes.now) × (is_number_char_of (slice_index bytes.now at) ≡ false) }
-    ensures place { (at < result) × (result ≤ length bytes.now) }
+    ensures bounds { (at < result) × (result ≤ length bytes.now) }
     ensures pieces { joined (pieces Outside (drop at bytes.now))
         ≡ before (slice_range bytes.now at result) (joined (pieces Outside (drop result bytes.now))) }
 {
@@ -78,7 +78,7 @@ fn next_outside(bytes: &[u8], at: usize) -> usize
 /// Where the first number character outside the strings stands, from a byte on that is outside.
 fn run_start(bytes: &[u8], from: usize) -> usize
     requires { from ≤ length bytes.now }
-    ensures place { (from ≤ result) × (result ≤ length bytes.now) }
+    ensures bounds { (from ≤ result) × (result ≤ length bytes.now) }
     ensures found { result < length bytes.now → is_number_char_of (slice_index bytes.now result) ≡ true }
     ensures pieces { joined (pieces Outside (drop from bytes.now))
         ≡ before (slice_range bytes.now from result) (joined (pieces Outside (drop result bytes.now))) }
@@ -153,7 +153,7 @@ fn magnitude(digits: &str) -> Option<u64>
     digits.parse::<u64>().ok()
 }
 
-fn respelling(whole: &str) -> Option<&str>
+fn respell_whole(whole: &str) -> Option<&str>
     ensures { option_map (λ s. s.now) result ≡ respelt_whole whole.now }
 {
     let Some(digits) = whole.strip_prefix('-') else {
@@ -180,29 +180,29 @@ fn begins_number(run: &str) -> bool
 }
 
 /// What a run is respelt as.
-fn spelling(run: &str) -> Option<&str>
+fn respell_run(run: &str) -> Option<&str>
     ensures { option_map (λ s. s.now) result ≡ piece_text (run_of run.now) }
 {
     if begins_number(run) {
-        respelling(whole_part(run)?)
+        respell_whole(whole_part(run)?)
     } else {
         Some(run)
     }
 }
 
 /// Whether a run is spelt as it stands.
-fn is_kept(run: &str) -> bool
+fn is_unchanged(run: &str) -> bool
     ensures { IsTrue result → piece_text (run_of run.now) ≡ Some run.now }
 {
-    match spelling(run) {
+    match respell_run(run) {
         Some(number) => number == run,
         None => false,
     }
 }
 
 /// Where the text is respelt first, or breaks the rule, or ends.
-fn kept_up_to(text: &str) -> usize
-    ensures place { result ≤ length text.now }
+fn unchanged_len(text: &str) -> usize
+    ensures bounds { result ≤ length text.now }
     ensures cut { IsCharBoundary text.now result }
     ensures kept { before (take result text.now) (joined (pieces Outside (drop result text.now)))
         ≡ plain text.now }
@@ -212,7 +212,7 @@ fn kept_up_to(text: &str) -> usize
     while at < bytes.len() {
         let start = run_start(bytes, at);
         let end = run_end(bytes, start);
-        if !is_kept(&text[start..end]) {
+        if !is_unchanged(&text[start..end]) {
             return at;
         }
         at = end;
@@ -233,12 +233,12 @@ pub fn plain_of(alloc: Global, text: &str) -> Result<Option<String>, OutOfMemory
 {
     let bytes = text.as_bytes();
     let mut out = String::with_capacity(alloc, text.len())?;
-    let mut at = kept_up_to(text);
+    let mut at = unchanged_len(text);
     out.push_str(&text[..at])?;
     while at < bytes.len() {
         let start = run_start(bytes, at);
         let end = run_end(bytes, start);
-        let Some(number) = spelling(&text[start..end]) else {
+        let Some(number) = respell_run(&text[start..end]) else {
             return Ok(None);
         };
         out.push_str(&text[at..start])?;

@@ -4,9 +4,9 @@ ghost use Rattle.std.specs.Prelude.{◌≡◌, OnOk};
 ghost use Rattle.serde_json.specs.Data.{array, object};
 ghost use Rattle.serde_json.specs.View.{view, items_view, members_view};
 ghost use Rattle.serde_json.specs.Written.{WritesValue};
-ghost use Rattle.avro_nodes.specs.Inside.Objects.{Ends, WritesMember, AreOrdered};
+ghost use Rattle.avro_nodes.specs.Inside.Objects.{EndsObject, WritesMember, AreOrdered};
 
-use crate::compact::Compact;
+use crate::compact::CompactWriter;
 use crate::node::Extra;
 use serde_json::Value;
 use std::alloc::AllocError;
@@ -25,7 +25,7 @@ pub(crate) fn others_of(members: &Extra) -> Others<'_>
 
 /// A JSON value.
 #[cycle(write)]
-pub(crate) fn write_value(out: &mut Compact, value: &Value) -> Result<(), AllocError>
+pub(crate) fn write_value(out: &mut CompactWriter, value: &Value) -> Result<(), AllocError>
     ensures { OnOk result (WritesValue (view value.now) out.old out.new) }
 {
     match value {
@@ -39,7 +39,7 @@ pub(crate) fn write_value(out: &mut Compact, value: &Value) -> Result<(), AllocE
 }
 
 #[cycle(write)]
-fn write_array(out: &mut Compact, items: &Vec<Value>) -> Result<(), AllocError>
+fn write_array(out: &mut CompactWriter, items: &Vec<Value>) -> Result<(), AllocError>
     ensures { OnOk result (WritesValue (array (items_view items.now.items)) out.old out.new) }
 {
     out.begin_array()?;
@@ -50,7 +50,7 @@ fn write_array(out: &mut Compact, items: &Vec<Value>) -> Result<(), AllocError>
 }
 
 #[cycle(write)]
-fn write_object(out: &mut Compact, members: &Extra) -> Result<(), AllocError>
+fn write_object(out: &mut CompactWriter, members: &Extra) -> Result<(), AllocError>
     ensures { OnOk result (WritesValue (object (members_view members.now.entries)) out.old out.new) }
 {
     out.begin_object()?;
@@ -62,7 +62,11 @@ fn write_object(out: &mut Compact, members: &Extra) -> Result<(), AllocError>
 
 /// A member of an object.
 #[cycle(write)]
-pub(crate) fn write_member(out: &mut Compact, name: &str, value: &Value) -> Result<(), AllocError>
+pub(crate) fn write_member(
+    out: &mut CompactWriter,
+    name: &str,
+    value: &Value,
+) -> Result<(), AllocError>
     ensures { OnOk result (WritesMember name.now (view value.now) out.old out.new) }
 {
     out.key(name)?;
@@ -70,8 +74,8 @@ pub(crate) fn write_member(out: &mut Compact, name: &str, value: &Value) -> Resu
 }
 
 /// All that is left, with the closing bracket.
-pub(crate) fn write_rest(out: &mut Compact, others: Others<'_>) -> Result<(), AllocError>
-    ensures { OnOk result (Ends (members_view others.entry) out.old out.new) }
+pub(crate) fn write_rest(out: &mut CompactWriter, others: Others<'_>) -> Result<(), AllocError>
+    ensures { OnOk result (EndsObject (members_view others.entry) out.old out.new) }
 {
     if others.len() == 0 {
         return out.end_object();

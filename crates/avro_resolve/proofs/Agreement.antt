@@ -4,7 +4,7 @@ use Rattle.std.specs.Prelude.{MatchOption, slice_get, ◌↔◌}
 use Rattle.avro_nodes.specs.Nodes.{NodeView, primitive, array, mapping, union, enumeration, fixed, rec}
 use Rattle.avro_resolve.specs.Resolution.{Pairs, Fits, Supports}
 use Rattle.avro_resolve.specs.Inside.Agreeing.{Agree}
-use Rattle.avro_resolve.specs.Inside.Left.{Agreed}
+use Rattle.avro_resolve.specs.Inside.Remaining.{Agreed}
 
 pub fits_agree : (R : Pairs) (i j : ℕ) (a b : NodeView) → Fits R i j a b → Agree a b
 fits_agree R i j (union ps) b h = (tt, tt)

@@ -1,7 +1,7 @@
 -- How many pairs two lists have that hold different ones.
 use Rattle.std.proofs.Common.{◌≡◌, ℕ, ◌+◌, ◌≤◌, List, [], ◌∷◌, Bool, true, false, cond, ◌&&◌, ◌||◌, length, refl, sym, subst, ◌∙◌, arith, true≢false, inl, inr}
 use Rattle.std.specs.Prelude.{◌==◌}
-use Rattle.avro_resolve.specs.Witnesses.{Pair, member, Differ}
+use Rattle.avro_resolve.specs.Witnesses.{Pair, member, AreDistinct}
 use Rattle.avro_resolve.proofs.PairLists.{test_same, at_pair, false_unless, member-cons, member-nil, member_head, member_tail, member_cases}
 
 -- the list without the first place of a pair
@@ -38,15 +38,15 @@ in_cut : (p : Pair) (ps l : List Pair) → member ps p.0 p.1 ≡ false → ((i j
 in_cut p ps l out h i j m = cut_member p l i j (λ g. true≢false (sym (subst (λ (x : ℕ). member ps x p.1 ≡ true) g.0 (subst (λ (y : ℕ). member ps i y ≡ true) g.1 m)) ∙ out)) (h i j m)
 
 -- different pairs of a list are no more than it has
-pub fewer : (ps l : List Pair) → Differ ps → ((i j : ℕ) → member ps i j ≡ true → member l i j ≡ true) → length ps ≤ length l
-unfolding Differ
+pub fewer : (ps l : List Pair) → AreDistinct ps → ((i j : ℕ) → member ps i j ≡ true → member l i j ≡ true) → length ps ≤ length l
+unfolding AreDistinct
 fewer [] l d h = omega arith
 fewer (p ∷ ps) l d h =
     let k = fewer ps (cut p l) d.1 (in_cut p ps l d.0 (λ i j m. h i j (member_tail p ps i j m))) in
     let e = cut_length p l (h p.0 p.1 (member_head p ps)) in omega arith
 
-pub fewer_both : (ps qs l : List Pair) → Differ ps → Differ qs → ((i j : ℕ) → member ps i j ≡ true → member qs i j ≡ true → ⊥) → ((i j : ℕ) → member ps i j ≡ true → member l i j ≡ true) → ((i j : ℕ) → member qs i j ≡ true → member l i j ≡ true) → length ps + length qs ≤ length l
-unfolding Differ
+pub fewer_both : (ps qs l : List Pair) → AreDistinct ps → AreDistinct qs → ((i j : ℕ) → member ps i j ≡ true → member qs i j ≡ true → ⊥) → ((i j : ℕ) → member ps i j ≡ true → member l i j ≡ true) → ((i j : ℕ) → member qs i j ≡ true → member l i j ≡ true) → length ps + length qs ≤ length l
+unfolding AreDistinct
 fewer_both [] qs l d e apart h g = let k = fewer qs l e g in omega arith
 fewer_both (p ∷ ps) qs l d e apart h g =
     let k = fewer_both ps qs (cut p l) d.1 e (λ i j m. apart i j (member_tail p ps i j m)) (in_cut p ps l d.0 (λ i j m. h i j (member_tail p ps i j m))) (in_cut p qs l (false_unless (member qs p.0 p.1) (apart p.0 p.1 (member_head p ps))) g) in

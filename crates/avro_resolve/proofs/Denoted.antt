@@ -8,14 +8,14 @@ use Rattle.std.proofs.lemmas.Slice.Eq.{bytes_eq-Decides}
 use Rattle.serde_json.specs.Data.{Data, Items}
 use Rattle.avro_nodes.specs.Names.{has_dot}
 use Rattle.avro_nodes.specs.Nodes.{FieldView, NodeView, primitive, array, mapping, union, enumeration, fixed, rec}
-use Rattle.avro_schema.specs.Names.{Known, none_known, defined, resolved, joined, or_else}
+use Rattle.avro_schema.specs.Names.{Known, none_known, defined, resolved, qualified, or_else}
 use Rattle.avro_schema.specs.Kinds.{BranchKind, branch_kind}
 use Rattle.avro_schema.specs.Denotes.{Denotes, a_primitive, a_reference, primitive_type, reference_type, array_type, map_type, fixed_type, enum_type, record_type, union_type}
 use Rattle.avro_schema.specs.Denotes.{Branches, no_branch, branch, Fields, no_field, field, Lacks, AllDiffer}
 use Rattle.avro_schema.specs.Texts.{IsSchema}
 use Rattle.avro_resolve.specs.Resolution.{first_named, source}
 use Rattle.avro_resolve.specs.Inside.Agreeing.{fields_of}
-use Rattle.avro_resolve.specs.Inside.Places.{Names, IsWhole}
+use Rattle.avro_resolve.specs.Inside.Places.{RefersBelow, IsSelfContained}
 
 abbrev pub IsNoUnion : NodeView → Type 0
 IsNoUnion (union places) = ⊥
@@ -153,35 +153,35 @@ if_step all place o p false one other e = other e
 refers : (all : List NodeView) (known : Known) (space name : List ℕ) (place : ℕ) → Knows all known → resolved known space name ≡ Some place → (place < length all) × NoUnionAt all place
 unfolding resolved
 refers all known space name place k e =
-    if_step all place (known name) (or_else (known (joined space name)) (known name)) (has_dot name) (k.at name place)
-    (or_step all place (known (joined space name)) (known name) (k.at (joined space name) place) (k.at name place)) e
+    if_step all place (known name) (or_else (known (qualified space name)) (known name)) (has_dot name) (k.at name place)
+    (or_step all place (known (qualified space name)) (known name) (k.at (qualified space name) place) (k.at name place)) e
 
 -- ---- the induction over what is denoted
 
 record Good (all : List NodeView) (place : ℕ) (nodes : List NodeView) (known : Known) : Type 0 where
   within : place < length all
   knows : Knows all known
-  names : All (Names (length all)) nodes
+  names : All (RefersBelow (length all)) nodes
   plain : All (IsPlain all) nodes
   no_union : (kind : BranchKind) → branch_kind place nodes ≡ Some kind → NoUnionAt all place
 
 record GoodParts (all : List NodeView) (nodes : List NodeView) (known : Known) : Type 0 where
   knows : Knows all known
-  names : All (Names (length all)) nodes
+  names : All (RefersBelow (length all)) nodes
   plain : All (IsPlain all) nodes
 
 -- a node, with its parts
-made : (all : List NodeView) (first : ℕ) (a : NodeView) (nodes : List NodeView) (known : Known) → slice_get all first ≡ Some a → Names (length all) a → IsPlain all a → GoodParts all nodes known → Good all first (a ∷ nodes) known
+made : (all : List NodeView) (first : ℕ) (a : NodeView) (nodes : List NodeView) (known : Known) → slice_get all first ≡ Some a → RefersBelow (length all) a → IsPlain all a → GoodParts all nodes known → Good all first (a ∷ nodes) known
 made all first a nodes known at names plain parts = record {
   within = slice_get_within all first a at;
   knows = parts.knows;
-  names = All-cons (Names (length all)) a nodes names parts.names;
+  names = All-cons (RefersBelow (length all)) a nodes names parts.names;
   plain = All-cons (IsPlain all) a nodes plain parts.plain;
   no_union = λ kind e. no_union_here all first a at (kind_no_union first kind a nodes e);
 }
 
 no_parts : (all : List NodeView) (known : Known) → Knows all known → GoodParts all [] known
-no_parts all known k = record { knows = k; names = All-nil (Names (length all)); plain = All-nil (IsPlain all) }
+no_parts all known k = record { knows = k; names = All-nil (RefersBelow (length all)); plain = All-nil (IsPlain all) }
 
 parts_of : (all : List NodeView) (place : ℕ) (nodes : List NodeView) (known : Known) → Good all place nodes known → GoodParts all nodes known
 parts_of all place nodes known g = record { knows = g.knows; names = g.names; plain = g.plain }
@@ -189,14 +189,14 @@ parts_of all place nodes known g = record { knows = g.knows; names = g.names; pl
 both_parts : (all : List NodeView) (xs ys : List NodeView) (known known2 : Known) → GoodParts all xs known → GoodParts all ys known2 → GoodParts all (xs ++ ys) known2
 both_parts all xs ys known known2 g h = record {
   knows = h.knows;
-  names = All-append (Names (length all)) xs ys g.names h.names;
+  names = All-append (RefersBelow (length all)) xs ys g.names h.names;
   plain = All-append (IsPlain all) xs ys g.plain h.plain;
 }
 
 reference : (all : List NodeView) (known : Known) (space name : List ℕ) (place : ℕ) → Knows all known → resolved known space name ≡ Some place → Good all place [] known
 reference all known space name place k e =
     let here = refers all known space name place k e in
-    record { within = here.0; knows = k; names = All-nil (Names (length all)); plain = All-nil (IsPlain all); no_union = λ kind f. here.1 }
+    record { within = here.0; knows = k; names = All-nil (RefersBelow (length all)); plain = All-nil (IsPlain all); no_union = λ kind f. here.1 }
 
 record GoodBranches (all : List NodeView) (branches : List (ℕ × BranchKind)) (nodes : List NodeView) (known : Known) : Type 0 where
   places : All (λ p. p < length all) (map (λ b. b.0) branches)
@@ -261,7 +261,7 @@ of_schema nodes (text, h) = (h.known, good h.type_is nodes (knows_none nodes) (s
 pub some_node : (nodes : List NodeView) → IsSchema nodes → 0 < length nodes
 some_node nodes h = (of_schema nodes h).1.within
 
-pub is_whole : (nodes : List NodeView) → IsSchema nodes → IsWhole nodes
+pub is_whole : (nodes : List NodeView) → IsSchema nodes → IsSelfContained nodes
 is_whole nodes h = (of_schema nodes h).1.names
 
 pub is_plain : (nodes : List NodeView) → IsSchema nodes → All (IsPlain nodes) nodes

@@ -4,8 +4,8 @@ use Rattle.std.specs.Prelude.{IsTrue, ◌↔◌}
 use Rattle.avro_nodes.specs.Nodes.{NodeView}
 use Rattle.avro_resolve.specs.declared.table.Table.{Table}
 use Rattle.avro_resolve.specs.Resolution.{Pairs, Supports, Closed, Resolves}
-use Rattle.avro_resolve.specs.Witnesses.{Pair, member, without, RefutesAfter, Differ}
-use Rattle.avro_resolve.specs.Inside.Left.{left, IsLeft}
+use Rattle.avro_resolve.specs.Witnesses.{Pair, member, without, RefutesAfter, AreDistinct}
+use Rattle.avro_resolve.specs.Inside.Remaining.{remains, IsRemainder}
 use Rattle.avro_schema.specs.Texts.{IsSchema}
 use Rattle.avro_resolve.proofs.Monotone.{supported_in}
 use Rattle.avro_resolve.proofs.PairLists.{member-nil, member_head, member_tail, member_cases, refuted}
@@ -23,16 +23,16 @@ not_struck x true e h = absurd (h refl)
 not_struck x false e h = e
 
 -- the roots of a schema that resolves are left
-pub kept_end : (w r : List NodeView) (t : Table) → IsLeft w r t → Resolves w r → left t 0 0 ≡ true
+pub kept_end : (w r : List NodeView) (t : Table) → IsRemainder w r t → Resolves w r → remains t 0 0 ≡ true
 unfolding Resolves
 kept_end w r t h (R, roots, closed) =
     let here = supported_in w r R 0 0 (closed 0 0 roots) in
-    not_struck (left t 0 0) (member h.struck 0 0) (h.exact 0 0 here.0 here.1) (refuted w r R h.struck closed h.refutes 0 0 roots)
+    not_struck (remains t 0 0) (member h.eliminated 0 0) (h.exact 0 0 here.0 here.1) (refuted w r R h.eliminated closed h.refutes 0 0 roots)
 
 -- the list up to the pair of the roots
-pub up_to : (w r : List NodeView) (before f : List Pair) (i j : ℕ) → RefutesAfter w r before f → Differ f → IsTrue (member f i j)
-    → (ps : List Pair) × RefutesAfter w r before (ps ++ (i, j) ∷ []) × Differ (ps ++ (i, j) ∷ []) × (length (ps ++ (i, j) ∷ []) ≤ length f) × ((a b : ℕ) → member (ps ++ (i, j) ∷ []) a b ≡ true → member f a b ≡ true)
-unfolding RefutesAfter Differ
+pub up_to : (w r : List NodeView) (before f : List Pair) (i j : ℕ) → RefutesAfter w r before f → AreDistinct f → IsTrue (member f i j)
+    → (ps : List Pair) × RefutesAfter w r before (ps ++ (i, j) ∷ []) × AreDistinct (ps ++ (i, j) ∷ []) × (length (ps ++ (i, j) ∷ []) ≤ length f) × ((a b : ℕ) → member (ps ++ (i, j) ∷ []) a b ≡ true → member f a b ≡ true)
+unfolding RefutesAfter AreDistinct
 up_to w r before [] i j h d m = absurd (true≢false (sym m ∙ member-nil i j))
 up_to w r before (p ∷ f) i j h d m = elim (member_cases p f i j m) [
   | inl e ↦ (
@@ -63,5 +63,5 @@ up_to w r before (p ∷ f) i j h d m = elim (member_cases p f i j m) [
 
 -- ---- both
 
-pub ends : (w r : List NodeView) (t : Table) → IsSchema w → IsSchema r → IsLeft w r t → Closed w r (left t) → IsTrue (left t 0 0) ↔ Resolves w r
-ends w r t sw sr h closed = ((λ m. resolves_end w r (left t) closed m), (λ s. kept_end w r t h s))
+pub ends : (w r : List NodeView) (t : Table) → IsSchema w → IsSchema r → IsRemainder w r t → Closed w r (remains t) → IsTrue (remains t 0 0) ↔ Resolves w r
+ends w r t sw sr h closed = ((λ m. resolves_end w r (remains t) closed m), (λ s. kept_end w r t h s))

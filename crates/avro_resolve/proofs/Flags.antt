@@ -9,7 +9,7 @@ use Rattle.std.proofs.lemmas.Nat.{same_from_place, mul-add-lt}
 use Rattle.std.proofs.lemmas.Bool.{cases_lt}
 use Rattle.std.proofs.lemmas.Bool.Decides.{nat_tests}
 use Rattle.avro_resolve.specs.declared.table.Table.{Table}
-use Rattle.avro_resolve.specs.Inside.Left.{flag, left, up, ups}
+use Rattle.avro_resolve.specs.Inside.Remaining.{flag, remains, one_if, count_flags}
 use Rattle.avro_resolve.proofs.ListLemmas.{get_or_any}
 
 pub flag_at : (fs : List Bool) (m i j : ℕ) → j < m → flag fs m i j ≡ get_or fs (i * m + j) false
@@ -17,7 +17,7 @@ unfolding flag
 flag_at fs m i j l = grind (arith, nat_tests)
 
 -- what stands at the index of a pair is its flag
-pub flag_is : (t : Table) (i at : ℕ) (b : Bool) → i < t.writers → at < t.readers → b ≡ get_or t.flags.items (i * t.readers + at) b → left t i at ≡ b
+pub flag_is : (t : Table) (i at : ℕ) (b : Bool) → i < t.writers → at < t.readers → b ≡ get_or t.flags.items (i * t.readers + at) b → remains t i at ≡ b
 flag_is t i at b li la e =
     let m = mul-add-lt i t.readers at t.writers li la in
     let l : i * t.readers + at < length t.flags.items = omega (arith, t.sized, t.flags.ok.0) in
@@ -31,10 +31,10 @@ pub flag_column : (fs : List Bool) (m i j : ℕ) → flag fs m i j ≡ true → 
 unfolding flag
 flag_column fs m i j l = grind (arith, nat_tests)
 
-pub clear_count : (fs : List Bool) (k : ℕ) → k < length fs → get_or fs k false ≡ true → ups (set fs k false) + 1 ≡ ups fs
+pub clear_count : (fs : List Bool) (k : ℕ) → k < length fs → get_or fs k false ≡ true → count_flags (set fs k false) + 1 ≡ count_flags fs
 clear_count fs k l e =
-    let h : sum_by up (set fs k false) + up (get_or fs k false) ≡ sum_by up fs + up false = sum_by-set up fs k false false l in
-    let h' : sum_by up (set fs k false) + up true ≡ sum_by up fs + up false = subst (λ (x : Bool). sum_by up (set fs k false) + up x ≡ sum_by up fs + up false) e h in
+    let h : sum_by one_if (set fs k false) + one_if (get_or fs k false) ≡ sum_by one_if fs + one_if false = sum_by-set one_if fs k false false l in
+    let h' : sum_by one_if (set fs k false) + one_if true ≡ sum_by one_if fs + one_if false = subst (λ (x : Bool). sum_by one_if (set fs k false) + one_if x ≡ sum_by one_if fs + one_if false) e h in
     omega arith
 
 place_cases : (fs : List Bool) (m i j a b : ℕ) → j < m → i * m + j < length fs → b < m → (x y : Bool) → (a == i) ≡ x → (b == j) ≡ y → get_or (set fs (i * m + j) false) (a * m + b) false ≡ if x && y then false else get_or fs (a * m + b) false
@@ -80,5 +80,5 @@ flag_all fs n m i j e li lj =
     let l : i * m + j < n * m = omega (arith, mul-add-lt i m j n li lj) in
     flag_at fs m i j lj ∙ ap (λ (x : List Bool). get_or x (i * m + j) false) e ∙ get_or-replicate (n * m) (i * m + j) true false l
 
-pub ups_all : (n : ℕ) → ups (replicate n true) ≡ n
-ups_all n = let h = sum_by-replicate up n true in omega arith
+pub ups_all : (n : ℕ) → count_flags (replicate n true) ≡ n
+ups_all n = let h = sum_by-replicate one_if n true in omega arith

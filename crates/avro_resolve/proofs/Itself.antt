@@ -13,7 +13,7 @@ use Rattle.avro_nodes.specs.declared.node.Kind.TheVariants.{Null, Boolean, Int, 
 use Rattle.avro_nodes.specs.Nodes.{FieldView, NodeView, primitive, array, mapping, union, enumeration, fixed, rec}
 use Rattle.avro_schema.specs.Texts.{IsSchema}
 use Rattle.avro_resolve.specs.Resolution.{Pairs, Promotes, source, Fits, Supports, Resolves}
-use Rattle.avro_resolve.specs.Inside.Places.{Names, IsWhole}
+use Rattle.avro_resolve.specs.Inside.Places.{RefersBelow, IsSelfContained}
 use Rattle.avro_resolve.proofs.Denoted.{IsNoUnion, NoUnionAt, IsPlain, some_node, is_whole, is_plain}
 use Rattle.avro_resolve.proofs.Monotone.{supports_at, at_place}
 
@@ -47,7 +47,7 @@ own_field : (w : List NodeView) (fs : List FieldView) (f : FieldView) (o : Optio
 own_field w fs f None l e = absurd cc
 own_field w fs f (Some g) l e = let same : f ≡ g = cc in subst (λ (x : FieldView). itself w x.place f.place ≡ true) same (same_pair w f.place l)
 
-own : (w : List NodeView) (i : ℕ) (a : NodeView) → slice_get w i ≡ Some a → Names (length w) a → IsPlain w a → Fits (itself w) i i a a
+own : (w : List NodeView) (i : ℕ) (a : NodeView) → slice_get w i ≡ Some a → RefersBelow (length w) a → IsPlain w a → Fits (itself w) i i a a
 unfolding itself branch_of
 own w i (primitive k x) e n h = own_kind k
 own w i (array p x) e n h = same_pair w p n
@@ -77,17 +77,17 @@ other w i j a (union bs) e l h m =
     other_at w i j a bs (no_union w i a bs e h any) (any_own w i bs l any)
 other w i j a _ e l h m = absurd (true≢false (sym m))
 
-pair_cases : (w : List NodeView) (i j : ℕ) (x y : Option NodeView) → slice_get w i ≡ x → slice_get w j ≡ y → i < length w → IsWhole w → All (IsPlain w) w → ((i == j) ≡ true) ⊎ (branch_of y i ≡ true) → Supports w w (itself w) i j
+pair_cases : (w : List NodeView) (i j : ℕ) (x y : Option NodeView) → slice_get w i ≡ x → slice_get w j ≡ y → i < length w → IsSelfContained w → All (IsPlain w) w → ((i == j) ≡ true) ⊎ (branch_of y i ≡ true) → Supports w w (itself w) i j
 unfolding branch_of
 pair_cases w i j None y e f l whole plain c = absurd (some_not_none w i l e)
 pair_cases w i j (Some a) None e f l whole plain (inl s) = absurd (some_not_none w i l (subst (λ (z : ℕ). slice_get w z ≡ None) (sym (eqb-true i j s)) f))
 pair_cases w i j (Some a) None e f l whole plain (inr m) = absurd (true≢false (sym m))
 pair_cases w i j (Some a) (Some b) e f l whole plain (inl s) =
     let g : slice_get w j ≡ Some a = subst (λ (z : ℕ). slice_get w z ≡ Some a) (eqb-true i j s) e in
-    (supports_at w w (itself w) i j a a e g).1 (subst (λ (z : ℕ). Fits (itself w) i z a a) (eqb-true i j s) (own w i a e (at_place w (Names (length w)) i a whole e) (at_place w (IsPlain w) i a plain e)))
+    (supports_at w w (itself w) i j a a e g).1 (subst (λ (z : ℕ). Fits (itself w) i z a a) (eqb-true i j s) (own w i a e (at_place w (RefersBelow (length w)) i a whole e) (at_place w (IsPlain w) i a plain e)))
 pair_cases w i j (Some a) (Some b) e f l whole plain (inr m) = (supports_at w w (itself w) i j a b e f).1 (other w i j a b e l (at_place w (IsPlain w) j b plain f) m)
 
-resolves_own : (w : List NodeView) → 0 < length w → IsWhole w → All (IsPlain w) w → Resolves w w
+resolves_own : (w : List NodeView) → 0 < length w → IsSelfContained w → All (IsPlain w) w → Resolves w w
 unfolding Resolves itself
 resolves_own w l whole plain = (
   itself w,

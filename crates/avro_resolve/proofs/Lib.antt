@@ -1,7 +1,7 @@
 pub mod Merges
-pub mod Meeting
+pub mod RankMaps
 pub mod Matching
-pub mod Laying
+pub mod FieldSlots
 pub mod Sourcing
 pub mod ViewLemmas
 pub mod Flags
@@ -14,9 +14,9 @@ pub mod PairLemmas
 pub mod SupportLemmas
 pub mod ListLemmas
 pub mod LinkLemmas
-pub mod Strikes
-pub mod Settling
-pub mod Telling
+pub mod Eliminates
+pub mod KeptSupport
+pub mod Propagation
 pub mod Ends
 pub mod Denoted
 pub mod Itself
@@ -24,7 +24,7 @@ pub mod VerdictLemmas
 pub mod Counting
 pub mod WalkSteps
 pub mod Reaching
-pub mod Resting
+pub mod Dependence
 pub mod MarkLemmas
 pub mod WalkLemmas
 pub mod WalkEnds

@@ -7,37 +7,37 @@ use Rattle.std.specs.Option.{IsSomeAnd}
 use Rattle.std.proofs.lemmas.List.Elements.{All-cons, All-nil}
 use Rattle.std.proofs.lemmas.List.{take_more}
 use Rattle.std.proofs.lemmas.Option.{get_or_from_slice_get, slice_get-get_or, slice_get_within}
-use Rattle.std.proofs.lemmas.Slice.Zip.{AllZip-left, all_zipped_more}
+use Rattle.std.proofs.lemmas.Slice.Zip.{AllZip-remains, all_zipped_more}
 use Rattle.avro_nodes.specs.Nodes.{FieldView, NodeView, primitive, array, mapping, union, enumeration, fixed, rec}
 use Rattle.avro_schema.specs.declared.index.FieldRanks.{FieldRanks}
 use Rattle.avro_schema.specs.Index.{AreFieldsRanked, AreRanks, IsFieldRanked, IsRank}
 use Rattle.avro_resolve.specs.declared.readable.Aliased.{Aliased}
 use Rattle.avro_resolve.specs.declared.links.Link.{Link}
 use Rattle.avro_resolve.specs.declared.links.Links.{Links}
-use Rattle.avro_resolve.specs.declared.links.Way.{Way}
-use Rattle.avro_resolve.specs.declared.links.Way.TheVariants.{OfContents, ByName, ByAlias}
+use Rattle.avro_resolve.specs.declared.links.LinkKind.{LinkKind}
+use Rattle.avro_resolve.specs.declared.links.LinkKind.TheVariants.{ByElement, ByName, ByAlias}
 use Rattle.avro_resolve.specs.Inside.Agreeing.{fields_of}
-use Rattle.avro_resolve.specs.Inside.Askers.{HasLabel, IsAlias, LinkedBy, IsFieldLinked, AreFieldsLinked, IsPlaceLinked, IsUnionListed, Notes, GivenBy, IsOfField, IsOfNode, alias_labels}
-use Rattle.avro_resolve.specs.Inside.Lists.{StandsAt}
-use Rattle.avro_resolve.specs.Inside.Meeting.{Tell}
+use Rattle.avro_resolve.specs.Inside.Referrers.{HasLabel, IsAlias, LinkedBy, IsFieldLinked, AreFieldsLinked, IsPlaceLinked, IsUnionListed, OnlyAddsLinks, GivenBy, IsOfField, IsOfNode, alias_labels}
+use Rattle.avro_resolve.specs.Inside.Lists.{IsListedAt}
+use Rattle.avro_resolve.specs.Inside.RankMaps.{RanksDecideNames}
 use Rattle.avro_resolve.proofs.ListLemmas.{adds_none, adds_such, adds_then}
 
 -- ---- more is noted
 
-pub notes_none : (Such : Link → ℕ → Type 0) (links : Links) → Notes Such links links
+pub notes_none : (Such : Link → ℕ → Type 0) (links : Links) → OnlyAddsLinks Such links links
 notes_none Such links = record { adds = adds_none Such links.lists.items; kept = λ number field e. e; unions = refl }
 
-pub notes_such : (This Such : Link → ℕ → Type 0) → ((x : Link) (p : ℕ) → This x p → Such x p) → (xs ys : Links) → Notes This xs ys → Notes Such xs ys
+pub notes_such : (This Such : Link → ℕ → Type 0) → ((x : Link) (p : ℕ) → This x p → Such x p) → (xs ys : Links) → OnlyAddsLinks This xs ys → OnlyAddsLinks Such xs ys
 notes_such This Such this xs ys h = record { adds = adds_such Such This this xs.lists.items ys.lists.items h.adds; kept = h.kept; unions = h.unions }
 
-pub notes_then : (This That Such : Link → ℕ → Type 0) → ((x : Link) (p : ℕ) → This x p → Such x p) → ((x : Link) (p : ℕ) → That x p → Such x p) → (xs ys zs : Links) → Notes This xs ys → Notes That ys zs → Notes Such xs zs
+pub notes_then : (This That Such : Link → ℕ → Type 0) → ((x : Link) (p : ℕ) → This x p → Such x p) → ((x : Link) (p : ℕ) → That x p → Such x p) → (xs ys zs : Links) → OnlyAddsLinks This xs ys → OnlyAddsLinks That ys zs → OnlyAddsLinks Such xs zs
 notes_then This That Such this that xs ys zs g h = record {
   adds = adds_then Such This That this that xs.lists.items ys.lists.items zs.lists.items g.adds h.adds;
   kept = λ number field e. h.kept number field (g.kept number field e);
   unions = h.unions ∙ g.unions;
 }
 
-module _ (old new : Links) (stand : (x : Link) (p : ℕ) → StandsAt old.lists.items x p → StandsAt new.lists.items x p)
+module _ (old new : Links) (stand : (x : Link) (p : ℕ) → IsListedAt old.lists.items x p → IsListedAt new.lists.items x p)
     (kept : (number : ℕ) (field : Aliased) → slice_get old.aliased.items number ≡ Some field → slice_get new.aliased.items number ≡ Some field) where
   pub linked_on : (Such : Link → Type 0) (i p : ℕ) → LinkedBy Such old.lists.items i p → LinkedBy Such new.lists.items i p
   linked_on Such i p (x, s, a, h) = (x, s, a, stand x p h)
@@ -45,42 +45,42 @@ module _ (old new : Links) (stand : (x : Link) (p : ℕ) → StandsAt old.lists.
   pub alias_on : (i index label p : ℕ) → LinkedBy (IsAlias old.aliased.items i index label) old.lists.items i p → LinkedBy (IsAlias new.aliased.items i index label) new.lists.items i p
   alias_on i index label p (x, (number, has, at), a, h) = (x, (number, has, kept number (record { place = i; index = index }) at), a, stand x p h)
 
-  pub field_on : (met : Option (List (Option ℕ))) (i index p : ℕ) (ranks : FieldRanks) → IsFieldLinked met old i index p ranks → IsFieldLinked met new i index p ranks
-  field_on met i index p ranks h = record {
+  pub field_on : (rank_map : Option (List (Option ℕ))) (i index p : ℕ) (ranks : FieldRanks) → IsFieldLinked rank_map old i index p ranks → IsFieldLinked rank_map new i index p ranks
+  field_on rank_map i index p ranks h = record {
     own = λ label e. linked_on (HasLabel label ByName) i p (h.own label e);
-    aliases = λ k d l. alias_on i index (get_or (alias_labels met ranks.aliases.items) k d) p (h.aliases k d l);
+    aliases = λ k d l. alias_on i index (get_or (alias_labels rank_map ranks.aliases.items) k d) p (h.aliases k d l);
   }
 
-  pub place_on : (names : List (List ℕ)) (met : Option (List (Option ℕ))) (i : ℕ) (a : NodeView) → IsPlaceLinked names met old i a → IsPlaceLinked names met new i a
-  place_on names met i a (ranks, h) = (
+  pub place_on : (names : List (List ℕ)) (rank_map : Option (List (Option ℕ))) (i : ℕ) (a : NodeView) → IsPlaceLinked names rank_map old i a → IsPlaceLinked names rank_map new i a
+  place_on names rank_map i a (ranks, h) = (
     ranks,
     record {
-      contained = λ p e. linked_on (HasLabel 0 OfContents) i p (h.contained p e);
+      contained = λ p e. linked_on (HasLabel 0 ByElement) i p (h.contained p e);
       ranked = h.ranked;
-      fields = λ index f y e g. field_on met i index f.place y (h.fields index f y e g);
+      fields = λ index f y e g. field_on rank_map i index f.place y (h.fields index f y e g);
     },
   )
 
 -- each list has what it had
 pub record SameLists (old new : List (Vec Link Global)) : Type 0 where
-  pub there : (x : Link) (place : ℕ) → StandsAt old x place → StandsAt new x place
-  pub back : (x : Link) (place : ℕ) → StandsAt new x place → StandsAt old x place
+  pub there : (x : Link) (place : ℕ) → IsListedAt old x place → IsListedAt new x place
+  pub back : (x : Link) (place : ℕ) → IsListedAt new x place → IsListedAt old x place
 
 -- what gives a link does so as more fields get numbers
-module _ (old new : List Aliased) (kept : (number : ℕ) (field : Aliased) → slice_get old number ≡ Some field → slice_get new number ≡ Some field) (met : Option (List (Option ℕ))) (x : Link) where
-  pub given_on : (index : ℕ) (y : FieldRanks) (way : Way) → GivenBy met old index y x way → GivenBy met new index y x way
-  given_on index y OfContents h = h
+module _ (old new : List Aliased) (kept : (number : ℕ) (field : Aliased) → slice_get old number ≡ Some field → slice_get new number ≡ Some field) (rank_map : Option (List (Option ℕ))) (x : Link) where
+  pub given_on : (index : ℕ) (y : FieldRanks) (kind : LinkKind) → GivenBy rank_map old index y x kind → GivenBy rank_map new index y x kind
+  given_on index y ByElement h = h
   given_on index y ByName h = h
-  given_on index y (ByAlias number) h = kept number (record { place = x.asker; index = index }) h
+  given_on index y (ByAlias number) h = kept number (record { place = x.referrer; index = index }) h
 
-  pub of_field_on : (fields : List FieldView) (ranks : List FieldRanks) (p : ℕ) → IsOfField met old fields ranks x p → IsOfField met new fields ranks x p
-  of_field_on fields ranks p (index, f, y, ef, ey, e, h) = (index, f, y, ef, ey, e, given_on index y x.way h)
+  pub of_field_on : (fields : List FieldView) (ranks : List FieldRanks) (p : ℕ) → IsOfField rank_map old fields ranks x p → IsOfField rank_map new fields ranks x p
+  of_field_on fields ranks p (index, f, y, ef, ey, e, h) = (index, f, y, ef, ey, e, given_on index y x.kind h)
 
-  pub of_node_on : (names : List (List ℕ)) (a : NodeView) (p : ℕ) → IsOfNode names met old a x p → IsOfNode names met new a x p
+  pub of_node_on : (names : List (List ℕ)) (a : NodeView) (p : ℕ) → IsOfNode names rank_map old a x p → IsOfNode names rank_map new a x p
   of_node_on names a p (inl h) = inl h
   of_node_on names a p (inr (ranks, ranked, h)) = inr (ranks, ranked, of_field_on (fields_of a) ranks p h)
 
-pub union_listed_on : (xs ys : List (Vec ℕ Global)) (i : ℕ) → ((x p : ℕ) → StandsAt xs x p → StandsAt ys x p) → (a : NodeView) → IsUnionListed xs i a → IsUnionListed ys i a
+pub union_listed_on : (xs ys : List (Vec ℕ Global)) (i : ℕ) → ((x p : ℕ) → IsListedAt xs x p → IsListedAt ys x p) → (a : NodeView) → IsUnionListed xs i a → IsUnionListed ys i a
 union_listed_on xs ys i stand (union ps) h = λ k d l. stand i (get_or ps k d) (h k d l)
 union_listed_on xs ys i stand (primitive k x) h = h
 union_listed_on xs ys i stand (array p x) h = h
@@ -101,7 +101,7 @@ then_some g (Some x) y e = (x, refl, e)
 
 -- what stands beside an element of the first list
 pub zip_got : {X Y : Type 0} (P : X → Y → Type 0) (xs : List X) (ys : List Y) → AllZip P xs ys → (k : ℕ) (x : X) → slice_get xs k ≡ Some x → (y : Y) × (slice_get ys k ≡ Some y) × P x y
-zip_got {X} P xs ys zip k x e = and_some (P x) (slice_get ys k) (subst (λ (o : Option X). MatchOption o (Unit {0}) (λ z. IsSomeAnd (slice_get ys k) (P z))) e (AllZip-left P xs ys zip k))
+zip_got {X} P xs ys zip k x e = and_some (P x) (slice_get ys k) (subst (λ (o : Option X). MatchOption o (Unit {0}) (λ z. IsSomeAnd (slice_get ys k) (P z))) e (AllZip-remains P xs ys zip k))
 
 -- one more of two lists side by side
 pub zip_more : {X Y : Type 0} (P : X → Y → Type 0) (xs : List X) (i : ℕ) (x : X) (ys : List Y) (y : Y) → slice_get xs i ≡ Some x → AllZip P (take i xs) ys → P x y → AllZip P (take (i + 1) xs) (ys ++ y ∷ [])
@@ -114,22 +114,22 @@ zip_more {X} P xs i x ys y e so_far now =
 abbrev pub IsMetBy : List (List ℕ) → Links → ℕ → FieldView → Type 0
 IsMetBy r links i g = (rank : ℕ) → IsRank r g.name rank → LinkedBy (HasLabel rank ByName) links.lists.items i g.place
 
-pub met_by : (w r : List (List ℕ)) (met : List (Option ℕ)) → Tell w r met → (links : Links) (i : ℕ) (fields : List FieldView) (ranks : List FieldRanks) → AreFieldsRanked w fields ranks → AreFieldsLinked (Some met) links i fields ranks
+pub met_by : (w r : List (List ℕ)) (rank_map : List (Option ℕ)) → RanksDecideNames w r rank_map → (links : Links) (i : ℕ) (fields : List FieldView) (ranks : List FieldRanks) → AreFieldsRanked w fields ranks → AreFieldsLinked (Some rank_map) links i fields ranks
     → All (IsMetBy r links i) fields
-met_by w r met tell links i fields ranks ranked linked k d l rank er =
+met_by w r rank_map ranks_decide_names links i fields ranks ranked linked k d l rank er =
     let g = get_or fields k d in
     let eg : slice_get fields k ≡ Some g = slice_get-get_or fields k d l in
     let x = zip_got (IsFieldRanked w) fields ranks ranked k g eg in
-    (linked k g x.0 eg x.1).own rank ((tell x.0.name rank g.name g.name x.2.name er).1 refl)
+    (linked k g x.0 eg x.1).own rank ((ranks_decide_names x.0.name rank g.name g.name x.2.name er).1 refl)
 
 -- the link is of the field's own name, or of one of the aliases of the record's field of this index
-abbrev pub IsOf : List Aliased → ℕ → ℕ → Way → Type 0
-IsOf aliased asker index OfContents = ⊥
-IsOf aliased asker index ByName = Unit {0}
-IsOf aliased asker index (ByAlias number) = slice_get aliased number ≡ Some (record { place = asker; index = index })
+abbrev pub IsOf : List Aliased → ℕ → ℕ → LinkKind → Type 0
+IsOf aliased referrer index ByElement = ⊥
+IsOf aliased referrer index ByName = Unit {0}
+IsOf aliased referrer index (ByAlias number) = slice_get aliased number ≡ Some (record { place = referrer; index = index })
 
 abbrev pub Seeks : List Aliased → ℕ → ℕ → ℕ → Link → Type 0
-Seeks aliased asker index label x = (x.label ≡ label) × IsOf aliased asker index x.way
+Seeks aliased referrer index label x = (x.label ≡ label) × IsOf aliased referrer index x.kind
 
 -- the reader's place refers to the type of its field by the rank of the name
 abbrev pub IsSoughtBy : List (List ℕ) → Links → ℕ → ℕ → ℕ → List ℕ → Type 0

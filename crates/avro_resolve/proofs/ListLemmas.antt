@@ -6,7 +6,7 @@ use Rattle.std.proofs.lemmas.Bool.{cases_lt}
 use Rattle.std.specs.declared.alloc.Global.{Global}
 use Rattle.std.proofs.lemmas.List.{length-set}
 use Rattle.std.proofs.lemmas.Bool.Decides.{nat_tests}
-use Rattle.avro_resolve.specs.Inside.Lists.{list_at, StandsAt, Adds}
+use Rattle.avro_resolve.specs.Inside.Lists.{list_at, IsListedAt, OnlyAdds}
 
 pub nothing_stands : {X : Type 0} (x : X) → Contains [] x → ⊥
 nothing_stands x h = let l = h.1 in absurd (omega arith)
@@ -54,36 +54,36 @@ same_place x i = by (x == i) refl
 
 -- what one list's change means for the lists
 module _ {X : Type 0} (xs : List (Vec X Global)) (k : ℕ) (v : Vec X Global) (l : k < length xs) where
-  pub keeps : ((x : X) → Contains (list_at xs k) x → Contains v.items x) → (x : X) (p : ℕ) → StandsAt xs x p → StandsAt (set xs k v) x p
+  pub keeps : ((x : X) → Contains (list_at xs k) x → Contains v.items x) → (x : X) (p : ℕ) → IsListedAt xs x p → IsListedAt (set xs k v) x p
   keeps kept x p h = elim (same_place p k) [
-    | inl e ↦ subst (λ (q : ℕ). StandsAt (set xs k v) x q) (sym e) (subst (λ (ys : List X). Contains ys x) (sym (list_set xs k v l)) (kept x (subst (λ (q : ℕ). StandsAt xs x q) e h)))
+    | inl e ↦ subst (λ (q : ℕ). IsListedAt (set xs k v) x q) (sym e) (subst (λ (ys : List X). Contains ys x) (sym (list_set xs k v l)) (kept x (subst (λ (q : ℕ). IsListedAt xs x q) e h)))
     | inr n ↦ subst (λ (ys : List X). Contains ys x) (sym (list_set_other xs k p v n)) h
   ]
 
-  pub onlys : (Such : X → ℕ → Type 0) → ((x : X) → Contains v.items x → Contains (list_at xs k) x ⊎ Such x k) → (x : X) (p : ℕ) → StandsAt (set xs k v) x p → StandsAt xs x p ⊎ Such x p
+  pub onlys : (Such : X → ℕ → Type 0) → ((x : X) → Contains v.items x → Contains (list_at xs k) x ⊎ Such x k) → (x : X) (p : ℕ) → IsListedAt (set xs k v) x p → IsListedAt xs x p ⊎ Such x p
   onlys Such only x p h = elim (same_place p k) [
-    | inl e ↦ elim (only x (subst (λ (ys : List X). Contains ys x) (list_set xs k v l) (subst (λ (q : ℕ). StandsAt (set xs k v) x q) e h))) [
-      | inl g ↦ inl (subst (λ (q : ℕ). StandsAt xs x q) (sym e) g)
+    | inl e ↦ elim (only x (subst (λ (ys : List X). Contains ys x) (list_set xs k v l) (subst (λ (q : ℕ). IsListedAt (set xs k v) x q) e h))) [
+      | inl g ↦ inl (subst (λ (q : ℕ). IsListedAt xs x q) (sym e) g)
       | inr g ↦ inr (subst (Such x) (sym e) g)
     ]
     | inr n ↦ inl (subst (λ (ys : List X). Contains ys x) (list_set_other xs k p v n) h)
   ]
 
-  pub adds_one : (Such : X → ℕ → Type 0) → ((x : X) → Contains (list_at xs k) x → Contains v.items x) → ((x : X) → Contains v.items x → Contains (list_at xs k) x ⊎ Such x k) → Adds Such xs (set xs k v)
+  pub adds_one : (Such : X → ℕ → Type 0) → ((x : X) → Contains (list_at xs k) x → Contains v.items x) → ((x : X) → Contains v.items x → Contains (list_at xs k) x ⊎ Such x k) → OnlyAdds Such xs (set xs k v)
   adds_one Such kept only = record { long = length-set xs k v; kept = keeps kept; only = onlys Such only }
 
 module _ {X : Type 0} (Such : X → ℕ → Type 0) where
-  pub adds_none : (xs : List (Vec X Global)) → Adds Such xs xs
+  pub adds_none : (xs : List (Vec X Global)) → OnlyAdds Such xs xs
   adds_none xs = record { long = refl; kept = λ x p h. h; only = λ x p h. inl h }
 
-  pub adds_such : (This : X → ℕ → Type 0) → ((x : X) (p : ℕ) → This x p → Such x p) → (xs ys : List (Vec X Global)) → Adds This xs ys → Adds Such xs ys
+  pub adds_such : (This : X → ℕ → Type 0) → ((x : X) (p : ℕ) → This x p → Such x p) → (xs ys : List (Vec X Global)) → OnlyAdds This xs ys → OnlyAdds Such xs ys
   adds_such This this xs ys h = record {
     long = h.long;
     kept = h.kept;
     only = λ x p l. elim (h.only x p l) [ inl m ↦ inl m | inr e ↦ inr (this x p e) ];
   }
 
-  pub adds_then : (This That : X → ℕ → Type 0) → ((x : X) (p : ℕ) → This x p → Such x p) → ((x : X) (p : ℕ) → That x p → Such x p) → (xs ys zs : List (Vec X Global)) → Adds This xs ys → Adds That ys zs → Adds Such xs zs
+  pub adds_then : (This That : X → ℕ → Type 0) → ((x : X) (p : ℕ) → This x p → Such x p) → ((x : X) (p : ℕ) → That x p → Such x p) → (xs ys zs : List (Vec X Global)) → OnlyAdds This xs ys → OnlyAdds That ys zs → OnlyAdds Such xs zs
   adds_then This That this that xs ys zs g h = record {
     long = h.long ∙ g.long;
     kept = λ x p l. h.kept x p (g.kept x p l);

@@ -4,19 +4,19 @@ use Rattle.std.specs.Prelude.{All, Contains, IsTrue, Option, None, MatchOption, 
 use Rattle.std.specs.Option.{IsSomeAnd}
 use Rattle.std.proofs.lemmas.List.Elements.{All-contains, All-nil}
 use Rattle.std.proofs.lemmas.Option.{same_Some}
-use Rattle.std.proofs.lemmas.Slice.Zip.{AllZip-left}
+use Rattle.std.proofs.lemmas.Slice.Zip.{AllZip-remains}
 use Rattle.avro_nodes.specs.Names.{last_part}
 use Rattle.avro_nodes.specs.Nodes.{FieldView, NamedView, NodeView, primitive, array, mapping, union, enumeration, fixed, rec, texts_view}
 use Rattle.avro_schema.specs.declared.index.Index.{Index}
 use Rattle.avro_schema.specs.declared.index.NamedRanks.{NamedRanks}
 use Rattle.avro_schema.specs.declared.index.Ranks.{Ranks}
 use Rattle.avro_schema.specs.declared.index.Ranks.TheVariants.{Unnamed, Fixed, Enum, Rec}
-use Rattle.avro_schema.specs.Index.{AreRisingRanks, IsIndex, IsNamedRanked, IsRank, IsRanked, IsUnnamed}
+use Rattle.avro_schema.specs.Index.{AreSortedRanks, IsIndex, IsNamedRanked, IsRank, IsRanked, IsUnnamed}
 use Rattle.avro_resolve.specs.declared.sides.Side.{Side}
 use Rattle.avro_resolve.specs.Resolution.{NameMatch}
-use Rattle.avro_resolve.specs.Inside.Agreeing.{fields_of, named_of, named_ranks, symbols_of, symbol_ranks, TellsMatch}
-use Rattle.avro_resolve.specs.Inside.Meeting.{Tell, met_at}
-use Rattle.avro_resolve.specs.Inside.Places.{Names}
+use Rattle.avro_resolve.specs.Inside.Agreeing.{fields_of, named_of, named_ranks, symbols_of, symbol_ranks, DecidesNameMatch}
+use Rattle.avro_resolve.specs.Inside.RankMaps.{RanksDecideNames, mapped_rank}
+use Rattle.avro_resolve.specs.Inside.Places.{RefersBelow}
 use Rattle.avro_resolve.specs.Inside.Sides.{IsSide, names_of, nodes_of}
 
 -- ---- the ranks at a place
@@ -29,7 +29,7 @@ pub ranked_at : (nodes : List NodeView) (index : Index) → IsIndex nodes index 
 ranked_at nodes index is place a v ea ev =
     let names = texts_view index.names.items in
     let at : IsSomeAnd (slice_get index.ranks.items place) (IsRanked names a) =
-    subst (λ (o : Option NodeView). MatchOption o (Unit {0}) (λ x. IsSomeAnd (slice_get index.ranks.items place) (IsRanked names x))) ea (AllZip-left (IsRanked names) nodes index.ranks.items is.ranked place) in
+    subst (λ (o : Option NodeView). MatchOption o (Unit {0}) (λ x. IsSomeAnd (slice_get index.ranks.items place) (IsRanked names x))) ea (AllZip-remains (IsRanked names) nodes index.ranks.items is.ranked place) in
     some_and (IsRanked names) (slice_get index.ranks.items place) a v ev at
 
 -- those of a node of a side
@@ -37,7 +37,7 @@ pub node_ranks : (side : Side) → IsSide side → (place : ℕ) (a : NodeView) 
 node_ranks side is place a ea =
     let names = names_of side in
     let at : IsSomeAnd (slice_get side.index.now.ranks.items place) (IsRanked names a) =
-    subst (λ (o : Option NodeView). MatchOption o (Unit {0}) (λ x. IsSomeAnd (slice_get side.index.now.ranks.items place) (IsRanked names x))) ea (AllZip-left (IsRanked names) (nodes_of side) side.index.now.ranks.items is.index.ranked place) in
+    subst (λ (o : Option NodeView). MatchOption o (Unit {0}) (λ x. IsSomeAnd (slice_get side.index.now.ranks.items place) (IsRanked names x))) ea (AllZip-remains (IsRanked names) (nodes_of side) side.index.now.ranks.items is.index.ranked place) in
     some_ranks (slice_get side.index.now.ranks.items place) (IsRanked names a) at
   where
     some_ranks : (o : Option Ranks) (P : Ranks → Type 0) → IsSomeAnd o P → (v : Ranks) × P v
@@ -64,17 +64,17 @@ module _ (names : List (List ℕ)) where
   ranked_name (rec n fs x) (Enum k t) h = absurd h
   ranked_name (rec n fs x) (Rec k t) h = h.0
 
-  no_ranks : AreRisingRanks names [] []
+  no_ranks : AreSortedRanks names [] []
   no_ranks = record { rise = λ k l. absurd (omega arith); each = λ k d l. absurd (omega arith); only = λ k d l. absurd (omega arith) }
 
-  unnamed : (v : Ranks) → IsUnnamed v → AreRisingRanks names [] (symbol_ranks v)
+  unnamed : (v : Ranks) → IsUnnamed v → AreSortedRanks names [] (symbol_ranks v)
   unnamed Unnamed h = no_ranks
   unnamed (Fixed k) h = absurd h
   unnamed (Enum k t) h = absurd h
   unnamed (Rec k t) h = absurd h
 
   -- the ranks of a node's symbols
-  pub symbols_ranked : (a : NodeView) (v : Ranks) → IsRanked names a v → AreRisingRanks names (symbols_of a) (symbol_ranks v)
+  pub symbols_ranked : (a : NodeView) (v : Ranks) → IsRanked names a v → AreSortedRanks names (symbols_of a) (symbol_ranks v)
   symbols_ranked (primitive k x) v h = unnamed v h
   symbols_ranked (array p x) v h = unnamed v h
   symbols_ranked (mapping p x) v h = unnamed v h
@@ -93,7 +93,7 @@ module _ (names : List (List ℕ)) where
   symbols_ranked (rec n fs x) (Rec k t) h = no_ranks
 
 -- the places that the fields of a node name
-pub fields_named : (n : ℕ) (a : NodeView) → Names n a → All (λ f. f.place < n) (fields_of a)
+pub fields_named : (n : ℕ) (a : NodeView) → RefersBelow n a → All (λ f. f.place < n) (fields_of a)
 fields_named n (primitive k x) h = All-nil (λ (f : FieldView). f.place < n)
 fields_named n (array p x) h = All-nil (λ (f : FieldView). f.place < n)
 fields_named n (mapping p x) h = All-nil (λ (f : FieldView). f.place < n)
@@ -115,8 +115,8 @@ module _ (w r : List (List ℕ)) (matched : Bool) where
   both (Some n) None k l named wanted e f right g h = tt
   both (Some n) (Some m) k l named wanted e f right g h = right n m (some_and (IsNamedRanked w) k n named e g) (some_and (IsNamedRanked r) l m wanted f h)
 
-  pub tells_match : (a b : NodeView) (v u : Ranks) → IsRanked w a v → IsRanked r b u → (named wanted : NamedRanks) → named_ranks v ≡ Some named → named_ranks u ≡ Some wanted → Matches named wanted → TellsMatch matched a b
-  tells_match a b v u g h named wanted e f right = both (named_of a) (named_of b) (named_ranks v) (named_ranks u) named wanted e f right (ranked_name w a v g) (ranked_name r b u h)
+  pub decides_name_match : (a b : NodeView) (v u : Ranks) → IsRanked w a v → IsRanked r b u → (named wanted : NamedRanks) → named_ranks v ≡ Some named → named_ranks u ≡ Some wanted → Matches named wanted → DecidesNameMatch matched a b
+  decides_name_match a b v u g h named wanted e f right = both (named_of a) (named_of b) (named_ranks v) (named_ranks u) named wanted e f right (ranked_name w a v g) (ranked_name r b u h)
 
   none_left : (x y : Option NamedView) (k : Option NamedRanks) → k ≡ None → MatchOption x (Unit {0}) (λ n. IsSomeAnd k (IsNamedRanked w n)) → MatchOption x (Unit {0}) (λ n. MatchOption y (Unit {0}) (λ m. IsTrue matched ↔ NameMatch n m))
   none_left None y k e g = tt
@@ -127,32 +127,32 @@ module _ (w r : List (List ℕ)) (matched : Bool) where
   none_right (Some n) None l e h = tt
   none_right (Some n) (Some m) l e h = absurd (subst (λ (o : Option NamedRanks). IsSomeAnd o (IsNamedRanked r m)) e h)
 
-  pub unnamed_left : (a b : NodeView) (v : Ranks) → IsRanked w a v → named_ranks v ≡ None → TellsMatch matched a b
+  pub unnamed_left : (a b : NodeView) (v : Ranks) → IsRanked w a v → named_ranks v ≡ None → DecidesNameMatch matched a b
   unnamed_left a b v g e = none_left (named_of a) (named_of b) (named_ranks v) e (ranked_name w a v g)
 
-  pub unnamed_right : (a b : NodeView) (u : Ranks) → IsRanked r b u → named_ranks u ≡ None → TellsMatch matched a b
+  pub unnamed_right : (a b : NodeView) (u : Ranks) → IsRanked r b u → named_ranks u ≡ None → DecidesNameMatch matched a b
   unnamed_right a b u h e = none_right (named_of a) (named_of b) (named_ranks u) e (ranked_name r b u h)
 
-module _ (w r : List (List ℕ)) (met : List (Option ℕ)) (tell : Tell w r met) (n m : NamedView) (named wanted : NamedRanks) (g : IsNamedRanked w n named) (h : IsNamedRanked r m wanted) where
-  pub match_last : (met_at met named.last ≡ Some wanted.last) ↔ (last_part n.name ≡ last_part m.name)
-  match_last = tell named.last wanted.last (last_part n.name) (last_part m.name) g.last h.last
+module _ (w r : List (List ℕ)) (rank_map : List (Option ℕ)) (ranks_decide_names : RanksDecideNames w r rank_map) (n m : NamedView) (named wanted : NamedRanks) (g : IsNamedRanked w n named) (h : IsNamedRanked r m wanted) where
+  pub match_last : (mapped_rank rank_map named.last ≡ Some wanted.last) ↔ (last_part n.name ≡ last_part m.name)
+  match_last = ranks_decide_names named.last wanted.last (last_part n.name) (last_part m.name) g.last h.last
 
-  from_alias : (rank : ℕ) → met_at met named.full ≡ Some rank → Contains wanted.aliases.items rank → Contains m.aliases n.name
+  from_alias : (rank : ℕ) → mapped_rank rank_map named.full ≡ Some rank → Contains wanted.aliases.items rank → Contains m.aliases n.name
   from_alias rank e own =
       let back = All-contains (λ k. (text : List ℕ) × Contains m.aliases text × IsRank r text k) wanted.aliases.items rank h.aliases.only own in
-      subst (λ (x : List ℕ). Contains m.aliases x) (sym ((tell named.full rank n.name back.0 g.full back.2).0 e)) back.1
+      subst (λ (x : List ℕ). Contains m.aliases x) (sym ((ranks_decide_names named.full rank n.name back.0 g.full back.2).0 e)) back.1
 
-  to_alias : Contains m.aliases n.name → (rank : ℕ) × Contains wanted.aliases.items rank × (met_at met named.full ≡ Some rank)
+  to_alias : Contains m.aliases n.name → (rank : ℕ) × Contains wanted.aliases.items rank × (mapped_rank rank_map named.full ≡ Some rank)
   to_alias own =
       let there = All-contains (λ text. (k : ℕ) × Contains wanted.aliases.items k × IsRank r text k) m.aliases n.name h.aliases.each own in
-      (there.0, there.1, (tell named.full there.0 n.name n.name g.full there.2).1 refl)
+      (there.0, there.1, (ranks_decide_names named.full there.0 n.name n.name g.full there.2).1 refl)
 
-  module _ (other : (met_at met named.last ≡ Some wanted.last) → ⊥) where
-    pub no_alias : met_at met named.full ≡ None → NameMatch n m → ⊥
+  module _ (other : (mapped_rank rank_map named.last ≡ Some wanted.last) → ⊥) where
+    pub no_alias : mapped_rank rank_map named.full ≡ None → NameMatch n m → ⊥
     no_alias none (inl e) = other (match_last.1 e)
     no_alias none (inr own) = let there = to_alias own in absurd cc
 
-    pub by_alias : (rank : ℕ) → met_at met named.full ≡ Some rank → Contains wanted.aliases.items rank ↔ NameMatch n m
+    pub by_alias : (rank : ℕ) → mapped_rank rank_map named.full ≡ Some rank → Contains wanted.aliases.items rank ↔ NameMatch n m
     by_alias rank e = (
       (λ own. inr (from_alias rank e own)),
       (λ o. elim o [

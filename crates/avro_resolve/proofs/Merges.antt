@@ -26,18 +26,18 @@ told_by_search xs n (Err i) rise h =
           elim (cases_lt k i) [ inl g ↦ (let low = gap.1 k g in absurd (omega arith)) | inr g ↦ (let high = gap.2 k (omega arith) l in absurd (omega arith)) ]),
     )
 
-module _ (list numbers : List ℕ) (i met : ℕ) (before : (k m : ℕ) → k < i → met ≤ m → m < length numbers → get_or list k 0 < get_or numbers m 0) where
+module _ (list numbers : List ℕ) (i rank_map : ℕ) (before : (k m : ℕ) → k < i → rank_map ≤ m → m < length numbers → get_or list k 0 < get_or numbers m 0) where
   -- a number that is below what stands next stands nowhere
-  pub not_there : IsStrictlyIncreasing list → met < length numbers → (i < length list → get_or numbers met 0 < get_or list i 0) → Contains list (get_or numbers met 0) → ⊥
+  pub not_there : IsStrictlyIncreasing list → rank_map < length numbers → (i < length list → get_or numbers rank_map 0 < get_or list i 0) → Contains list (get_or numbers rank_map 0) → ⊥
   not_there rise within below (k, l, e) =
-      let here : get_or list k 0 ≡ get_or numbers met 0 = get_or_default list k 0 (get_or numbers met 0) l ∙ e in
+      let here : get_or list k 0 ≡ get_or numbers rank_map 0 = get_or_default list k 0 (get_or numbers rank_map 0) l ∙ e in
       elim (cases_lt k i) [
-        | inl g ↦ (let a = before k met g (omega arith) within in absurd (omega arith))
+        | inl g ↦ (let a = before k rank_map g (omega arith) within in absurd (omega arith))
         | inr g ↦ (let a = below (omega arith) in let b = rises list rise i k (omega arith) l in absurd (omega arith))
       ]
 
   -- what is below the numbers from an index on is passed
-  pub passed : (next : ℕ) → met ≤ next → ((m : ℕ) → next ≤ m → m < length numbers → get_or list i 0 < get_or numbers m 0) → (k m : ℕ) → k < i + 1 → next ≤ m → m < length numbers → get_or list k 0 < get_or numbers m 0
+  pub passed : (next : ℕ) → rank_map ≤ next → ((m : ℕ) → next ≤ m → m < length numbers → get_or list i 0 < get_or numbers m 0) → (k m : ℕ) → k < i + 1 → next ≤ m → m < length numbers → get_or list k 0 < get_or numbers m 0
   passed next on below k m l later lm = elim (cases_lt k i) [
     | inl g ↦ before k m g (omega arith) lm
     | inr g ↦ (

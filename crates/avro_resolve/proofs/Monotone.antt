@@ -7,7 +7,7 @@ use Rattle.std.proofs.lemmas.List.Elements.{All-head, All-tail}
 use Rattle.std.proofs.lemmas.Option.{slice_get_within, get_or_from_slice_get}
 use Rattle.avro_nodes.specs.Nodes.{FieldView, NodeView, primitive, array, mapping, union, enumeration, fixed, rec}
 use Rattle.avro_resolve.specs.Resolution.{Pairs, first_named, source, Fits, Supports}
-use Rattle.avro_resolve.specs.Inside.Places.{Names, NamesAll, IsWhole}
+use Rattle.avro_resolve.specs.Inside.Places.{RefersBelow, AllReferences, IsSelfContained}
 
 -- each pair of the one set is one of the other
 abbrev pub Within : Pairs → Pairs → Type 0
@@ -51,7 +51,7 @@ module _ (P Q : ℕ → Type 0) (R S : Pairs) (within : WithinAmong P Q R S) whe
   any_more : (i : ℕ) (places : List ℕ) → P i → All Q places → Any (λ p. IsTrue (R i p)) places → Any (λ p. IsTrue (S i p)) places
   any_more i places li lp (k, x, l, e, h) = (k, x, l, e, within i x li (subst Q e (lp k x l)) h)
 
-  fits_more : (i j : ℕ) (a b : NodeView) → P i → Q j → NamesAll P a → NamesAll Q b → Fits R i j a b → Fits S i j a b
+  fits_more : (i j : ℕ) (a b : NodeView) → P i → Q j → AllReferences P a → AllReferences Q b → Fits R i j a b → Fits S i j a b
   fits_more i j (union bs) b li lj la lb h = λ k d l. within _ j (la k d l) lj (h k d l)
   fits_more i j (primitive k x) (union bs) li lj la lb h = any_more i bs li lb h
   fits_more i j (array p x) (union bs) li lj la lb h = any_more i bs li lb h
@@ -87,20 +87,20 @@ supported_in w r R i j h = within_both R i j w r (slice_get w i) (slice_get r j)
 pub at_place : (w : List NodeView) (P : NodeView → Type 0) (i : ℕ) (a : NodeView) → All P w → slice_get w i ≡ Some a → P a
 at_place w P i a h e = subst P (get_or_from_slice_get w i a a e) (h i a (slice_get_within w i a e))
 
-both_more : (w r : List NodeView) (R S : Pairs) → IsWhole w → IsWhole r → WithinBelow (length w) (length r) R S → (i j : ℕ) (x y : Option NodeView) → slice_get w i ≡ x → slice_get r j ≡ y
+both_more : (w r : List NodeView) (R S : Pairs) → IsSelfContained w → IsSelfContained r → WithinBelow (length w) (length r) R S → (i j : ℕ) (x y : Option NodeView) → slice_get w i ≡ x → slice_get r j ≡ y
     → MatchOption x ⊥ (λ a. MatchOption y ⊥ (λ b. Fits R i j a b)) → MatchOption x ⊥ (λ a. MatchOption y ⊥ (λ b. Fits S i j a b))
 both_more w r R S ww wr within i j None y e f h = h
 both_more w r R S ww wr within i j (Some a) None e f h = h
 both_more w r R S ww wr within i j (Some a) (Some b) e f h =
-    fits_more (λ p. p < length w) (λ p. p < length r) R S within i j a b (slice_get_within w i a e) (slice_get_within r j b f) (at_place w (Names (length w)) i a ww e) (at_place r (Names (length r)) j b wr f) h
+    fits_more (λ p. p < length w) (λ p. p < length r) R S within i j a b (slice_get_within w i a e) (slice_get_within r j b f) (at_place w (RefersBelow (length w)) i a ww e) (at_place r (RefersBelow (length r)) j b wr f) h
 
-pub supports_below : (w r : List NodeView) (R S : Pairs) → IsWhole w → IsWhole r → WithinBelow (length w) (length r) R S → (i j : ℕ) → Supports w r R i j → Supports w r S i j
+pub supports_below : (w r : List NodeView) (R S : Pairs) → IsSelfContained w → IsSelfContained r → WithinBelow (length w) (length r) R S → (i j : ℕ) → Supports w r R i j → Supports w r S i j
 unfolding Supports
 supports_below w r R S ww wr within i j h = both_more w r R S ww wr within i j (slice_get w i) (slice_get r j) refl refl h
 
 -- ---- a set with each pair of another, wherever it lies
 
-everywhere : (a : NodeView) → NamesAll (λ _. Unit {0}) a
+everywhere : (a : NodeView) → AllReferences (λ _. Unit {0}) a
 everywhere (primitive k x) = tt
 everywhere (array p x) = tt
 everywhere (mapping p x) = tt

@@ -7,7 +7,7 @@ use Rattle.std.proofs.lemmas.Bool.Decides.{nat_tests}
 use Rattle.avro_nodes.specs.Nodes.{NodeView}
 use Rattle.avro_resolve.specs.Resolution.{Pairs, Supports, Closed}
 use Rattle.avro_resolve.proofs.Monotone.{Within, supports_within}
-use Rattle.avro_resolve.specs.Witnesses.{Pair, member, without, RefutesAfter, Differ}
+use Rattle.avro_resolve.specs.Witnesses.{Pair, member, without, RefutesAfter, AreDistinct}
 
 same_test : (i j : ℕ) → (i == i && j == j) ≡ true
 same_test i j = grind (arith, nat_tests)
@@ -76,8 +76,8 @@ apart_push p ps i j d e = false_unless (member (ps ++ (i, j) ∷ []) p.0 p.1) (�
   | inr g ↦ true≢false (sym (at_pair p ps i j g.0 g.1) ∙ e)
 ])
 
-pub differ_push : (ps : List Pair) (i j : ℕ) → Differ ps → member ps i j ≡ false → Differ (ps ++ (i, j) ∷ [])
-unfolding Differ
+pub differ_push : (ps : List Pair) (i j : ℕ) → AreDistinct ps → member ps i j ≡ false → AreDistinct (ps ++ (i, j) ∷ [])
+unfolding AreDistinct
 differ_push [] i j d e = (member-nil i j, tt)
 differ_push (p ∷ ps) i j d e = (apart_push p ps i j d.0 e, differ_push ps i j d.1 (tail_false p ps i j e))
 

@@ -4,20 +4,20 @@ use Rattle.std.specs.Prelude.{All, Any, Contains, MatchOption, slice_get, option
 use Rattle.std.proofs.lemmas.Option.{slice_get_within}
 use Rattle.avro_nodes.specs.Nodes.{FieldView, NodeView, primitive, array, mapping, union, enumeration, fixed, rec}
 use Rattle.avro_resolve.specs.Resolution.{source}
-use Rattle.avro_resolve.specs.Inside.Places.{Names, IsWhole}
+use Rattle.avro_resolve.specs.Inside.Places.{RefersBelow, IsSelfContained}
 use Rattle.avro_resolve.specs.Verdicts.{pairs_below}
-use Rattle.avro_resolve.specs.Asking.{source_place, AsksFor, Asks, HoldsAsked}
-use Rattle.avro_resolve.specs.Inside.Asked.{IsSmall}
+use Rattle.avro_resolve.specs.Asking.{source_place, AsksFor, Asks, ContainsAsked}
+use Rattle.avro_resolve.specs.Inside.IsReachable.{IsSmall}
 use Rattle.avro_resolve.proofs.Monotone.{named_in, at_place}
 use Rattle.avro_resolve.proofs.PairLemmas.{in_pairs, length-pairs_below}
 
-place_of : (n p : ℕ) (fields : List FieldView) (f : FieldView) (o : Option FieldView) → source fields f ≡ o → option_map (λ g. g.place) o ≡ Some p → All (λ g. g.place < n) fields → p < n
-place_of n p fields f None e s h = absurd cc
-place_of n p fields f (Some g) e s h = let same : g.place ≡ p = cc in subst (λ (x : ℕ). x < n) same (named_in (λ g. g.place < n) g (f.name ∷ f.aliases) fields h e)
+find_source : (n p : ℕ) (fields : List FieldView) (f : FieldView) (o : Option FieldView) → source fields f ≡ o → option_map (λ g. g.place) o ≡ Some p → All (λ g. g.place < n) fields → p < n
+find_source n p fields f None e s h = absurd cc
+find_source n p fields f (Some g) e s h = let same : g.place ≡ p = cc in subst (λ (x : ℕ). x < n) same (named_in (λ g. g.place < n) g (f.name ∷ f.aliases) fields h e)
 
 -- a source's place is one that the fields name
 pub source_within : (n p : ℕ) (fields : List FieldView) (f : FieldView) → source_place fields f ≡ Some p → All (λ g. g.place < n) fields → p < n
-source_within n p fields f e h = place_of n p fields f (source fields f) refl e h
+source_within n p fields f e h = find_source n p fields f (source fields f) refl e h
 
 any_in : (n p : ℕ) (xs : List ℕ) → All (λ x. x < n) xs → Contains xs p → p < n
 any_in n p xs h (k, l, e) = subst (λ (y : ℕ). y < n) e (h k p l)
@@ -28,7 +28,7 @@ field_in n m p q fs gs h g (k, x, l, e, same) = (source_within n p fs x same.0 h
 either_in : (n m i p q : ℕ) (branches : List ℕ) → i < n → All (λ x. x < m) branches → (p ≡ i) × Contains branches q → (p < n) × (q < m)
 either_in n m i p q branches li nb h = (subst (λ (y : ℕ). y < n) (sym h.0) li, any_in m q branches nb h.1)
 
-pub asks_in : (n m i j p q : ℕ) (a b : NodeView) → Names n a → Names m b → i < n → j < m → AsksFor i j a b p q → (p < n) × (q < m)
+pub asks_in : (n m i j p q : ℕ) (a b : NodeView) → RefersBelow n a → RefersBelow m b → i < n → j < m → AsksFor i j a b p q → (p < n) × (q < m)
 asks_in n m i j p q (union bs) b na nb li lj h = (any_in n p bs na h.0, subst (λ (y : ℕ). y < m) (sym h.1) lj)
 asks_in n m i j p q (primitive k x) (union bs) na nb li lj h = either_in n m i p q bs li nb h
 asks_in n m i j p q (array k x) (union bs) na nb li lj h = either_in n m i p q bs li nb h
@@ -41,19 +41,19 @@ asks_in n m i j p q (mapping x e) (mapping y f) na nb li lj h = (subst (λ (z : 
 asks_in n m i j p q (rec k fs e) (rec l gs f) na nb li lj h = field_in n m p q fs gs na nb h
 asks_in n m i j p q _ _ na nb li lj h = absurd h
 
-both_in : (w r : List NodeView) (i j p q : ℕ) (x y : Option NodeView) → IsWhole w → IsWhole r → slice_get w i ≡ x → slice_get r j ≡ y → MatchOption x ⊥ (λ a. MatchOption y ⊥ (λ b. AsksFor i j a b p q)) → (p < length w) × (q < length r)
+both_in : (w r : List NodeView) (i j p q : ℕ) (x y : Option NodeView) → IsSelfContained w → IsSelfContained r → slice_get w i ≡ x → slice_get r j ≡ y → MatchOption x ⊥ (λ a. MatchOption y ⊥ (λ b. AsksFor i j a b p q)) → (p < length w) × (q < length r)
 both_in w r i j p q None y ww wr e f h = absurd h
 both_in w r i j p q (Some a) None ww wr e f h = absurd h
-both_in w r i j p q (Some a) (Some b) ww wr e f h = asks_in (length w) (length r) i j p q a b (at_place w (Names (length w)) i a ww e) (at_place r (Names (length r)) j b wr f) (slice_get_within w i a e) (slice_get_within r j b f) h
+both_in w r i j p q (Some a) (Some b) ww wr e f h = asks_in (length w) (length r) i j p q a b (at_place w (RefersBelow (length w)) i a ww e) (at_place r (RefersBelow (length r)) j b wr f) (slice_get_within w i a e) (slice_get_within r j b f) h
 
-pub asked_within : (w r : List NodeView) (i j p q : ℕ) → IsWhole w → IsWhole r → Asks w r i j p q → (p < length w) × (q < length r)
+pub reachable_within : (w r : List NodeView) (i j p q : ℕ) → IsSelfContained w → IsSelfContained r → Asks w r i j p q → (p < length w) × (q < length r)
 unfolding Asks
-asked_within w r i j p q ww wr h = both_in w r i j p q (slice_get w i) (slice_get r j) ww wr refl refl h
+reachable_within w r i j p q ww wr h = both_in w r i j p q (slice_get w i) (slice_get r j) ww wr refl refl h
 
-all_hold : (w r : List NodeView) → IsWhole w → IsWhole r → 0 < length w → 0 < length r → HoldsAsked w r (pairs_below (length w) (length r))
+all_hold : (w r : List NodeView) → IsSelfContained w → IsSelfContained r → 0 < length w → 0 < length r → ContainsAsked w r (pairs_below (length w) (length r))
 all_hold w r ww wr lw lr = record {
   roots = in_pairs (length w) (length r) 0 0 lw lr;
-  on = λ i j p q m h. let k = asked_within w r i j p q ww wr h in in_pairs (length w) (length r) p q k.0 k.1;
+  on = λ i j p q m h. let k = reachable_within w r i j p q ww wr h in in_pairs (length w) (length r) p q k.0 k.1;
 }
 
 small_product : (n m : ℕ) → n < 65536 → m < 65536 → n * m < 2 ^ 32
@@ -61,5 +61,5 @@ small_product n m a b =
     let a' : n ≤ 65535 = omega arith in let b' : m ≤ 65535 = omega arith in
     let p = mul-le-mul_left n b' in let q = mul-le-mul_right 65535 a' in omega (arith, p, q)
 
-pub is_small : (w r : List NodeView) → IsWhole w → IsWhole r → 0 < length w → 0 < length r → length w < 65536 → length r < 65536 → IsSmall w r
+pub is_small : (w r : List NodeView) → IsSelfContained w → IsSelfContained r → 0 < length w → 0 < length r → length w < 65536 → length r < 65536 → IsSmall w r
 is_small w r ww wr lw lr sw sr = (pairs_below (length w) (length r), all_hold w r ww wr lw lr, subst (λ (x : ℕ). x < 2 ^ 32) (sym (length-pairs_below (length w) (length r))) (small_product (length w) (length r) sw sr))

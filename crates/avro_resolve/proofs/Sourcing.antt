@@ -7,7 +7,7 @@ use Rattle.std.proofs.lemmas.List.{map-append, take_more}
 use Rattle.std.proofs.lemmas.List.Elements.{All-cons, All-nil}
 use Rattle.std.proofs.lemmas.Option.{get_or_from_slice_get, same_Some, slice_get-get_or, slice_get-map, slice_get_within}
 use Rattle.std.proofs.lemmas.Slice.Eq.{bytes_eq-Decides}
-use Rattle.std.proofs.lemmas.Slice.Zip.{AllZip-left, AllZip-right}
+use Rattle.std.proofs.lemmas.Slice.Zip.{AllZip-remains, AllZip-right}
 use Rattle.avro_nodes.specs.declared.node.Field.{Field}
 use Rattle.avro_nodes.specs.Nodes.{FieldView, NodeView, field_view}
 use Rattle.avro_schema.specs.declared.index.FieldRanks.{FieldRanks}
@@ -17,8 +17,8 @@ use Rattle.avro_resolve.specs.Asking.{source_place}
 use Rattle.avro_resolve.specs.declared.sides.Fields.{Fields}
 use Rattle.avro_resolve.specs.declared.sides.Sides.{Sides}
 use Rattle.avro_resolve.specs.Inside.Agreeing.{fields_of}
-use Rattle.avro_resolve.specs.Inside.Laying.{HasName, IsFirst, NoField, IsSource, names_in}
-use Rattle.avro_resolve.specs.Inside.Meeting.{Tell}
+use Rattle.avro_resolve.specs.Inside.FieldSlots.{HasName, IsFirst, NoField, IsSource, names_in}
+use Rattle.avro_resolve.specs.Inside.RankMaps.{RanksDecideNames}
 use Rattle.avro_resolve.specs.Inside.Sides.{columns, names_of}
 use Rattle.avro_resolve.specs.Inside.Sources.{field_at as wanted_at}
 use Rattle.avro_resolve.proofs.ViewLemmas.{view_got}
@@ -49,7 +49,7 @@ of_name : (o : Option FieldRanks) (a : ℕ) → option_map (λ f. f.name) o ≡ 
 of_name None a e = absurd cc
 of_name (Some x) a e = (x, refl, same_Some x.name a e)
 
-module _ (w r : List (List ℕ)) (met : List (Option ℕ)) (tell : Tell w r met) (fields : List FieldView) (ranks : List FieldRanks) (ranked : AreFieldsRanked w fields ranks) where
+module _ (w r : List (List ℕ)) (rank_map : List (Option ℕ)) (ranks_decide_names : RanksDecideNames w r rank_map) (fields : List FieldView) (ranks : List FieldRanks) (ranked : AreFieldsRanked w fields ranks) where
   -- the field that has a rank
   field_of : (k a : ℕ) → slice_get (names_in ranks) k ≡ Some a → (g : FieldView) × (slice_get fields k ≡ Some g) × (slice_get w a ≡ Some g.name)
   field_of k a e =
@@ -63,34 +63,34 @@ module _ (w r : List (List ℕ)) (met : List (Option ℕ)) (tell : Tell w r met)
   rank_of : (k : ℕ) (g : FieldView) → slice_get fields k ≡ Some g → (a : ℕ) × (slice_get (names_in ranks) k ≡ Some a) × (slice_get w a ≡ Some g.name)
   rank_of k g e =
       let at : IsSomeAnd (slice_get ranks k) (IsFieldRanked w g) =
-      subst (λ (o : Option FieldView). MatchOption o (Unit {0}) (λ x. IsSomeAnd (slice_get ranks k) (IsFieldRanked w x))) e (AllZip-left (IsFieldRanked w) fields ranks ranked k) in
+      subst (λ (o : Option FieldView). MatchOption o (Unit {0}) (λ x. IsSomeAnd (slice_get ranks k) (IsFieldRanked w x))) e (AllZip-remains (IsFieldRanked w) fields ranks ranked k) in
       let x = and_some (IsFieldRanked w g) (slice_get ranks k) at in
       (x.0.name, slice_get-map (λ f. f.name) ranks k ∙ ap (option_map (λ f. f.name)) x.1, x.2.name)
 
   module _ (name : List ℕ) (rank : ℕ) (er : slice_get r rank ≡ Some name) where
     -- a field of the name has its rank
-    has_rank : (j : ℕ) (y : FieldView) → slice_get fields j ≡ Some y → bytes_eq y.name name ≡ true → HasName met (names_in ranks) j rank
-    has_rank j y e h = let a = rank_of j y e in (a.0, a.1, (tell a.0 rank y.name name a.2 er).1 ((bytes_eq-Decides y.name name).0 h))
+    has_rank : (j : ℕ) (y : FieldView) → slice_get fields j ≡ Some y → bytes_eq y.name name ≡ true → HasName rank_map (names_in ranks) j rank
+    has_rank j y e h = let a = rank_of j y e in (a.0, a.1, (ranks_decide_names a.0 rank y.name name a.2 er).1 ((bytes_eq-Decides y.name name).0 h))
 
-    first_found : (k : ℕ) → IsFirst met (names_in ranks) 0 k rank → (g : FieldView) × (slice_get fields k ≡ Some g) × (find (λ f. bytes_eq f.name name) fields ≡ Some g)
+    first_found : (k : ℕ) → IsFirst rank_map (names_in ranks) 0 k rank → (g : FieldView) × (slice_get fields k ≡ Some g) × (find (λ f. bytes_eq f.name name) fields ≡ Some g)
     first_found k first =
         let own = first.0 in
         let g = field_of k own.0 own.1 in
-        let same : bytes_eq g.0.name name ≡ true = (bytes_eq-Decides g.0.name name).1 ((tell own.0 rank g.0.name name g.2 er).0 own.2) in
+        let same : bytes_eq g.0.name name ≡ true = (bytes_eq-Decides g.0.name name).1 ((ranks_decide_names own.0 rank g.0.name name g.2 er).0 own.2) in
         (g.0, g.1, found_at (λ f. bytes_eq f.name name) fields k g.0 g.1 same (λ j y l e. not_true (bytes_eq y.name name) (λ h. first.1 j (omega arith) l (has_rank j y e h))))
 
-    none_found : NoField met (names_in ranks) rank → find (λ f. bytes_eq f.name name) fields ≡ None
+    none_found : NoField rank_map (names_in ranks) rank → find (λ f. bytes_eq f.name name) fields ≡ None
     none_found none = found_nowhere (λ f. bytes_eq f.name name) fields (λ j y e. not_true (bytes_eq y.name name) (λ h. none j (has_rank j y e h)))
 
   -- the field at the index that was found
   abbrev pub field_at : Option ℕ → Option FieldView
   field_at o = option_and_then (λ k. slice_get fields k) o
 
-  by_first : (texts : List (List ℕ)) (name : List ℕ) (rank : ℕ) → slice_get r rank ≡ Some name → (o : Option ℕ) → IfSome o (λ k. IsFirst met (names_in ranks) 0 k rank) → (o ≡ None → ⊥) → field_at o ≡ option_or (find (λ f. bytes_eq f.name name) fields) (first_named texts fields)
+  by_first : (texts : List (List ℕ)) (name : List ℕ) (rank : ℕ) → slice_get r rank ≡ Some name → (o : Option ℕ) → IfSome o (λ k. IsFirst rank_map (names_in ranks) 0 k rank) → (o ≡ None → ⊥) → field_at o ≡ option_or (find (λ f. bytes_eq f.name name) fields) (first_named texts fields)
   by_first texts name rank er None first some = absurd (some refl)
   by_first texts name rank er (Some k) first some = let g = first_found name rank er k first in rw (g.2) g.1
 
-  pub told : (texts : List (List ℕ)) (names : List ℕ) → AreRanks r texts names → (o : Option ℕ) → IsSource met (names_in ranks) names o → field_at o ≡ first_named texts fields
+  pub told : (texts : List (List ℕ)) (names : List ℕ) → AreRanks r texts names → (o : Option ℕ) → IsSource rank_map (names_in ranks) names o → field_at o ≡ first_named texts fields
   unfolding first_named
   told [] [] e o h = rw h refl
   told [] (x ∷ xs) e o h = absurd cc
@@ -103,7 +103,7 @@ module _ (w r : List (List ℕ)) (met : List (Option ℕ)) (tell : Tell w r met)
         | inr later ↦ rw (none_found t x er later.0) (told ts xs rest o later.1)
       ]
 
-  pub source_told : (f : FieldView) (names : FieldRanks) → IsFieldRanked r f names → (o : Option ℕ) → IsSource met (names_in ranks) (names.name ∷ names.aliases.items) o → option_map (λ g. g.place) (field_at o) ≡ source_place fields f
+  pub source_told : (f : FieldView) (names : FieldRanks) → IsFieldRanked r f names → (o : Option ℕ) → IsSource rank_map (names_in ranks) (names.name ∷ names.aliases.items) o → option_map (λ g. g.place) (field_at o) ≡ source_place fields f
   source_told f names is o h = ap (option_map (λ g. g.place)) (told (f.name ∷ f.aliases) (names.name ∷ names.aliases.items) (ap2cons is) o h)
     where
       ap2cons : IsFieldRanked r f names → AreRanks r (f.name ∷ f.aliases) (names.name ∷ names.aliases.items)
@@ -114,11 +114,11 @@ module _ (w r : List (List ℕ)) (met : List (Option ℕ)) (tell : Tell w r met)
 pub names_at : (fields : List FieldRanks) (k : ℕ) (f : FieldRanks) → k < length fields → f ≡ get_or fields k f → slice_get (names_in fields) k ≡ Some f.name
 names_at fields k f l e = slice_get-map (λ x. x.name) fields k ∙ ap (option_map (λ x. x.name)) (slice_get-get_or fields k f l ∙ ap (λ x. Some x) (sym e))
 
-pub source_within : (met : List (Option ℕ)) (names ranks : List ℕ) (k : ℕ) → IsSource met names ranks (Some k) → k < length names
-source_within met names [] k h = absurd cc
-source_within met names (rank ∷ ranks) k h = elim h [
+pub source_within : (rank_map : List (Option ℕ)) (names ranks : List ℕ) (k : ℕ) → IsSource rank_map names ranks (Some k) → k < length names
+source_within rank_map names [] k h = absurd cc
+source_within rank_map names (rank ∷ ranks) k h = elim h [
   | inl first ↦ slice_get_within names k first.0.0.0 first.0.0.1
-  | inr later ↦ source_within met names ranks k later.1
+  | inr later ↦ source_within rank_map names ranks k later.1
 ]
 
 pub nth : {X : Type 0} (xs : List X) (i : ℕ) → i < length xs → (x : X) × (slice_get xs i ≡ Some x)
@@ -137,7 +137,7 @@ module _ (names : List (List ℕ)) where
   pub ranked_field : (fields : List FieldView) (ranks : List FieldRanks) (k : ℕ) (g : FieldView) (x : FieldRanks) → AreFieldsRanked names fields ranks → slice_get fields k ≡ Some g → slice_get ranks k ≡ Some x → IsFieldRanked names g x
   ranked_field fields ranks k g x ranked eg ex =
       let at : IsSomeAnd (slice_get ranks k) (IsFieldRanked names g) =
-      subst (λ (o : Option FieldView). MatchOption o (Unit {0}) (λ y. IsSomeAnd (slice_get ranks k) (IsFieldRanked names y))) eg (AllZip-left (IsFieldRanked names) fields ranks ranked k) in
+      subst (λ (o : Option FieldView). MatchOption o (Unit {0}) (λ y. IsSomeAnd (slice_get ranks k) (IsFieldRanked names y))) eg (AllZip-remains (IsFieldRanked names) fields ranks ranked k) in
       let own = and_some (IsFieldRanked names g) (slice_get ranks k) at in
       subst (IsFieldRanked names g) (same_Some own.0 x (sym own.1 ∙ ex)) own.2
 

@@ -16,7 +16,7 @@ use Rattle.avro_nodes.specs.Nodes.{NamedView, FieldView, NodeView, primitive, ar
 use Rattle.avro_nodes.specs.Names.{last_part}
 use Rattle.avro_resolve.specs.Resolution.{Pairs, NameMatch, Promotes, source, Readable, Fits, Supports, Resolves}
 use Rattle.avro_resolve.specs.Witnesses.{member}
-use Rattle.avro_resolve.specs.Verdicts.{have_match, may_promote, is_read_from, do_fit, both_fit, is_supported, pairs_below, some_part, is_closed_set, is_resolved}
+use Rattle.avro_resolve.specs.Verdicts.{is_name_match, may_promote, is_readable_from, nodes_fit, both_fit, is_supported, pairs_below, any_sublist, is_closed_set, is_resolved}
 use Rattle.avro_resolve.proofs.Monotone.{Within, supported_in, supports_within}
 use Rattle.avro_resolve.proofs.PairLemmas.{those, each_pair, in_those_below}
 
@@ -37,7 +37,7 @@ all_decide p P each xs = Decides-by_and p P (list_all p) each refl (λ x ys. ref
 has_decides : (texts : List (List ℕ)) (text : List ℕ) → Decides (is_member bytes_eq texts text) (Contains texts text)
 has_decides texts text = is_member-Decides bytes_eq-Decides texts text
 
-match_decides : (w r : NamedView) → Decides (have_match w r) (NameMatch w r)
+match_decides : (w r : NamedView) → Decides (is_name_match w r) (NameMatch w r)
 match_decides w r = Decides-or (bytes_eq (last_part w.name) (last_part r.name)) (is_member bytes_eq r.aliases w.name) (bytes_eq-Decides (last_part w.name) (last_part r.name)) (has_decides r.aliases w.name)
 
 promote_decides : (k l : Kind) → Decides (may_promote k l) (Promotes k l)
@@ -59,14 +59,14 @@ promote_decides Text Text = allowed
 promote_decides Text Bytes = allowed
 promote_decides _ _ = refused
 
-read_decides : (R : Pairs) (f : FieldView) (o : Option FieldView) → Decides (is_read_from R f o) (MatchOption o (IsSome f.value) (λ g. IsTrue (R g.place f.place)))
+read_decides : (R : Pairs) (f : FieldView) (o : Option FieldView) → Decides (is_readable_from R f o) (MatchOption o (IsSome f.value) (λ g. IsTrue (R g.place f.place)))
 read_decides R f None = itself (is_some f.value)
 read_decides R f (Some g) = itself (R g.place f.place)
 
 any_decides : (R : Pairs) (i : ℕ) (places : List ℕ) → Decides (list_any (λ place. R i place) places) (Any (λ place. IsTrue (R i place)) places)
 any_decides R i places = (Any-from_list_any (λ place. R i place) places, list_any-from_Any (λ place. R i place) places)
 
-fit_decides : (R : Pairs) (i j : ℕ) (a b : NodeView) → Decides (do_fit R i j a b) (Fits R i j a b)
+fit_decides : (R : Pairs) (i j : ℕ) (a b : NodeView) → Decides (nodes_fit R i j a b) (Fits R i j a b)
 fit_decides R i j (union bs) b = all_decide (λ place. R place j) (λ place. IsTrue (R place j)) (λ place. itself (R place j)) bs
 fit_decides R i j (primitive k x) (union bs) = any_decides R i bs
 fit_decides R i j (array p x) (union bs) = any_decides R i bs
@@ -78,12 +78,12 @@ fit_decides R i j (primitive k x) (primitive l y) = promote_decides k l
 fit_decides R i j (array p x) (array q y) = itself (R p q)
 fit_decides R i j (mapping p x) (mapping q y) = itself (R p q)
 fit_decides R i j (enumeration n symbols f x) (enumeration m known fallback y) =
-    Decides-and (have_match n m) (is_some fallback || list_all (is_member bytes_eq known) symbols) (match_decides n m)
+    Decides-and (is_name_match n m) (is_some fallback || list_all (is_member bytes_eq known) symbols) (match_decides n m)
     (Decides-or (is_some fallback) (list_all (is_member bytes_eq known) symbols) (itself (is_some fallback)) (all_decide (is_member bytes_eq known) (Contains known) (has_decides known) symbols))
-fit_decides R i j (fixed n size x) (fixed m wanted y) = Decides-and (have_match n m) (size == wanted) (match_decides n m) (Decides-eqb size wanted)
+fit_decides R i j (fixed n size x) (fixed m wanted y) = Decides-and (is_name_match n m) (size == wanted) (match_decides n m) (Decides-eqb size wanted)
 fit_decides R i j (rec n fs x) (rec m gs y) =
-    Decides-and (have_match n m) (list_all (λ f. is_read_from R f (source fs f)) gs) (match_decides n m)
-    (all_decide (λ f. is_read_from R f (source fs f)) (Readable R fs) (λ f. read_decides R f (source fs f)) gs)
+    Decides-and (is_name_match n m) (list_all (λ f. is_readable_from R f (source fs f)) gs) (match_decides n m)
+    (all_decide (λ f. is_readable_from R f (source fs f)) (Readable R fs) (λ f. read_decides R f (source fs f)) gs)
 fit_decides R i j _ _ = refused
 
 both_decide : (R : Pairs) (i j : ℕ) (x y : Option NodeView) → Decides (both_fit R i j x y) (MatchOption x ⊥ (λ a. MatchOption y ⊥ (λ b. Fits R i j a b)))
@@ -97,23 +97,23 @@ support_decides w r R i j = both_decide R i j (slice_get w i) (slice_get r j)
 
 -- ---- parts of a list
 
-pub part_there : {X : Type 0} (test : List X → Bool) (xs : List X) → some_part test xs ≡ true → (ys : List X) × (test ys ≡ true)
-unfolding some_part
+pub part_there : {X : Type 0} (test : List X → Bool) (xs : List X) → any_sublist test xs ≡ true → (ys : List X) × (test ys ≡ true)
+unfolding any_sublist
 part_there test [] e = ([], e)
-part_there test (x ∷ xs) e = elim (or_cases (some_part (λ ys. test (x ∷ ys)) xs) (some_part test xs) e) [
+part_there test (x ∷ xs) e = elim (or_cases (any_sublist (λ ys. test (x ∷ ys)) xs) (any_sublist test xs) e) [
   | inl h ↦ (let (ys, k) = part_there (λ ys. test (x ∷ ys)) xs h in (x ∷ ys, k))
   | inr h ↦ part_there test xs h
 ]
 
-pub part_found : {X : Type 0} (p : X → Bool) (test : List X → Bool) (xs : List X) → test (filter p xs) ≡ true → some_part test xs ≡ true
-unfolding some_part
+pub part_found : {X : Type 0} (p : X → Bool) (test : List X → Bool) (xs : List X) → test (filter p xs) ≡ true → any_sublist test xs ≡ true
+unfolding any_sublist
 part_found p test [] e = e
 part_found p test (x ∷ xs) e = by (p x) (part_found p (λ ys. test (x ∷ ys)) xs) (part_found p test xs) e
   where
-    by : (b : Bool) → (test (x ∷ filter p xs) ≡ true → some_part (λ ys. test (x ∷ ys)) xs ≡ true) → (test (filter p xs) ≡ true → some_part test xs ≡ true)
-        → test (cond b (x ∷ filter p xs) (filter p xs)) ≡ true → (some_part (λ ys. test (x ∷ ys)) xs || some_part test xs) ≡ true
-    by true f g h = or_left (some_part (λ ys. test (x ∷ ys)) xs) (some_part test xs) (f h)
-    by false f g h = or_right (some_part (λ ys. test (x ∷ ys)) xs) (some_part test xs) (g h)
+    by : (b : Bool) → (test (x ∷ filter p xs) ≡ true → any_sublist (λ ys. test (x ∷ ys)) xs ≡ true) → (test (filter p xs) ≡ true → any_sublist test xs ≡ true)
+        → test (cond b (x ∷ filter p xs) (filter p xs)) ≡ true → (any_sublist (λ ys. test (x ∷ ys)) xs || any_sublist test xs) ≡ true
+    by true f g h = or_left (any_sublist (λ ys. test (x ∷ ys)) xs) (any_sublist test xs) (f h)
+    by false f g h = or_right (any_sublist (λ ys. test (x ∷ ys)) xs) (any_sublist test xs) (g h)
 
 -- ---- the verdict
 

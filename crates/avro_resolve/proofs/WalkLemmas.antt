@@ -11,11 +11,11 @@ use Rattle.avro_resolve.specs.declared.recursion.Answer.TheVariants.{Yes, No, Un
 use Rattle.avro_resolve.specs.Resolution.{Pairs, Supports, Readable, source}
 use Rattle.avro_resolve.specs.Witnesses.{Pair, member, without}
 use Rattle.avro_resolve.specs.Asking.{source_place, Asks, AsksFor}
-use Rattle.avro_resolve.specs.Inside.Asked.{Asked, AreAsked, IsAsked, IsSourceAsked}
-use Rattle.avro_resolve.specs.Inside.Places.{IsWhole}
-use Rattle.avro_resolve.specs.Inside.Walking.{Marks, Good, Grown, HasGrown, Ready, Tells}
+use Rattle.avro_resolve.specs.Inside.IsReachable.{IsReachable, AreReachable, IsReachablePair, IsSourceReachable}
+use Rattle.avro_resolve.specs.Inside.Places.{IsSelfContained}
+use Rattle.avro_resolve.specs.Inside.Walking.{Represents, WalkInvariant, Extends, ExtendsWalk, IsReady, AnswerHolds}
 use Rattle.avro_resolve.proofs.Monotone.{Within}
-use Rattle.avro_resolve.proofs.Reaching.{asked_within}
+use Rattle.avro_resolve.proofs.Reaching.{reachable_within}
 use Rattle.avro_resolve.proofs.ViewLemmas.{all_of}
 use Rattle.avro_resolve.proofs.WalkSteps.{grown_same, grown_then, more, opened_yes, opened_no, grown_no}
 use Rattle.avro_resolve.proofs.PairLists.{member_last}
@@ -24,26 +24,26 @@ asks_at : (w r : List NodeView) (i j p q : ℕ) (a b : NodeView) → slice_get w
 unfolding Asks
 asks_at w r i j p q a b e f h = rw (e, f) h
 
-reached_on : (w r : List NodeView) (i j p q : ℕ) → Asked w r i j → Asks w r i j p q → Asked w r p q
-unfolding Asked
-reached_on w r i j p q asked h ps holds = holds.on i j p q (asked ps holds) h
+reached_on : (w r : List NodeView) (i j p q : ℕ) → IsReachable w r i j → Asks w r i j p q → IsReachable w r p q
+unfolding IsReachable
+reached_on w r i j p q reachable h ps holds = holds.on i j p q (reachable ps holds) h
 
-pub asked_on : (w r : List NodeView) (i j : ℕ) (a b : NodeView) → IsWhole w → IsWhole r → slice_get w i ≡ Some a → slice_get r j ≡ Some b → Asked w r i j → AreAsked w r i j a b
-asked_on w r i j a b ww wr e f asked p q h =
-    let asks = asks_at w r i j p q a b e f h in let within = asked_within w r i j p q ww wr asks in
-    record { row = within.0; column = within.1; reached = reached_on w r i j p q asked asks }
+pub reachable_from : (w r : List NodeView) (i j : ℕ) (a b : NodeView) → IsSelfContained w → IsSelfContained r → slice_get w i ≡ Some a → slice_get r j ≡ Some b → IsReachable w r i j → AreReachable w r i j a b
+reachable_from w r i j a b ww wr e f reachable p q h =
+    let asks = asks_at w r i j p q a b e f h in let within = reachable_within w r i j p q ww wr asks in
+    record { row = within.0; column = within.1; reached = reached_on w r i j p q reachable asks }
 
-pub roots_asked : (w r : List NodeView) → Asked w r 0 0
-unfolding Asked
-roots_asked w r ps holds = holds.roots
+pub roots_reachable : (w r : List NodeView) → IsReachable w r 0 0
+unfolding IsReachable
+roots_reachable w r ps holds = holds.roots
 
-pub grown2 : (w r : List NodeView) (s t u : Walk) → HasGrown w r s t → HasGrown w r t u → HasGrown w r s u
+pub grown2 : (w r : List NodeView) (s t u : Walk) → ExtendsWalk w r s t → ExtendsWalk w r t u → ExtendsWalk w r s u
 grown2 w r s t u g h = grown_then w r s.assumed.items s.failed.items t.assumed.items t.failed.items u.assumed.items u.failed.items g h
 
-pub grown0 : (w r : List NodeView) (s : Walk) → HasGrown w r s s
+pub grown0 : (w r : List NodeView) (s : Walk) → ExtendsWalk w r s s
 grown0 w r s = grown_same w r s.assumed.items s.failed.items
 
-pub within2 : (w r : List NodeView) (s t : Walk) → HasGrown w r s t → Within (member s.assumed.items) (member t.assumed.items)
+pub within2 : (w r : List NodeView) (s t : Walk) → ExtendsWalk w r s t → Within (member s.assumed.items) (member t.assumed.items)
 within2 w r s t g = more w r s.assumed.items s.failed.items t.assumed.items t.failed.items g
 
 source_step : (R : Pairs) (X : Type 0) (q p : ℕ) (o : Option FieldView) → option_map (λ g. g.place) o ≡ Some p → MatchOption o X (λ g. IsTrue (R g.place q)) ↔ IsTrue (R p q)
@@ -80,12 +80,12 @@ front_of a b i j l e =
     let le : length a ≤ length (a ++ (i, j) ∷ []) = omega arith in
     sym (take-take (length a) (length (a ++ (i, j) ∷ [])) b le) ∙ ap (λ (x : List Pair). take (length a) x) e ∙ take_at a ((i, j) ∷ []) (length a) refl
 
-from_opened : (w r : List NodeView) (s u v : Walk) (i j : ℕ) → u.assumed.items ≡ s.assumed.items ++ (i, j) ∷ [] → u.failed.items ≡ s.failed.items → HasGrown w r u v → Grown w r (s.assumed.items ++ (i, j) ∷ []) s.failed.items v.assumed.items v.failed.items
-from_opened w r s u v i j e f g = subst (λ (x : List Pair). Grown w r x s.failed.items v.assumed.items v.failed.items) e (subst (λ (y : List Pair). Grown w r u.assumed.items y v.assumed.items v.failed.items) f g)
+from_opened : (w r : List NodeView) (s u v : Walk) (i j : ℕ) → u.assumed.items ≡ s.assumed.items ++ (i, j) ∷ [] → u.failed.items ≡ s.failed.items → ExtendsWalk w r u v → Extends w r (s.assumed.items ++ (i, j) ∷ []) s.failed.items v.assumed.items v.failed.items
+from_opened w r s u v i j e f g = subst (λ (x : List Pair). Extends w r x s.failed.items v.assumed.items v.failed.items) e (subst (λ (y : List Pair). Extends w r u.assumed.items y v.assumed.items v.failed.items) f g)
 
 -- an opened pair that is supported stays assumed
-ask_yes : (w r : List NodeView) (d : ℕ) (s u v : Walk) (i j : ℕ) → Ready w r d s → u.assumed.items ≡ s.assumed.items ++ (i, j) ∷ [] → u.failed.items ≡ s.failed.items → Ready w r (d + 1) v → HasGrown w r u v → Supports w r (member v.assumed.items) i j
-    → Ready w r d v × HasGrown w r s v × IsTrue (member v.assumed.items i j)
+ask_yes : (w r : List NodeView) (d : ℕ) (s u v : Walk) (i j : ℕ) → IsReady w r d s → u.assumed.items ≡ s.assumed.items ++ (i, j) ∷ [] → u.failed.items ≡ s.failed.items → IsReady w r (d + 1) v → ExtendsWalk w r u v → Supports w r (member v.assumed.items) i j
+    → IsReady w r d v × ExtendsWalk w r s v × IsTrue (member v.assumed.items i j)
 ask_yes w r d s u v i j ready e f after g h =
     let grown = from_opened w r s u v i j e f g in (
       record { writer = ready.writer; reader = ready.reader; small = ready.small; low = ready.low; opened = (let o = after.opened in omega (arith, o)); good = after.good; assumed = after.assumed; failed = after.failed },
@@ -94,21 +94,21 @@ ask_yes w r d s u v i j ready e f after g h =
     )
 
 -- an answer that isn't no is that of the opened pair
-pub ask_told : (w r : List NodeView) (d : ℕ) (s u v : Walk) (i j : ℕ) (L L2 : Type 0) → Ready w r d s → u.assumed.items ≡ s.assumed.items ++ (i, j) ∷ [] → u.failed.items ≡ s.failed.items → (answer : Answer) → (answer ≡ No → ⊥)
-    → Tells w r (d + 1) u.assumed.items u.failed.items v (Supports w r (member v.assumed.items) i j) L answer → Tells w r d s.assumed.items s.failed.items v (IsTrue (member v.assumed.items i j)) L2 answer
+pub ask_told : (w r : List NodeView) (d : ℕ) (s u v : Walk) (i j : ℕ) (L L2 : Type 0) → IsReady w r d s → u.assumed.items ≡ s.assumed.items ++ (i, j) ∷ [] → u.failed.items ≡ s.failed.items → (answer : Answer) → (answer ≡ No → ⊥)
+    → AnswerHolds w r (d + 1) u.assumed.items u.failed.items v (Supports w r (member v.assumed.items) i j) L answer → AnswerHolds w r d s.assumed.items s.failed.items v (IsTrue (member v.assumed.items i j)) L2 answer
 ask_told w r d s u v i j L L2 ready e f Yes never h = ask_yes w r d s u v i j ready e f h.0 h.1 h.2
 ask_told w r d s u v i j L L2 ready e f No never h = absurd (never refl)
 ask_told w r d s u v i j L L2 ready e f Unfinished never h = h
 
 -- one that isn't fails, and what was assumed since is taken back
-pub ask_no : (w r : List NodeView) (d : ℕ) (s u v x : Walk) (i j : ℕ) → Ready w r d s → Asked w r i j → member s.assumed.items i j ≡ false → u.assumed.items ≡ s.assumed.items ++ (i, j) ∷ [] → u.failed.items ≡ s.failed.items → Ready w r (d + 1) v → HasGrown w r u v → (Supports w r (without v.failed.items) i j → ⊥)
+pub ask_no : (w r : List NodeView) (d : ℕ) (s u v x : Walk) (i j : ℕ) → IsReady w r d s → IsReachable w r i j → member s.assumed.items i j ≡ false → u.assumed.items ≡ s.assumed.items ++ (i, j) ∷ [] → u.failed.items ≡ s.failed.items → IsReady w r (d + 1) v → ExtendsWalk w r u v → (Supports w r (without v.failed.items) i j → ⊥)
     → x.assumed.items ≡ take (length s.assumed.items) v.assumed.items → x.failed.items ≡ v.failed.items ++ (i, j) ∷ [] → x.visits ≡ v.visits
-    → Marks (length r) x.assumed_set x.assumed.items → Marks (length r) x.failed_set x.failed.items
-    → Ready w r d x × HasGrown w r s x × ((x.assumed.items ≡ s.assumed.items) × IsTrue (member x.failed.items i j))
-ask_no w r d s u v x i j ready asked out e f after g never back fails visits marks marks2 =
+    → Represents (length r) x.assumed_set x.assumed.items → Represents (length r) x.failed_set x.failed.items
+    → IsReady w r d x × ExtendsWalk w r s x × ((x.assumed.items ≡ s.assumed.items) × IsTrue (member x.failed.items i j))
+ask_no w r d s u v x i j ready reachable out e f after g never back fails visits marks marks2 =
     let grown = from_opened w r s u v i j e f g in
     let same : x.assumed.items ≡ s.assumed.items = back ∙ front_of s.assumed.items v.assumed.items i j grown.longer grown.front in
-    let good = opened_no w r s.assumed.items s.failed.items v.assumed.items v.failed.items s.visits v.visits i j ready.good after.good grown asked out never in
+    let good = opened_no w r s.assumed.items s.failed.items v.assumed.items v.failed.items s.visits v.visits i j ready.good after.good grown reachable out never in
     let next = grown_no w r s.assumed.items s.failed.items v.assumed.items v.failed.items i j grown in (
       record {
         writer = ready.writer;
@@ -116,11 +116,11 @@ ask_no w r d s u v x i j ready asked out e f after g never back fails visits mar
         small = ready.small;
         low = ready.low;
         opened = subst (λ (y : List Pair). d ≤ length y) (sym same) ready.opened;
-        good = subst (λ (y : List Pair). Good w r y x.failed.items x.visits) (sym same) (subst (λ (y : List Pair). Good w r s.assumed.items y x.visits) (sym fails) (subst (λ (n : ℕ). Good w r s.assumed.items (v.failed.items ++ (i, j) ∷ []) n) (sym visits) good));
+        good = subst (λ (y : List Pair). WalkInvariant w r y x.failed.items x.visits) (sym same) (subst (λ (y : List Pair). WalkInvariant w r s.assumed.items y x.visits) (sym fails) (subst (λ (n : ℕ). WalkInvariant w r s.assumed.items (v.failed.items ++ (i, j) ∷ []) n) (sym visits) good));
         assumed = marks;
         failed = marks2;
       },
-      subst (λ (y : List Pair). Grown w r s.assumed.items s.failed.items y x.failed.items) (sym same) (subst (λ (y : List Pair). Grown w r s.assumed.items s.failed.items s.assumed.items y) (sym fails) next),
+      subst (λ (y : List Pair). Extends w r s.assumed.items s.failed.items y x.failed.items) (sym same) (subst (λ (y : List Pair). Extends w r s.assumed.items s.failed.items s.assumed.items y) (sym fails) next),
       (same, subst (λ (y : List Pair). member y i j ≡ true) (sym fails) (member_last v.failed.items i j)),
     )
 
@@ -130,23 +130,23 @@ held_more R S fs gs k f l is within h here =
     All-more (λ g. Readable S fs (field_view g)) gs k f l (All-weaker (λ g. Readable R fs (field_view g)) (λ g. Readable S fs (field_view g)) (λ g. readable_more R S within fs (field_view g)) (take k gs) h) (subst (λ (g : Field). Readable S fs (field_view g)) is here)
 
 -- what holds of the source of each reader's field
-pub fields_asked : (w r : List NodeView) (fs : List FieldView) (gs : List Field) → ((p q : ℕ) → Any (λ f. (source_place fs f ≡ Some p) × (f.place ≡ q)) (map field_view gs) → IsAsked w r p q) → All (λ f. IsSourceAsked w r fs (field_view f)) gs
-fields_asked w r fs gs h = all_of (IsSourceAsked w r fs) field_view gs (λ k d l p e.
+pub fields_reachable : (w r : List NodeView) (fs : List FieldView) (gs : List Field) → ((p q : ℕ) → Any (λ f. (source_place fs f ≡ Some p) × (f.place ≡ q)) (map field_view gs) → IsReachablePair w r p q) → All (λ f. IsSourceReachable w r fs (field_view f)) gs
+fields_reachable w r fs gs h = all_of (IsSourceReachable w r fs) field_view gs (λ k d l p e.
     h p (get_or (map field_view gs) k d).place (k, get_or (map field_view gs) k d, l, get_or_default (map field_view gs) k (get_or (map field_view gs) k d) d l, (e, refl)))
 
-pub tells_on : (w r : List NodeView) (d : ℕ) (ps qs : List Pair) (t : Walk) (H L H2 L2 : Type 0) → (H → H2) → (L → L2) → (answer : Answer) → Tells w r d ps qs t H L answer → Tells w r d ps qs t H2 L2 answer
+pub tells_on : (w r : List NodeView) (d : ℕ) (ps qs : List Pair) (t : Walk) (H L H2 L2 : Type 0) → (H → H2) → (L → L2) → (answer : Answer) → AnswerHolds w r d ps qs t H L answer → AnswerHolds w r d ps qs t H2 L2 answer
 tells_on w r d ps qs t H L H2 L2 f g Yes h = (h.0, h.1, f h.2)
 tells_on w r d ps qs t H L H2 L2 f g No h = (h.0, h.1, g h.2)
 tells_on w r d ps qs t H L H2 L2 f g Unfinished h = h
 
 -- an answer that isn't yes, from a later state on
-pub tells_no : (w r : List NodeView) (d : ℕ) (s u v : Walk) (H H2 L L2 : Type 0) → HasGrown w r s u → (L → L2) → (answer : Answer) → (answer ≡ Yes → ⊥) → Tells w r d u.assumed.items u.failed.items v H L answer → Tells w r d s.assumed.items s.failed.items v H2 L2 answer
+pub tells_no : (w r : List NodeView) (d : ℕ) (s u v : Walk) (H H2 L L2 : Type 0) → ExtendsWalk w r s u → (L → L2) → (answer : Answer) → (answer ≡ Yes → ⊥) → AnswerHolds w r d u.assumed.items u.failed.items v H L answer → AnswerHolds w r d s.assumed.items s.failed.items v H2 L2 answer
 tells_no w r d s u v H H2 L L2 g f Yes never h = absurd (never refl)
 tells_no w r d s u v H H2 L L2 g f No never h = (h.0, grown2 w r s u v g h.1, f h.2)
 tells_no w r d s u v H H2 L L2 g f Unfinished never h = h
 
 -- one that isn't no
-pub tells_yes : (w r : List NodeView) (d : ℕ) (s u v : Walk) (H H2 L L2 : Type 0) → HasGrown w r s u → (H → H2) → (answer : Answer) → (answer ≡ No → ⊥) → Tells w r d u.assumed.items u.failed.items v H L answer → Tells w r d s.assumed.items s.failed.items v H2 L2 answer
+pub tells_yes : (w r : List NodeView) (d : ℕ) (s u v : Walk) (H H2 L L2 : Type 0) → ExtendsWalk w r s u → (H → H2) → (answer : Answer) → (answer ≡ No → ⊥) → AnswerHolds w r d u.assumed.items u.failed.items v H L answer → AnswerHolds w r d s.assumed.items s.failed.items v H2 L2 answer
 tells_yes w r d s u v H H2 L L2 g f Yes never h = (h.0, grown2 w r s u v g h.1, f h.2)
 tells_yes w r d s u v H H2 L L2 g f No never h = absurd (never refl)
 tells_yes w r d s u v H H2 L L2 g f Unfinished never h = h

@@ -2,7 +2,7 @@
 use Rattle.std.specs.Prelude.{◌≡◌, ℕ, ◌↔◌, Option, Some, option_map, MatchOption, List, Any, Contains, slice_get, IsTrue}
 use Rattle.avro_nodes.specs.Nodes.{FieldView, NodeView, array, mapping, union, rec}
 use Rattle.avro_resolve.specs.Resolution.{source}
-use Rattle.avro_resolve.specs.Witnesses.{Pair, member, Differ}
+use Rattle.avro_resolve.specs.Witnesses.{Pair, member, AreDistinct}
 
 -- the place of the type of a reader's field's source
 abbrev pub source_place : List FieldView → FieldView → Option ℕ
@@ -29,10 +29,10 @@ pub data Reaches : List NodeView → List NodeView → ℕ → ℕ → Type 0 wh
 
 -- the pairs that are reached, each once
 pub record AreReached (w r : List NodeView) (ps : List Pair) : Type 0 where
-  pub differ : Differ ps
+  pub differ : AreDistinct ps
   pub exact : (i j : ℕ) → IsTrue (member ps i j) ↔ Reaches w r i j
 
 -- the list has the pair of the roots, and what its pairs ask for
-pub record HoldsAsked (w r : List NodeView) (ps : List Pair) : Type 0 where
+pub record ContainsAsked (w r : List NodeView) (ps : List Pair) : Type 0 where
   pub roots : IsTrue (member ps 0 0)
   pub on : (i j p q : ℕ) → IsTrue (member ps i j) → Asks w r i j p q → IsTrue (member ps p q)

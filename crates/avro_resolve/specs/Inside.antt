@@ -1,10 +1,10 @@
-pub mod Asked
+pub mod IsReachable
 pub mod Agreeing
-pub mod Askers
+pub mod Referrers
 pub mod Lists
-pub mod Left
-pub mod Laying
-pub mod Meeting
+pub mod Remaining
+pub mod FieldSlots
+pub mod RankMaps
 pub mod PairSets
 pub mod Places
 pub mod Rows

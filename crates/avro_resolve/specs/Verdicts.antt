@@ -10,8 +10,8 @@ use Rattle.avro_resolve.specs.Resolution.{Pairs, source}
 use Rattle.avro_resolve.specs.Witnesses.{Pair, member}
 
 -- whether names match (NameMatch)
-abbrev pub have_match : NamedView → NamedView → Bool
-have_match w r = bytes_eq (last_part w.name) (last_part r.name) || is_member bytes_eq r.aliases w.name
+abbrev pub is_name_match : NamedView → NamedView → Bool
+is_name_match w r = bytes_eq (last_part w.name) (last_part r.name) || is_member bytes_eq r.aliases w.name
 
 -- whether a primitive is read as another (Promotes)
 abbrev pub may_promote : Kind → Kind → Bool
@@ -34,25 +34,25 @@ may_promote Text Bytes = true
 may_promote _ _ = false
 
 -- whether a reader's field with this source can be read (Readable)
-abbrev pub is_read_from : Pairs → FieldView → Option FieldView → Bool
-is_read_from R f None = is_some f.value
-is_read_from R f (Some g) = R g.place f.place
+abbrev pub is_readable_from : Pairs → FieldView → Option FieldView → Bool
+is_readable_from R f None = is_some f.value
+is_readable_from R f (Some g) = R g.place f.place
 
 -- whether the set supports the pair of these two nodes (Fits)
-abbrev pub do_fit : Pairs → ℕ → ℕ → NodeView → NodeView → Bool
-do_fit R i j (union branches) b = list_all (λ place. R place j) branches
-do_fit R i j a (union branches) = list_any (λ place. R i place) branches
-do_fit R i j (primitive k _) (primitive l _) = may_promote k l
-do_fit R i j (array p _) (array q _) = R p q
-do_fit R i j (mapping p _) (mapping q _) = R p q
-do_fit R i j (enumeration n symbols _ _) (enumeration m known fallback _) = have_match n m && (is_some fallback || list_all (is_member bytes_eq known) symbols)
-do_fit R i j (fixed n size _) (fixed m wanted _) = have_match n m && size == wanted
-do_fit R i j (rec n fields _) (rec m wanted _) = have_match n m && list_all (λ f. is_read_from R f (source fields f)) wanted
-do_fit R i j _ _ = false
+abbrev pub nodes_fit : Pairs → ℕ → ℕ → NodeView → NodeView → Bool
+nodes_fit R i j (union branches) b = list_all (λ place. R place j) branches
+nodes_fit R i j a (union branches) = list_any (λ place. R i place) branches
+nodes_fit R i j (primitive k _) (primitive l _) = may_promote k l
+nodes_fit R i j (array p _) (array q _) = R p q
+nodes_fit R i j (mapping p _) (mapping q _) = R p q
+nodes_fit R i j (enumeration n symbols _ _) (enumeration m known fallback _) = is_name_match n m && (is_some fallback || list_all (is_member bytes_eq known) symbols)
+nodes_fit R i j (fixed n size _) (fixed m wanted _) = is_name_match n m && size == wanted
+nodes_fit R i j (rec n fields _) (rec m wanted _) = is_name_match n m && list_all (λ f. is_readable_from R f (source fields f)) wanted
+nodes_fit R i j _ _ = false
 
 -- the same of nodes that are there
 abbrev pub both_fit : Pairs → ℕ → ℕ → Option NodeView → Option NodeView → Bool
-both_fit R i j (Some a) (Some b) = do_fit R i j a b
+both_fit R i j (Some a) (Some b) = nodes_fit R i j a b
 both_fit R i j _ _ = false
 
 -- whether the set supports the pair of these places (Supports)
@@ -70,9 +70,9 @@ pairs_below zero m = []
 pairs_below (suc i) m = row_below i m ++ pairs_below i m
 
 -- whether some part of the list passes the test: some of its elements, in their order
-unfoldable pub some_part : {X : Type 0} → (List X → Bool) → List X → Bool
-some_part test [] = test []
-some_part test (x ∷ xs) = some_part (λ ys. test (x ∷ ys)) xs || some_part test xs
+unfoldable pub any_sublist : {X : Type 0} → (List X → Bool) → List X → Bool
+any_sublist test [] = test []
+any_sublist test (x ∷ xs) = any_sublist (λ ys. test (x ∷ ys)) xs || any_sublist test xs
 
 -- whether the list's pairs are a closed set, and have that of the roots
 unfoldable pub is_closed_set : List NodeView → List NodeView → List Pair → Bool
@@ -80,4 +80,4 @@ is_closed_set w r ps = member ps 0 0 && list_all (λ p. is_supported w r (member
 
 -- whether the writer's schema resolves with the reader's (Resolves): a closed set has pairs of places alone, so the search is over all of them
 unfoldable pub is_resolved : List NodeView → List NodeView → Bool
-is_resolved w r = some_part (is_closed_set w r) (pairs_below (length w) (length r))
+is_resolved w r = any_sublist (is_closed_set w r) (pairs_below (length w) (length r))

@@ -22,9 +22,9 @@ RefutesAfter w r before [] = Unit {0}
 RefutesAfter w r before (p ∷ ps) = (Supports w r (without before) p.0 p.1 → ⊥) × RefutesAfter w r (before ++ p ∷ []) ps
 
 -- no pair stands twice
-unfoldable pub Differ : List Pair → Type 0
-Differ [] = Unit {0}
-Differ (p ∷ ps) = (member ps p.0 p.1 ≡ false) × Differ ps
+unfoldable pub AreDistinct : List Pair → Type 0
+AreDistinct [] = Unit {0}
+AreDistinct (p ∷ ps) = (member ps p.0 p.1 ≡ false) × AreDistinct ps
 
 -- what a yes shows: a closed set of at most so many pairs, with that of the roots
 abbrev pub HasClosedSet : List NodeView → List NodeView → ℕ → Type 0
@@ -32,4 +32,4 @@ HasClosedSet w r most = (ps : List Pair) × IsTrue (member ps 0 0) × Closed w r
 
 -- what a no shows: a list of at most so many different pairs that refutes and ends with the pair of the roots
 abbrev pub HasRefutation : List NodeView → List NodeView → ℕ → Type 0
-HasRefutation w r most = (ps : List Pair) × RefutesAfter w r [] (ps ++ (0, 0) ∷ []) × Differ (ps ++ (0, 0) ∷ []) × (length (ps ++ (0, 0) ∷ []) ≤ most)
+HasRefutation w r most = (ps : List Pair) × RefutesAfter w r [] (ps ++ (0, 0) ∷ []) × AreDistinct (ps ++ (0, 0) ∷ []) × (length (ps ++ (0, 0) ∷ []) ≤ most)

@@ -3,12 +3,12 @@
 ghost use Rattle.std.specs.Prelude.{◌<◌, ◌↔◌, ◌≡◌, ◌≤◌, [], length, option_map, slice_get, All, Contains, IfOk, IsTrue, MatchOption, Some};
 ghost use Rattle.std.specs.List.Sorted.{IsStrictlyIncreasing};
 ghost use Rattle.avro_nodes.specs.Nodes.{node_view, NodeView};
-ghost use Rattle.avro_resolve.specs.Inside.Agreeing.{named_ranks, symbol_ranks, symbols_of, Agree, AreBlank, AreNumbered, AreSymbolsMet, TellsMatch};
-ghost use Rattle.avro_resolve.specs.Inside.Left.{Agreed};
+ghost use Rattle.avro_resolve.specs.Inside.Agreeing.{named_ranks, symbol_ranks, symbols_of, Agree, AreCleared, AreNumbered, AreSymbolsMapped, DecidesNameMatch};
+ghost use Rattle.avro_resolve.specs.Inside.Remaining.{Agreed};
 ghost use Rattle.avro_resolve.specs.Inside.Sides.{columns, names_of, rows, IsSides};
 ghost use Rattle.avro_resolve.specs.Resolution.{Promotes};
 
-use crate::Made;
+use crate::AllocResult;
 use crate::sides::Sides;
 use avro_nodes::{Kind, Node};
 use avro_schema::{NamedRanks, Ranks};
@@ -36,19 +36,19 @@ fn has_all(list: &[u32], numbers: &[u32]) -> bool
     if list == numbers {
         return true;
     }
-    let mut met = 0;
+    let mut matched_count = 0;
     for known in list {
-        if met == numbers.len() {
+        if matched_count == numbers.len() {
             return true;
         }
-        if numbers[met] < *known {
+        if numbers[matched_count] < *known {
             return false;
         }
-        if numbers[met] == *known {
-            met += 1;
+        if numbers[matched_count] == *known {
+            matched_count += 1;
         }
     }
-    met == numbers.len()
+    matched_count == numbers.len()
 }
 
 /// The names of a definition by their ranks, where these are a definition's.
@@ -79,7 +79,7 @@ fn names_match(sides: &Sides, i: u32, j: u32) -> bool
     requires i_in { i < length (rows sides.now) }
     requires j_in { j < length (columns sides.now) }
     ensures { (a b : NodeView) → slice_get (rows sides.now) i ≡ Some a
-        → slice_get (columns sides.now) j ≡ Some b → TellsMatch result a b }
+        → slice_get (columns sides.now) j ≡ Some b → DecidesNameMatch result a b }
 {
     let (Some(named), Some(wanted)) = (
         named_of(sides.writer.ranks(i)),
@@ -87,10 +87,10 @@ fn names_match(sides: &Sides, i: u32, j: u32) -> bool
     ) else {
         return false;
     };
-    if sides.met.rank(named.last) == Some(wanted.last) {
+    if sides.rank_map.rank(named.last) == Some(wanted.last) {
         return true;
     }
-    match sides.met.rank(named.full) {
+    match sides.rank_map.rank(named.full) {
         Some(rank) => wanted.aliases.binary_search(&rank).is_ok(),
         None => false,
     }
@@ -99,7 +99,7 @@ fn names_match(sides: &Sides, i: u32, j: u32) -> bool
 /// Whether the nodes agree by themselves, given whether their names match. None: the symbols of two
 /// enums have to be compared, since the reader's has no default.
 fn alike(a: &Node, b: &Node, matched: bool) -> Option<bool>
-    requires { TellsMatch matched (node_view a.now) (node_view b.now) }
+    requires { DecidesNameMatch matched (node_view a.now) (node_view b.now) }
     ensures { let v = node_view a.now in let u = node_view b.now in MatchOption result
         (Agree v u ↔ All (Contains (symbols_of u)) (symbols_of v)) (λ yes. IsTrue yes ↔ Agree v u) }
 {
@@ -121,16 +121,16 @@ fn alike(a: &Node, b: &Node, matched: bool) -> Option<bool>
 }
 
 /// The reader's ranks of the symbols at a writer's place. None: the reader lacks a symbol.
-pub fn met_symbols(alloc: Global, sides: &Sides, i: u32) -> Made<Option<Vec<u32>>>
+pub fn mapped_symbols(alloc: Global, sides: &Sides, i: u32) -> AllocResult<Option<Vec<u32>>>
     requires sides { IsSides sides.now }
     requires i_in { i < length (rows sides.now) }
     ensures { IfOk result (λ o. (a : NodeView) → slice_get (rows sides.now) i ≡ Some a
-        → AreSymbolsMet (names_of sides.now.reader) (symbols_of a) o) }
+        → AreSymbolsMapped (names_of sides.now.reader) (symbols_of a) o) }
 {
     let symbols = symbols_of(sides.writer.ranks(i));
     let mut found = Vec::with_capacity(alloc, symbols.len())?;
     for symbol in symbols {
-        let Some(rank) = sides.met.rank(*symbol) else {
+        let Some(rank) = sides.rank_map.rank(*symbol) else {
             return Ok(None);
         };
         found.push(rank)?;
@@ -139,7 +139,7 @@ pub fn met_symbols(alloc: Global, sides: &Sides, i: u32) -> Made<Option<Vec<u32>
 }
 
 /// The ranks, and none where one of the symbols has none.
-pub fn listed(symbols: &Option<Vec<u32>>) -> &[u32]
+pub fn ranks_or_empty(symbols: &Option<Vec<u32>>) -> &[u32]
     ensures { MatchOption symbols.now (result.now ≡ []) (λ v. result.now ≡ v.items) }
 {
     match symbols {
@@ -149,35 +149,35 @@ pub fn listed(symbols: &Option<Vec<u32>>) -> &[u32]
 }
 
 /// Numbers the symbols of these ranks in their boxes, from 1 on.
-pub fn number(boxes: &mut [usize], symbols: &[u32])
-    requires blank { AreBlank boxes.old }
+pub fn number_symbols(slots: &mut [usize], symbols: &[u32])
+    requires cleared { AreCleared slots.old }
     requires rise { IsStrictlyIncreasing symbols.now }
-    requires within { All (λ rank. rank < length boxes.old) symbols.now }
-    ensures { AreNumbered boxes.new symbols.now 0 (length symbols.now) }
+    requires within { All (λ rank. rank < length slots.old) symbols.now }
+    ensures { AreNumbered slots.new symbols.now 0 (length symbols.now) }
 {
     for k in 0..symbols.len() {
-        boxes[symbols[k] as usize] = k + 1;
+        slots[symbols[k] as usize] = k + 1;
     }
 }
 
 /// Takes the numbers out again.
-pub fn blank(boxes: &mut [usize], symbols: &[u32])
+pub fn clear_numbers(slots: &mut [usize], symbols: &[u32])
     requires rise { IsStrictlyIncreasing symbols.now }
-    requires numbered { AreNumbered boxes.old symbols.now 0 (length symbols.now) }
-    requires within { All (λ rank. rank < length boxes.old) symbols.now }
-    ensures { AreBlank boxes.new }
+    requires numbered { AreNumbered slots.old symbols.now 0 (length symbols.now) }
+    requires within { All (λ rank. rank < length slots.old) symbols.now }
+    ensures { AreCleared slots.new }
 {
     for k in 0..symbols.len() {
-        boxes[symbols[k] as usize] = 0;
+        slots[symbols[k] as usize] = 0;
     }
 }
 
 /// Whether the list has each numbered symbol. No lookup waits for the one before it.
-fn has_numbered(list: &[u32], symbols: &[u32], boxes: &[usize]) -> bool
+fn has_numbered(list: &[u32], symbols: &[u32], slots: &[usize]) -> bool
     requires list { IsStrictlyIncreasing list.now }
     requires rise { IsStrictlyIncreasing symbols.now }
-    requires numbered { AreNumbered boxes.now symbols.now 0 (length symbols.now) }
-    requires within { All (λ rank. rank < length boxes.now) list.now }
+    requires numbered { AreNumbered slots.now symbols.now 0 (length symbols.now) }
+    requires within { All (λ rank. rank < length slots.now) list.now }
     ensures { IsTrue result ↔ All (Contains list.now) symbols.now }
 {
     if list == symbols {
@@ -185,7 +185,7 @@ fn has_numbered(list: &[u32], symbols: &[u32], boxes: &[usize]) -> bool
     }
     let mut next = 1;
     for known in list {
-        if boxes[*known as usize] == next {
+        if slots[*known as usize] == next {
             next += 1;
         }
     }
@@ -193,38 +193,38 @@ fn has_numbered(list: &[u32], symbols: &[u32], boxes: &[usize]) -> bool
 }
 
 /// Whether the nodes at these places agree as far as they say by themselves.
-pub fn agree(alloc: Global, sides: &Sides, a: &Node, b: &Node, at: (u32, u32)) -> Made<bool>
+pub fn agree(alloc: Global, sides: &Sides, a: &Node, b: &Node, at: (u32, u32)) -> AllocResult<bool>
     requires sides { IsSides sides.now }
     requires a_at { slice_get (rows sides.now) at.0 ≡ Some (node_view a.now) }
     requires b_at { slice_get (columns sides.now) at.1 ≡ Some (node_view b.now) }
     ensures { IfOk result (λ yes. IsTrue yes ↔ Agree (node_view a.now) (node_view b.now)) }
 {
-    if let Some(told) = alike(a, b, names_match(sides, at.0, at.1)) {
-        return Ok(told);
+    if let Some(decided) = alike(a, b, names_match(sides, at.0, at.1)) {
+        return Ok(decided);
     }
-    match met_symbols(alloc, sides, at.0)? {
+    match mapped_symbols(alloc, sides, at.0)? {
         Some(symbols) => Ok(has_all(symbols_of(sides.reader.ranks(at.1)), &symbols)),
         None => Ok(false),
     }
 }
 
 /// The same, if the symbols at the writer's place are ranked and numbered in the boxes.
-pub fn agree_at(sides: &Sides, symbols: &Option<Vec<u32>>, boxes: &[usize], i: u32, j: u32) -> bool
+pub fn agree_at(sides: &Sides, symbols: &Option<Vec<u32>>, slots: &[usize], i: u32, j: u32) -> bool
     requires sides { IsSides sides.now }
-    requires numbered { MatchOption symbols.now (Unit {0}) (λ v. AreNumbered boxes.now v.items 0 (length v.items)) }
-    requires room { length (names_of sides.now.reader) ≤ length boxes.now }
+    requires numbered { MatchOption symbols.now (Unit {0}) (λ v. AreNumbered slots.now v.items 0 (length v.items)) }
+    requires room { length (names_of sides.now.reader) ≤ length slots.now }
     requires symbols { (a : NodeView) → slice_get (rows sides.now) i ≡ Some a
-        → AreSymbolsMet (names_of sides.now.reader) (symbols_of a) symbols.now }
+        → AreSymbolsMapped (names_of sides.now.reader) (symbols_of a) symbols.now }
     requires i_in { i < length sides.now.writer.schema.now }
     requires j_in { j < length sides.now.reader.schema.now }
     ensures { IsTrue result ↔ Agreed (rows sides.now) (columns sides.now) i j }
 {
     let (a, b) = (sides.writer.node(i), sides.reader.node(j));
-    if let Some(told) = alike(a, b, names_match(sides, i, j)) {
-        return told;
+    if let Some(decided) = alike(a, b, names_match(sides, i, j)) {
+        return decided;
     }
     match symbols {
-        Some(symbols) => has_numbered(symbols_of(sides.reader.ranks(j)), symbols, boxes),
+        Some(symbols) => has_numbered(symbols_of(sides.reader.ranks(j)), symbols, slots),
         None => false,
     }
 }

@@ -3,23 +3,23 @@
 #![tactic(auto)]
 
 mod agreeing;
-mod desk;
+mod elimination;
+mod field_slots;
 mod links;
 mod lists;
-mod looks;
 mod pair_set;
 mod readable;
 mod recursion;
 mod resolving;
 mod rows;
 mod sides;
-mod striking;
 mod support;
 mod table;
+mod work_meter;
 
 pub use avro_nodes::OutOfMemory;
 pub use resolving::{Verdict, resolution_is_decided, resolves, resolves_itself, resolves_plain};
 use std::alloc::AllocError;
 
 /// What was made, unless allocation fails.
-type Made<T> = Result<T, AllocError>;
+type AllocResult<T> = Result<T, AllocError>;

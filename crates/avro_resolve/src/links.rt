@@ -3,21 +3,21 @@
 
 ghost use Rattle.std.specs.Prelude.{◌<◌, ◌≡◌, length, slice_get, All, Contains, IfOk, OnOk, Some};
 ghost use Rattle.avro_nodes.specs.Nodes.{NodeView};
-ghost use Rattle.avro_resolve.specs.Inside.Askers.{ranks_of, HasAskers, HasLabel, IsOfNode, IsPlaceLinked, LinkedBy, Notes};
+ghost use Rattle.avro_resolve.specs.Inside.Referrers.{ranks_of, HasReferrers, HasLabel, IsOfNode, IsPlaceLinked, LinkedBy, OnlyAddsLinks};
 ghost use Rattle.avro_resolve.specs.Inside.Sides.{names_of, nodes_of, IsSide};
 
-use crate::Made;
-use crate::lists::{empty_lists, note, unions_of};
+use crate::AllocResult;
+use crate::lists::{add_at, empty_lists, unions_of};
 use crate::readable::Aliased;
-use crate::sides::{Met, Side};
+use crate::sides::{RankMap, Side};
 use avro_nodes::Node;
 use std::alloc::Global;
 
 /// In which way a place refers to another.
 #[derive(Clone, Copy, Debug, PartialEq, Eq)]
-pub enum Way {
+pub enum LinkKind {
     /// an array or a map, to what it contains
-    OfContents,
+    ByElement,
     /// a record, by the name of a field that has the other's type
     ByName,
     /// a reader's record, by an alias of such a field, which has this number
@@ -30,8 +30,8 @@ pub struct Link {
     /// the reader's rank of the name of the field that has the other's type, or 0 for items and values
     pub label: u32,
     /// the place that refers
-    pub asker: u32,
-    pub way: Way,
+    pub referrer: u32,
+    pub kind: LinkKind,
 }
 
 /// What refers to each place of a side.
@@ -46,13 +46,13 @@ pub struct Links {
 }
 
 /// The label of items and values. A name may have this rank too: the ways tell the two apart.
-const CONTAINED: u32 = 0;
+const ELEMENT_LABEL: u32 = 0;
 
 /// Notes that one place refers to another in a way, by each label. It skips adjacent duplicates.
-fn note_by(links: &mut Links, labels: &[u32], way: Way, to: u32, at: u32) -> Made<()>
+fn add_links(links: &mut Links, labels: &[u32], kind: LinkKind, to: u32, at: u32) -> AllocResult<()>
     requires { to < length links.old.lists.items }
-    ensures notes { OnOk result (Notes (λ x p. Contains labels.now x.label × (x.way ≡ way) × (x.asker ≡ at) × (p ≡ to)) links.old links.new) }
-    ensures there { OnOk result (All (λ label. LinkedBy (HasLabel label way) links.new.lists.items at to) labels.now) }
+    ensures notes { OnOk result (OnlyAddsLinks (λ x p. Contains labels.now x.label × (x.kind ≡ kind) × (x.referrer ≡ at) × (p ≡ to)) links.old links.new) }
+    ensures there { OnOk result (All (λ label. LinkedBy (HasLabel label kind) links.new.lists.items at to) labels.now) }
 {
     for index in 0..labels.len() {
         if index > 0 && labels[index] == labels[index - 1] {
@@ -60,54 +60,67 @@ fn note_by(links: &mut Links, labels: &[u32], way: Way, to: u32, at: u32) -> Mad
         }
         let link = Link {
             label: labels[index],
-            asker: at,
-            way,
+            referrer: at,
+            kind,
         };
-        note(&mut links.lists, to, link)?;
+        add_at(&mut links.lists, to, link)?;
     }
     Ok(())
 }
 
 /// Notes what the node at a place refers to: items, values, or the types of fields. Labels are the
 /// reader's ranks of names. A reader's field with aliases gets a number, and a link for each alias.
-fn note_at(links: &mut Links, met: Option<&Met>, side: &Side, asker: u32) -> Made<()>
+fn add_node_links(
+    links: &mut Links,
+    rank_map: Option<&RankMap>,
+    side: &Side,
+    referrer: u32,
+) -> AllocResult<()>
     requires side { IsSide side.now }
-    requires asker_in { asker < length side.now.schema.now }
+    requires asker_in { referrer < length side.now.schema.now }
     requires long { length links.old.lists.items ≡ length side.now.schema.now }
-    ensures notes { OnOk result (Notes (λ x p. (x.asker ≡ asker) × ((a : NodeView)
-        → slice_get (nodes_of side.now) asker ≡ Some a
-        → IsOfNode (names_of side.now) (ranks_of met.entry) links.new.aliased.items a x p)) links.old links.new) }
-    ensures there { OnOk result ((a : NodeView) → slice_get (nodes_of side.now) asker ≡ Some a
-        → IsPlaceLinked (names_of side.now) (ranks_of met.entry) links.new asker a) }
+    ensures notes { OnOk result (OnlyAddsLinks (λ x p. (x.referrer ≡ referrer) × ((a : NodeView)
+        → slice_get (nodes_of side.now) referrer ≡ Some a
+        → IsOfNode (names_of side.now) (ranks_of rank_map.entry) links.new.aliased.items a x p)) links.old links.new) }
+    ensures there { OnOk result ((a : NodeView) → slice_get (nodes_of side.now) referrer ≡ Some a
+        → IsPlaceLinked (names_of side.now) (ranks_of rank_map.entry) links.new referrer a) }
 {
-    if let Node::Array { items: place, .. } | Node::Map { values: place, .. } = side.node(asker) {
-        note_by(links, &[CONTAINED], Way::OfContents, *place, asker)?;
+    if let Node::Array { items: place, .. } | Node::Map { values: place, .. } = side.node(
+        referrer,
+    ) {
+        add_links(
+            links,
+            &[ELEMENT_LABEL],
+            LinkKind::ByElement,
+            *place,
+            referrer,
+        )?;
         return Ok(());
     }
-    let fields = side.fields(asker);
+    let fields = side.fields(referrer);
     for index in 0..fields.fields.len() {
         let (place, ranks) = (fields.fields[index].place, &fields.ranks[index]);
-        let own = met.map_or(Some(ranks.name), |met| met.rank(ranks.name));
-        note_by(links, own.as_slice(), Way::ByName, place, asker)?;
-        if met.is_some() || ranks.aliases.is_empty() {
+        let own = rank_map.map_or(Some(ranks.name), |rank_map| rank_map.rank(ranks.name));
+        add_links(links, own.as_slice(), LinkKind::ByName, place, referrer)?;
+        if rank_map.is_some() || ranks.aliases.is_empty() {
             continue;
         }
-        let way = Way::ByAlias(links.aliased.len());
+        let kind = LinkKind::ByAlias(links.aliased.len());
         links.aliased.push(Aliased {
-            place: asker,
+            place: referrer,
             index,
         })?;
         let mut labels = ranks.aliases.clone()?;
         labels.sort_unstable();
-        note_by(links, &labels, way, place, asker)?;
+        add_links(links, &labels, kind, place, referrer)?;
     }
     Ok(())
 }
 
 /// For each place of a side the unions that have it as a branch, and its links, sorted by label.
-pub fn links_of(alloc: Global, side: &Side, met: Option<&Met>) -> Made<Links>
+pub fn links_of(alloc: Global, side: &Side, rank_map: Option<&RankMap>) -> AllocResult<Links>
     requires { IsSide side.now }
-    ensures { IfOk result (λ a. HasAskers (names_of side.now) (ranks_of met.entry) (nodes_of side.now) a) }
+    ensures { IfOk result (λ a. HasReferrers (names_of side.now) (ranks_of rank_map.entry) (nodes_of side.now) a) }
 {
     let mut links = Links {
         unions: unions_of(alloc, side.schema)?,
@@ -115,7 +128,7 @@ pub fn links_of(alloc: Global, side: &Side, met: Option<&Met>) -> Made<Links>
         aliased: Vec::new(alloc),
     };
     for i in 0..side.places() {
-        note_at(&mut links, met, side, i)?;
+        add_node_links(&mut links, rank_map, side, i)?;
     }
     for place in 0..links.lists.len() {
         links.lists[place].sort_unstable_by_key(|link| link.label);

@@ -2,19 +2,19 @@
 
 ghost use Rattle.std.specs.Prelude.{◌<◌, ◌≡◌, length, IfOk, OnOk, ℕ};
 ghost use Rattle.avro_nodes.specs.Nodes.{nodes_view};
-ghost use Rattle.avro_resolve.specs.Inside.Askers.{AreUnions, HasUnions};
-ghost use Rattle.avro_resolve.specs.Inside.Lists.{list_at, Adds, StandsAt};
-ghost use Rattle.avro_resolve.specs.Inside.Places.{IsWhole};
+ghost use Rattle.avro_resolve.specs.Inside.Referrers.{AreUnions, HasUnions};
+ghost use Rattle.avro_resolve.specs.Inside.Lists.{list_at, OnlyAdds, IsListedAt};
+ghost use Rattle.avro_resolve.specs.Inside.Places.{IsSelfContained};
 
-use crate::Made;
+use crate::AllocResult;
 use avro_nodes::Node;
 use avro_schema::Schema;
 use std::alloc::Global;
 
 /// So many empty lists.
-pub fn empty_lists<T: Drop>(alloc: Global, count: u32) -> Made<Vec<Vec<T>>>
+pub fn empty_lists<T: Drop>(alloc: Global, count: u32) -> AllocResult<Vec<Vec<T>>>
     ensures long { IfOk result (λ v. length v.items ≡ count) }
-    ensures empty { IfOk result (λ v. (x : T) (place : ℕ) → StandsAt v.items x place → ⊥) }
+    ensures empty { IfOk result (λ v. (x : T) (place : ℕ) → IsListedAt v.items x place → ⊥) }
 {
     let mut lists: Vec<Vec<T>> = Vec::new(alloc);
     for _i in 0..count {
@@ -24,10 +24,10 @@ pub fn empty_lists<T: Drop>(alloc: Global, count: u32) -> Made<Vec<Vec<T>>>
 }
 
 /// Adds one to the list of a place.
-pub fn note<T: Drop>(lists: &mut Vec<Vec<T>>, place: u32, item: T) -> Made<()>
+pub fn add_at<T: Drop>(lists: &mut Vec<Vec<T>>, place: u32, item: T) -> AllocResult<()>
     requires { place < length lists.old.items }
-    ensures adds { OnOk result (Adds (λ x p. (x ≡ item) × (p ≡ place)) lists.old.items lists.new.items) }
-    ensures there { OnOk result (StandsAt lists.new.items item place) }
+    ensures adds { OnOk result (OnlyAdds (λ x p. (x ≡ item) × (p ≡ place)) lists.old.items lists.new.items) }
+    ensures there { OnOk result (IsListedAt lists.new.items item place) }
 {
     lists[place as usize].push(item)?;
     Ok(())
@@ -44,8 +44,8 @@ pub fn list_of<T>(lists: &[Vec<T>], place: usize) -> &[T]
 }
 
 /// For each place of a schema the unions that have it as a branch.
-pub fn unions_of(alloc: Global, schema: &Schema) -> Made<Vec<Vec<u32>>>
-    requires { IsWhole (nodes_view schema.now) }
+pub fn unions_of(alloc: Global, schema: &Schema) -> AllocResult<Vec<Vec<u32>>>
+    requires { IsSelfContained (nodes_view schema.now) }
     ensures { IfOk result (λ v. HasUnions (nodes_view schema.now) v.items) }
 {
     let mut lists = empty_lists(alloc, schema.places())?;
@@ -54,14 +54,14 @@ pub fn unions_of(alloc: Global, schema: &Schema) -> Made<Vec<Vec<u32>>>
             continue;
         };
         for branch in branches {
-            note(&mut lists, *branch, i)?;
+            add_at(&mut lists, *branch, i)?;
         }
     }
     Ok(lists)
 }
 
 /// The unions of a schema, by their places.
-pub fn unions_in(alloc: Global, schema: &Schema) -> Made<Vec<u32>>
+pub fn unions_in(alloc: Global, schema: &Schema) -> AllocResult<Vec<u32>>
     ensures { IfOk result (λ v. AreUnions (nodes_view schema.now) v.items) }
 {
     let mut unions = Vec::new(alloc);

@@ -1,6 +1,6 @@
 //! Sets of pairs of places.
 
-use crate::Made;
+use crate::AllocResult;
 use std::alloc::Global;
 
 /// A set of pairs of places, the writer's first: one bit a pair, up to the last one inserted.
@@ -37,7 +37,7 @@ impl PairSet {
     }
 
     /// Puts the pair in.
-    pub fn insert(&mut self, i: u32, j: u32) -> Made<()>
+    pub fn insert(&mut self, i: u32, j: u32) -> AllocResult<()>
         requires { j < self.old.readers }
         ensures readers { OnOk result (self.new.readers ≡ self.old.readers) }
         ensures others { OnOk result ((a b : ℕ) → b < self.old.readers

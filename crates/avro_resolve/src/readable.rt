@@ -6,16 +6,16 @@ ghost use Rattle.std.specs.List.{AllZip};
 ghost use Rattle.avro_nodes.specs.Nodes.{field_view, FieldView, NodeView};
 ghost use Rattle.avro_schema.specs.Index.{IsFieldRanked};
 ghost use Rattle.avro_resolve.specs.Inside.Agreeing.{fields_of};
-ghost use Rattle.avro_resolve.specs.Inside.Laying.{AreLaidFields};
-ghost use Rattle.avro_resolve.specs.Inside.Left.{left};
-ghost use Rattle.avro_resolve.specs.Inside.Rows.{row_fields, IsBasis, IsOver, IsRow};
+ghost use Rattle.avro_resolve.specs.Inside.FieldSlots.{AreFieldsInSlots};
+ghost use Rattle.avro_resolve.specs.Inside.Remaining.{remains};
+ghost use Rattle.avro_resolve.specs.Inside.Rows.{row_fields, IsFieldSource, IsPairInTable, IsWriterPlace};
 ghost use Rattle.avro_resolve.specs.Inside.Sides.{columns, IsSide};
-ghost use Rattle.avro_resolve.specs.Inside.Sources.{field_at, Describes, IsEntry, IsWanted};
+ghost use Rattle.avro_resolve.specs.Inside.Sources.{field_at, Describes, IsSourceCode, IsReaderField};
 ghost use Rattle.avro_resolve.specs.Resolution.{Readable};
 ghost use Rattle.avro_resolve.specs.declared.sides.Sides.{Sides};
 
-use crate::Made;
-use crate::desk::place_of;
+use crate::AllocResult;
+use crate::field_slots::find_source;
 use crate::sides::{Fields, Side, Sides};
 use crate::table::Table;
 use avro_nodes::Field;
@@ -33,17 +33,17 @@ pub struct Aliased {
 
 /// The reader's fields that have aliases: a field's number is its index here.
 #[derive(Clone, Copy)]
-pub struct Numbered<'a> {
+pub struct AliasedFields<'a> {
     pub aliased: &'a [Aliased],
     /// for each place of the reader's the number of its first such field, if it has one
     pub firsts: &'a [usize],
     /// what is asked of each of these fields
-    pub wanted: &'a [Option<Wanted<'a>>],
+    pub wanted: &'a [Option<ReaderField<'a>>],
 }
 
 /// What is asked of a reader's field.
 #[derive(Clone, Copy)]
-pub struct Wanted<'a> {
+pub struct ReaderField<'a> {
     /// the place of its type
     pub place: u32,
     pub has_default: bool,
@@ -52,11 +52,11 @@ pub struct Wanted<'a> {
 }
 
 /// What is asked of the field that has these names.
-fn asked<'a>(field: &Field, names: &'a FieldRanks) -> Wanted<'a>
+fn reader_field<'a>(field: &Field, names: &'a FieldRanks) -> ReaderField<'a>
     ensures { (texts : List (List ℕ)) → IsFieldRanked texts (field_view field.now) names.now
         → Describes texts result (field_view field.now) }
 {
-    Wanted {
+    ReaderField {
         place: field.place,
         has_default: field.value.is_some(),
         names,
@@ -64,36 +64,36 @@ fn asked<'a>(field: &Field, names: &'a FieldRanks) -> Wanted<'a>
 }
 
 /// What is asked of the field, which is looked up once.
-fn wanted_of<'a>(side: &'a Side, aliased: Aliased) -> Option<Wanted<'a>>
+fn reader_field_of<'a>(side: &'a Side, aliased: Aliased) -> Option<ReaderField<'a>>
     requires { IsSide side.now }
-    ensures { IsWanted side.now aliased result }
+    ensures { IsReaderField side.now aliased result }
 {
     if aliased.place >= side.places() {
         return None;
     }
     let found = side.fields(aliased.place);
     let field = found.fields.get(aliased.index)?;
-    Some(asked(field, found.ranks.get(aliased.index)?))
+    Some(reader_field(field, found.ranks.get(aliased.index)?))
 }
 
 /// The same of each of these fields.
-pub fn all_wanted<'a>(
+pub fn reader_fields_of<'a>(
     alloc: Global,
     side: &'a Side,
     aliased: &[Aliased],
-) -> Made<Vec<Option<Wanted<'a>>>>
+) -> AllocResult<Vec<Option<ReaderField<'a>>>>
     requires { IsSide side.now }
-    ensures { IfOk result (λ v. AllZip (IsWanted side.now) aliased.now v.items) }
+    ensures { IfOk result (λ v. AllZip (IsReaderField side.now) aliased.now v.items) }
 {
     let mut wanted = Vec::with_capacity(alloc, aliased.len())?;
     for field in aliased {
-        wanted.push(wanted_of(side, *field))?;
+        wanted.push(reader_field_of(side, *field))?;
     }
     Ok(wanted)
 }
 
 /// For each place the number of its first field, if it has one of these.
-pub fn firsts_of(alloc: Global, places: u32, fields: &[Aliased]) -> Made<Vec<usize>> {
+pub fn firsts_of(alloc: Global, places: u32, fields: &[Aliased]) -> AllocResult<Vec<usize>> {
     let mut firsts = vec![in alloc; 0; places as usize]?;
     for number in (0..fields.len()).rev() {
         if let Some(first) = firsts.get_mut(fields[number].place as usize) {
@@ -104,26 +104,26 @@ pub fn firsts_of(alloc: Global, places: u32, fields: &[Aliased]) -> Made<Vec<usi
 }
 
 /// The sources of these reader's fields among the indexed ones: a place and one, or 0 for none.
-pub fn row_of(
+pub fn source_codes(
     alloc: Global,
-    boxes: &[Option<usize>],
+    slots: &[Option<usize>],
     sides: &Sides,
     fields: Fields,
-    numbered: Numbered,
-) -> Made<Vec<u16>>
-    requires laid { AreLaidFields sides.now fields boxes.now }
+    aliased_fields: AliasedFields,
+) -> AllocResult<Vec<u16>>
+    requires in_slots { AreFieldsInSlots sides.now fields slots.now }
     requires fields_in { All (λ g. g.place < 65535) fields.fields.now }
-    requires wanted { AllZip (IsWanted sides.now.reader) numbered.aliased.now numbered.wanted.now }
-    ensures { IfOk result (λ v. AllZip (IsEntry (columns sides.now) (map field_view fields.entry.fields.now))
-        numbered.entry.aliased.now v.items) }
+    requires wanted { AllZip (IsReaderField sides.now.reader) aliased_fields.aliased.now aliased_fields.wanted.now }
+    ensures { IfOk result (λ v. AllZip (IsSourceCode (columns sides.now) (map field_view fields.entry.fields.now))
+        aliased_fields.entry.aliased.now v.items) }
 {
     if fields.fields.is_empty() {
-        return Ok(vec![in alloc; 0; numbered.wanted.len()]?);
+        return Ok(vec![in alloc; 0; aliased_fields.wanted.len()]?);
     }
-    let mut row = Vec::with_capacity(alloc, numbered.wanted.len())?;
-    for wanted in numbered.wanted {
+    let mut row = Vec::with_capacity(alloc, aliased_fields.wanted.len())?;
+    for wanted in aliased_fields.wanted {
         let place = match wanted {
-            Some(wanted) => place_of(boxes, sides, fields, wanted.names),
+            Some(wanted) => find_source(slots, sides, fields, wanted.names),
             None => None,
         };
         row.push(place.map_or(0, |place| place as u16 + 1))?;
@@ -133,51 +133,63 @@ pub fn row_of(
 
 /// A place of the writer, while its fields lie in the boxes.
 #[derive(Clone, Copy)]
-pub struct Row<'a> {
+pub struct WriterPlace<'a> {
     pub place: u32,
     /// its fields, if it is a record
     pub fields: Fields<'a>,
     /// where they lie
-    pub boxes: &'a [Option<usize>],
+    pub slots: &'a [Option<usize>],
     /// the reader's fields that have aliases
-    pub numbered: Numbered<'a>,
+    pub aliased_fields: AliasedFields<'a>,
     /// whence each of these is read of the writer's place: a place and one, or 0 for none
     pub entries: &'a [u16],
 }
 
 /// If the number is this field's: the place of its source's type, if any, and what is asked of it.
-fn told_at<'a>(row: &Row<'a>, number: usize, field: Aliased) -> Option<(Option<u32>, Wanted<'a>)>
-    ensures { IfSome result (λ told. (sides : Sides) (f : FieldView) → IsRow sides row.now
-        → field_at (columns sides) field ≡ Some f → IsBasis sides row.now told.0 told.1 f) }
+fn known_source<'a>(
+    row: &WriterPlace<'a>,
+    number: usize,
+    field: Aliased,
+) -> Option<(Option<u32>, ReaderField<'a>)>
+    ensures { IfSome result (λ known. (sides : Sides) (f : FieldView) → IsWriterPlace sides row.now
+        → field_at (columns sides) field ≡ Some f → IsFieldSource sides row.now known.0 known.1 f) }
 {
-    if *row.numbered.aliased.get(number)? != field {
+    if *row.aliased_fields.aliased.get(number)? != field {
         return None;
     }
-    let (entry, wanted) = (row.entries.get(number)?, row.numbered.wanted.get(number)?);
+    let (entry, wanted) = (
+        row.entries.get(number)?,
+        row.aliased_fields.wanted.get(number)?,
+    );
     Some((entry.checked_sub(1).map(u32::from), (*wanted)?))
 }
 
 /// Whether each field of a reader's record can be read from the writer's place.
-pub fn all_readable(sides: &Sides, row: &Row, j: u32, table: &Table) -> bool
-    requires { IsOver sides.now row.now table.now j }
+pub fn all_readable(sides: &Sides, row: &WriterPlace, j: u32, table: &Table) -> bool
+    requires { IsPairInTable sides.now row.now table.now j }
     ensures { (b : NodeView) → slice_get (columns sides.now) j ≡ Some b
-        → IsTrue result ↔ All (Readable (left table.now) (row_fields row.now)) (fields_of b) }
+        → IsTrue result ↔ All (Readable (remains table.now) (row_fields row.now)) (fields_of b) }
 {
     let wanted = sides.reader.fields(j);
-    let mut number = row.numbered.firsts.get(j as usize).copied().unwrap_or(0);
+    let mut number = row
+        .aliased_fields
+        .firsts
+        .get(j as usize)
+        .copied()
+        .unwrap_or(0);
     for index in 0..wanted.fields.len() {
-        let (source, asked) = match told_at(row, number, Aliased { place: j, index }) {
-            Some(told) => {
+        let (source, sought) = match known_source(row, number, Aliased { place: j, index }) {
+            Some(known) => {
                 number = number.saturating_add(1);
-                told
+                known
             }
             None => {
                 let (field, names) = (&wanted.fields[index], &wanted.ranks[index]);
-                let source = place_of(row.boxes, sides, row.fields, names);
-                (source, asked(field, names))
+                let source = find_source(row.slots, sides, row.fields, names);
+                (source, reader_field(field, names))
             }
         };
-        if !source.map_or(asked.has_default, |place| table.has(place, asked.place)) {
+        if !source.map_or(sought.has_default, |place| table.has(place, sought.place)) {
             return false;
         }
     }

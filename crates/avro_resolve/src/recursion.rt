@@ -3,16 +3,16 @@
 ghost use Rattle.std.specs.Prelude.{◌≡◌, map, slice_get, All, Any, IfOk, IsTrue, Some};
 ghost use Rattle.avro_nodes.specs.Nodes.{field_view, node_view};
 ghost use Rattle.avro_resolve.specs.Inside.Agreeing.{Agree};
-ghost use Rattle.avro_resolve.specs.Inside.Asked.{AreAsked, IsAsked, IsSourceAsked};
-ghost use Rattle.avro_resolve.specs.Inside.Laying.{AreReadOff};
+ghost use Rattle.avro_resolve.specs.Inside.IsReachable.{AreReachable, IsReachablePair, IsSourceReachable};
+ghost use Rattle.avro_resolve.specs.Inside.FieldSlots.{AreFieldSources};
 ghost use Rattle.avro_resolve.specs.Inside.Sides.{columns, rows};
-ghost use Rattle.avro_resolve.specs.Inside.Walking.{MayGoOn, TellsOf};
+ghost use Rattle.avro_resolve.specs.Inside.Walking.{MayContinue, WalkAnswerHolds};
 ghost use Rattle.avro_resolve.specs.Resolution.{Fits, Readable, Supports};
 ghost use Rattle.avro_resolve.specs.Witnesses.{member, without};
 
-use crate::Made;
+use crate::AllocResult;
 use crate::agreeing::agree;
-use crate::looks::Looks;
+use crate::meter::WorkMeter;
 use crate::pair_set::PairSet;
 use crate::sides::Sides;
 use avro_nodes::{Field, Node};
@@ -30,7 +30,7 @@ pub enum Answer {
 }
 
 /// An answer, unless memory for it is refused.
-pub type Told = Made<Answer>;
+pub type AnswerResult = AllocResult<Answer>;
 
 /// The pairs that were opened.
 #[derive(Drop)]
@@ -47,7 +47,7 @@ pub struct Walk {
     /// how many pairs were opened
     pub visits: u128,
     /// what was looked at for them
-    pub looks: Looks,
+    pub meter: WorkMeter,
 }
 
 /// The most work once a thousand pairs were opened. Beyond it elimination takes less, since it
@@ -59,21 +59,21 @@ const MAX_OPEN: usize = 1000;
 
 /// Whether the pair is assumed, or is supported if it is opened and assumed.
 #[cycle(walk)]
-pub fn ask(sides: &Sides, i: u32, j: u32, depth: usize, walk: &mut Walk) -> Told
-    requires ready { MayGoOn sides.now depth walk.old }
-    requires asked { IsAsked (rows sides.now) (columns sides.now) i j }
-    ensures { IfOk result (λ answer. TellsOf sides.now depth walk.old walk.new
+pub fn ask(sides: &Sides, i: u32, j: u32, depth: usize, walk: &mut Walk) -> AnswerResult
+    requires ready { MayContinue sides.now depth walk.old }
+    requires reachable { IsReachablePair (rows sides.now) (columns sides.now) i j }
+    ensures { IfOk result (λ answer. WalkAnswerHolds sides.now depth walk.old walk.new
         (IsTrue (member walk.new.assumed.items i j))
         ((walk.new.assumed.items ≡ walk.old.assumed.items) × IsTrue (member walk.new.failed.items i j)) answer) }
 {
-    walk.looks.count_one();
+    walk.meter.count_one();
     if walk.assumed_set.has(i, j) {
         return Ok(Answer::Yes);
     }
     if walk.failed_set.has(i, j) {
         return Ok(Answer::No);
     }
-    if depth == MAX_OPEN || (walk.visits >= 1000 && walk.looks.work >= MAX_WORK) {
+    if depth == MAX_OPEN || (walk.visits >= 1000 && walk.meter.work >= MAX_WORK) {
         return Ok(Answer::Unfinished);
     }
     let mark = walk.assumed.len();
@@ -82,7 +82,7 @@ pub fn ask(sides: &Sides, i: u32, j: u32, depth: usize, walk: &mut Walk) -> Told
     walk.assumed.push((i as u16, j as u16))?;
     match is_supported(sides, (i, j), depth + 1, walk)? {
         Answer::No => {}
-        told => return Ok(told),
+        outcome => return Ok(outcome),
     }
     while walk.assumed.len() > mark {
         if let Some((i, j)) = walk.assumed.pop() {
@@ -96,15 +96,15 @@ pub fn ask(sides: &Sides, i: u32, j: u32, depth: usize, walk: &mut Walk) -> Told
 
 /// Whether the pair is supported, if it is assumed.
 #[cycle(walk)]
-fn is_supported(sides: &Sides, at: (u32, u32), depth: usize, walk: &mut Walk) -> Told
-    requires ready { MayGoOn sides.now depth walk.old }
-    requires asked { IsAsked (rows sides.now) (columns sides.now) at.0 at.1 }
-    ensures { IfOk result (λ answer. TellsOf sides.now depth walk.old walk.new
+fn is_supported(sides: &Sides, at: (u32, u32), depth: usize, walk: &mut Walk) -> AnswerResult
+    requires ready { MayContinue sides.now depth walk.old }
+    requires reachable { IsReachablePair (rows sides.now) (columns sides.now) at.0 at.1 }
+    ensures { IfOk result (λ answer. WalkAnswerHolds sides.now depth walk.old walk.new
         (Supports (rows sides.now) (columns sides.now) (member walk.new.assumed.items) at.0 at.1)
         (Supports (rows sides.now) (columns sides.now) (without walk.new.failed.items) at.0 at.1 → ⊥) answer) }
 {
     let (a, b) = (sides.writer.node(at.0), sides.reader.node(at.1));
-    walk.looks.compare(a, b);
+    walk.meter.compare(a, b);
     let agreed = agree(walk.alloc, sides, a, b, at)?;
     if !agreed {
         return Ok(Answer::No);
@@ -114,13 +114,20 @@ fn is_supported(sides: &Sides, at: (u32, u32), depth: usize, walk: &mut Walk) ->
 
 /// Whether a pair of nodes that agree is supported, by the first case that fits.
 #[cycle(walk)]
-fn fits(sides: &Sides, a: &Node, b: &Node, at: (u32, u32), depth: usize, walk: &mut Walk) -> Told
-    requires ready { MayGoOn sides.now depth walk.old }
+fn fits(
+    sides: &Sides,
+    a: &Node,
+    b: &Node,
+    at: (u32, u32),
+    depth: usize,
+    walk: &mut Walk,
+) -> AnswerResult
+    requires ready { MayContinue sides.now depth walk.old }
     requires a_at { slice_get (rows sides.now) at.0 ≡ Some (node_view a.now) }
     requires b_at { slice_get (columns sides.now) at.1 ≡ Some (node_view b.now) }
-    requires asked { AreAsked (rows sides.now) (columns sides.now) at.0 at.1 (node_view a.now) (node_view b.now) }
+    requires reachable { AreReachable (rows sides.now) (columns sides.now) at.0 at.1 (node_view a.now) (node_view b.now) }
     requires agreed { Agree (node_view a.now) (node_view b.now) }
-    ensures { IfOk result (λ answer. TellsOf sides.now depth walk.old walk.new
+    ensures { IfOk result (λ answer. WalkAnswerHolds sides.now depth walk.old walk.new
         (Fits (member walk.new.assumed.items) at.0 at.1 (node_view a.now) (node_view b.now))
         (Fits (without walk.new.failed.items) at.0 at.1 (node_view a.now) (node_view b.now) → ⊥) answer) }
 {
@@ -128,7 +135,7 @@ fn fits(sides: &Sides, a: &Node, b: &Node, at: (u32, u32), depth: usize, walk: &
         for p in branches {
             match ask(sides, *p, at.1, depth, walk)? {
                 Answer::Yes => {}
-                told => return Ok(told),
+                outcome => return Ok(outcome),
             }
         }
         return Ok(Answer::Yes);
@@ -137,7 +144,7 @@ fn fits(sides: &Sides, a: &Node, b: &Node, at: (u32, u32), depth: usize, walk: &
         for q in branches {
             match ask(sides, at.0, *q, depth, walk)? {
                 Answer::No => {}
-                told => return Ok(told),
+                outcome => return Ok(outcome),
             }
         }
         return Ok(Answer::No);
@@ -150,7 +157,7 @@ fn fits(sides: &Sides, a: &Node, b: &Node, at: (u32, u32), depth: usize, walk: &
             ask(sides, *p, *q, depth, walk)
         }
         (Node::Rec { fields, .. }, Node::Rec { fields: wanted, .. }) => {
-            let sources = walk.looks.sources(walk.alloc, sides, at.0, at.1)?;
+            let sources = walk.meter.sources(walk.alloc, sides, at.0, at.1)?;
             all_readable(sides, fields, &sources, wanted, depth, walk)
         }
         _ => Ok(Answer::Yes),
@@ -166,11 +173,11 @@ fn all_readable(
     wanted: &[Field],
     depth: usize,
     walk: &mut Walk,
-) -> Told
-    requires ready { MayGoOn sides.now depth walk.old }
-    requires told { AreReadOff (map field_view fields.now) (map field_view wanted.now) sources.now }
-    requires asked { All (λ f. IsSourceAsked (rows sides.now) (columns sides.now) (map field_view fields.now) (field_view f)) wanted.now }
-    ensures { IfOk result (λ answer. TellsOf sides.now depth walk.old walk.new
+) -> AnswerResult
+    requires ready { MayContinue sides.now depth walk.old }
+    requires sources { AreFieldSources (map field_view fields.now) (map field_view wanted.now) sources.now }
+    requires reachable { All (λ f. IsSourceReachable (rows sides.now) (columns sides.now) (map field_view fields.now) (field_view f)) wanted.now }
+    ensures { IfOk result (λ answer. WalkAnswerHolds sides.now depth walk.old walk.new
         (All (λ f. Readable (member walk.new.assumed.items) (map field_view fields.now) (field_view f)) wanted.now)
         (Any (λ f. Readable (without walk.new.failed.items) (map field_view fields.now) (field_view f) → ⊥) wanted.now) answer) }
 {
@@ -180,7 +187,7 @@ fn all_readable(
         match sources[index] {
             Some(p) => match ask(sides, u32::from(p), f.place, depth, walk)? {
                 Answer::Yes => {}
-                told => return Ok(told),
+                outcome => return Ok(outcome),
             },
             None => {
                 if f.value.is_none() {

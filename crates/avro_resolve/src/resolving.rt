@@ -2,16 +2,16 @@
 
 ghost use Rattle.std.specs.Prelude.{◌*◌, ◌<◌, ◌↔◌, ◌≡◌, ◌≤◌, false, length, IfOk, IsTrue, List};
 ghost use Rattle.avro_nodes.specs.Nodes.{nodes_view, NodeView};
-ghost use Rattle.avro_resolve.specs.Asking.{AreReached, HoldsAsked};
+ghost use Rattle.avro_resolve.specs.Asking.{AreReached, ContainsAsked};
 ghost use Rattle.avro_resolve.specs.Resolution.{Resolves};
 ghost use Rattle.avro_resolve.specs.Verdicts.{is_resolved};
 ghost use Rattle.avro_resolve.specs.Witnesses.{HasClosedSet, HasRefutation, Pair};
 
-use crate::looks::Looks;
+use crate::elimination::largest_closed;
+use crate::meter::WorkMeter;
 use crate::pair_set::PairSet;
 use crate::recursion::{Answer, Walk, ask};
 use crate::sides::Sides;
-use crate::striking::largest_closed;
 use avro_nodes::OutOfMemory;
 use avro_schema::Schema;
 use std::alloc::Global;
@@ -34,8 +34,8 @@ pub struct Verdict {
 pub fn resolves_plain(alloc: Global, writer: &Schema, reader: &Schema) -> Result<bool, OutOfMemory>
     ensures { IfOk result (λ yes. IsTrue yes ↔ Resolves (nodes_view writer.now) (nodes_view reader.now)) }
 {
-    let left = largest_closed(alloc, writer, reader)?;
-    Ok(left.has(0, 0))
+    let table = largest_closed(alloc, writer, reader)?;
+    Ok(table.has(0, 0))
 }
 
 /// Whether the writer's schema resolves with the reader's (Avro 1.11 specification, Schema
@@ -58,7 +58,7 @@ pub fn resolves(alloc: Global, writer: &Schema, reader: &Schema) -> Result<Verdi
     ensures reached { IfOk result (λ v. (ps : List Pair) → AreReached (nodes_view writer.now) (nodes_view reader.now) ps
         → v.visits ≤ length ps * length ps) }
     // the pairs that the roots reach are in each list that holds what is asked
-    ensures at_most { IfOk result (λ v. (ps : List Pair) → HoldsAsked (nodes_view writer.now) (nodes_view reader.now) ps
+    ensures at_most { IfOk result (λ v. (ps : List Pair) → ContainsAsked (nodes_view writer.now) (nodes_view reader.now) ps
         → v.visits ≤ length ps * length ps) }
 {
     let (_rows, columns) = (writer.places(), reader.places());
@@ -70,7 +70,7 @@ pub fn resolves(alloc: Global, writer: &Schema, reader: &Schema) -> Result<Verdi
         assumed_set: PairSet::none(alloc, columns),
         failed_set: PairSet::none(alloc, columns),
         visits: 0,
-        looks: Looks::none(alloc),
+        meter: WorkMeter::none(alloc),
     };
     let answer = ask(&sides, 0, 0, 0, &mut walk)?;
     let visits = walk.visits;

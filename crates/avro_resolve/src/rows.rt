@@ -3,17 +3,19 @@
 
 ghost use Rattle.std.specs.Prelude.{◌<◌, ◌≡◌, false, length, slice_get, IfOk, OnOk, Some, ℕ};
 ghost use Rattle.avro_nodes.specs.Nodes.{NodeView};
-ghost use Rattle.avro_resolve.specs.Inside.Askers.{HasBranch};
-ghost use Rattle.avro_resolve.specs.Inside.Left.{left, AreSettled, IsLeft, IsRest, IsRestOf, IsRowSettled, IsSettled, Strikes};
-ghost use Rattle.avro_resolve.specs.Inside.Rows.{IsRow};
+ghost use Rattle.avro_resolve.specs.Inside.Referrers.{HasBranch};
+ghost use Rattle.avro_resolve.specs.Inside.Remaining.{remains, AreStillSupported, IsRemainder, IsAgreedRemainder, HasAgreedRemainder, IsRowStillSupported, IsStillSupported, Eliminates};
+ghost use Rattle.avro_resolve.specs.Inside.Rows.{IsWriterPlace};
 ghost use Rattle.avro_resolve.specs.Inside.Sides.{columns, rows, IsSides};
 ghost use Rattle.avro_resolve.specs.Inside.Sources.{AreSources};
 ghost use Rattle.avro_resolve.specs.Resolution.{Supports};
 
-use crate::Made;
-use crate::agreeing::{agree_at, blank, listed, met_symbols, number};
-use crate::desk::{lay, lift};
-use crate::readable::{Aliased, Numbered, Row, all_wanted, firsts_of, row_of};
+use crate::AllocResult;
+use crate::agreeing::{agree_at, clear_numbers, mapped_symbols, number_symbols, ranks_or_empty};
+use crate::field_slots::{clear_slots, fill_slots};
+use crate::readable::{
+    Aliased, AliasedFields, WriterPlace, firsts_of, reader_fields_of, source_codes,
+};
 use crate::sides::Sides;
 use crate::support::supports;
 use crate::table::Table;
@@ -26,78 +28,83 @@ pub struct Progress {
     /// the pairs that are left
     pub table: Table,
     /// the pairs that were struck out and aren't yet told to those that ask for them
-    pub struck: Vec<(u16, u16)>,
+    pub eliminated: Vec<(u16, u16)>,
 }
 
 /// Strikes the pair out and lists it, if it is left. What is left doesn't support it.
-pub fn strike_pair(sides: &Sides, i: u32, j: u32, progress: &mut Progress) -> Made<()>
-    requires rest { IsRestOf sides.now progress.old }
+pub fn eliminate_pair(sides: &Sides, i: u32, j: u32, progress: &mut Progress) -> AllocResult<()>
+    requires rest { HasAgreedRemainder sides.now progress.old }
     requires i_in { i < length sides.now.writer.schema.now }
     requires j_in { j < length sides.now.reader.schema.now }
-    requires unsupported { Supports (rows sides.now) (columns sides.now) (left progress.old.table) i j → ⊥ }
-    ensures strikes { OnOk result (Strikes sides.now progress.old progress.new) }
-    ensures settled { OnOk result (IsSettled sides.now progress.new i j) }
-    ensures gone { OnOk result (left progress.new.table i j ≡ false) }
+    requires unsupported { Supports (rows sides.now) (columns sides.now) (remains progress.old.table) i j → ⊥ }
+    ensures eliminates { OnOk result (Eliminates sides.now progress.old progress.new) }
+    ensures still_supported { OnOk result (IsStillSupported sides.now progress.new i j) }
+    ensures gone { OnOk result (remains progress.new.table i j ≡ false) }
 {
     if !progress.table.has(i, j) {
         return Ok(());
     }
-    progress.table.strike(i, j);
-    progress.struck.push((i as u16, j as u16))?;
+    progress.table.eliminate(i, j);
+    progress.eliminated.push((i as u16, j as u16))?;
     Ok(())
 }
 
 /// Strikes out all pairs whose nodes don't agree.
-pub fn sweep(alloc: Global, sides: &Sides, table: &mut Table) -> Made<()>
+pub fn eliminate_disagreeing(alloc: Global, sides: &Sides, table: &mut Table) -> AllocResult<()>
     requires sides { IsSides sides.now }
-    requires rest { IsLeft (rows sides.now) (columns sides.now) table.old }
-    ensures { OnOk result (IsRest (rows sides.now) (columns sides.now) table.new) }
+    requires rest { IsRemainder (rows sides.now) (columns sides.now) table.old }
+    ensures { OnOk result (IsAgreedRemainder (rows sides.now) (columns sides.now) table.new) }
 {
     let mut made = vec![in alloc; 0usize; sides.reader.index.names.len()]?;
-    let boxes = made.as_mut_slice();
+    let slots = made.as_mut_slice();
     for i in 0..sides.writer.places() {
-        let symbols = met_symbols(alloc, sides, i)?;
-        let ranks = listed(&symbols);
-        number(boxes, ranks);
+        let symbols = mapped_symbols(alloc, sides, i)?;
+        let ranks = ranks_or_empty(&symbols);
+        number_symbols(slots, ranks);
         for j in 0..sides.reader.places() {
-            if !table.has(i, j) || agree_at(sides, &symbols, boxes, i, j) {
+            if !table.has(i, j) || agree_at(sides, &symbols, slots, i, j) {
                 continue;
             }
-            table.strike(i, j);
+            table.eliminate(i, j);
         }
-        blank(boxes, ranks);
+        clear_numbers(slots, ranks);
     }
     Ok(())
 }
 
 /// Eliminates the pairs of a writer's union with each place with which this branch of it isn't left.
-pub fn strike_apart(sides: &Sides, union: u32, branch: u32, progress: &mut Progress) -> Made<()>
-    requires rest { IsRestOf sides.now progress.old }
+pub fn eliminate_by_branch(
+    sides: &Sides,
+    union: u32,
+    branch: u32,
+    progress: &mut Progress,
+) -> AllocResult<()>
+    requires rest { HasAgreedRemainder sides.now progress.old }
     requires union_in { union < length sides.now.writer.schema.now }
     requires branch_in { branch < length sides.now.writer.schema.now }
     requires meant { (a : NodeView) → slice_get (rows sides.now) union ≡ Some a → HasBranch a branch }
-    ensures strikes { OnOk result (Strikes sides.now progress.old progress.new) }
-    ensures gone { OnOk result ((j : ℕ) → left progress.old.table branch j ≡ false → left progress.new.table union j ≡ false) }
+    ensures eliminates { OnOk result (Eliminates sides.now progress.old progress.new) }
+    ensures gone { OnOk result ((j : ℕ) → remains progress.old.table branch j ≡ false → remains progress.new.table union j ≡ false) }
 {
     let places = sides.reader.places() as usize;
-    let mut at = progress.table.next_apart(union, branch, 0);
+    let mut at = progress.table.next_difference(union, branch, 0);
     while at < places {
-        strike_pair(sides, union, at as u32, progress)?;
-        at = progress.table.next_apart(union, branch, at + 1);
+        eliminate_pair(sides, union, at as u32, progress)?;
+        at = progress.table.next_difference(union, branch, at + 1);
     }
     Ok(())
 }
 
 /// Examines all pairs of a row, and eliminates those that the rest doesn't support.
-fn look_along_row(sides: &Sides, row: &Row, progress: &mut Progress) -> Made<()>
-    requires row { IsRow sides.now row.now }
-    requires rest { IsRestOf sides.now progress.old }
-    ensures strikes { OnOk result (Strikes sides.now progress.old progress.new) }
-    ensures settled { OnOk result (IsRowSettled sides.now progress.new row.now.place) }
+fn examine_row(sides: &Sides, row: &WriterPlace, progress: &mut Progress) -> AllocResult<()>
+    requires row { IsWriterPlace sides.now row.now }
+    requires rest { HasAgreedRemainder sides.now progress.old }
+    ensures eliminates { OnOk result (Eliminates sides.now progress.old progress.new) }
+    ensures still_supported { OnOk result (IsRowStillSupported sides.now progress.new row.now.place) }
 {
     if let Node::Union { branches } = sides.writer.node(row.place) {
         for branch in branches {
-            strike_apart(sides, row.place, *branch, progress)?;
+            eliminate_by_branch(sides, row.place, *branch, progress)?;
         }
         return Ok(());
     }
@@ -105,29 +112,29 @@ fn look_along_row(sides: &Sides, row: &Row, progress: &mut Progress) -> Made<()>
         if !progress.table.has(row.place, j) || supports(sides, row, j, &progress.table) {
             continue;
         }
-        strike_pair(sides, row.place, j, progress)?;
+        eliminate_pair(sides, row.place, j, progress)?;
     }
     Ok(())
 }
 
 /// Examines all rows, from the first, since most references are to earlier definitions. Returns the
 /// sources of these reader's fields by the writer's places.
-pub fn look_everywhere(
+pub fn examine_all(
     alloc: Global,
     sides: &Sides,
     aliased: &[Aliased],
     progress: &mut Progress,
-) -> Made<Vec<Vec<u16>>>
-    requires rest { IsRestOf sides.now progress.old }
+) -> AllocResult<Vec<Vec<u16>>>
+    requires rest { HasAgreedRemainder sides.now progress.old }
     ensures sources { IfOk result (λ v. AreSources (rows sides.now) (columns sides.now) aliased.now v.items) }
-    ensures strikes { OnOk result (Strikes sides.now progress.old progress.new) }
-    ensures settled { OnOk result (AreSettled sides.now progress.new) }
+    ensures eliminates { OnOk result (Eliminates sides.now progress.old progress.new) }
+    ensures still_supported { OnOk result (AreStillSupported sides.now progress.new) }
 {
     let mut made = vec![in alloc; None; sides.reader.index.names.len()]?;
-    let boxes = made.as_mut_slice();
+    let slots = made.as_mut_slice();
     let firsts = firsts_of(alloc, sides.reader.places(), aliased)?;
-    let wanted = all_wanted(alloc, &sides.reader, aliased)?;
-    let numbered = Numbered {
+    let wanted = reader_fields_of(alloc, &sides.reader, aliased)?;
+    let aliased_fields = AliasedFields {
         aliased,
         firsts: &firsts,
         wanted: &wanted,
@@ -135,17 +142,17 @@ pub fn look_everywhere(
     let mut sources = Vec::new(alloc);
     for place in 0..sides.writer.places() {
         let fields = sides.writer.fields(place);
-        lay(boxes, &sides.met, fields.ranks);
-        let entries = row_of(alloc, boxes, sides, fields, numbered)?;
-        let row = Row {
+        fill_slots(slots, &sides.rank_map, fields.ranks);
+        let entries = source_codes(alloc, slots, sides, fields, aliased_fields)?;
+        let row = WriterPlace {
             place,
             fields,
-            boxes,
-            numbered,
+            slots,
+            aliased_fields,
             entries: &entries,
         };
-        look_along_row(sides, &row, progress)?;
-        lift(boxes, &sides.met, fields.ranks);
+        examine_row(sides, &row, progress)?;
+        clear_slots(slots, &sides.rank_map, fields.ranks);
         sources.push(entries)?;
     }
     Ok(sources)

@@ -7,10 +7,10 @@ ghost use Rattle.std.specs.declared.cmp.Ordering.TheVariants.{Less};
 ghost use Rattle.avro_nodes.specs.Nodes.{field_view, node_view, texts_view, NodeView};
 ghost use Rattle.avro_schema.specs.Index.{AreFieldsRanked, IsRanked};
 ghost use Rattle.avro_resolve.specs.Inside.Agreeing.{fields_of};
-ghost use Rattle.avro_resolve.specs.Inside.Meeting.{met_at, IsKnown};
+ghost use Rattle.avro_resolve.specs.Inside.RankMaps.{mapped_rank, IsKnown};
 ghost use Rattle.avro_resolve.specs.Inside.Sides.{names_of, nodes_of, IsSide, IsSides};
 
-use crate::Made;
+use crate::AllocResult;
 use avro_nodes::{Field, Node};
 use avro_schema::{FieldRanks, Index, Ranks, Schema};
 use std::alloc::Global;
@@ -18,20 +18,20 @@ use std::cmp::Ordering;
 
 /// For each of the writer's names its rank among the reader's, if the reader has it.
 #[derive(Drop)]
-pub struct Met {
+pub struct RankMap {
     pub ranks: Vec<Option<u32>>,
     /// for each of the reader's names whether the writer has it
     pub known: Vec<bool>,
 }
 
 /// For each of so many ranks whether it is one of these.
-fn known_of(alloc: Global, ranks: &[Option<u32>], count: usize) -> Made<Vec<bool>>
-    requires { (k rank : ℕ) → met_at ranks.now k ≡ Some rank → rank < count }
+fn known_of(alloc: Global, ranks: &[Option<u32>], count: usize) -> AllocResult<Vec<bool>>
+    requires { (k rank : ℕ) → mapped_rank ranks.now k ≡ Some rank → rank < count }
     ensures { IfOk result (λ v. IsKnown ranks.now v.items) }
 {
     let mut known = vec![in alloc; false; count]?;
-    for met in ranks {
-        if let Some(rank) = met {
+    for mapped in ranks {
+        if let Some(rank) = mapped {
             known[*rank as usize] = true;
         }
     }
@@ -48,7 +48,7 @@ fn first_from(names: &[String], from: usize, name: &str) -> (usize, Option<u32>)
         → slice_cmp nat_cmp (get_or (texts_view names.now) k []) name.now ≡ Less }
     ensures at { result.0 < length names.now
         → slice_cmp nat_cmp (get_or (texts_view names.now) result.0 []) name.now ≢ Less }
-    ensures met { MatchOption result.1 (slice_get (texts_view names.now) result.0 ≢ Some name.now)
+    ensures mapped { MatchOption result.1 (slice_get (texts_view names.now) result.0 ≢ Some name.now)
         (λ rank. slice_get (texts_view names.now) rank ≡ Some name.now) }
 {
     for at in from..names.len() {
@@ -61,33 +61,33 @@ fn first_from(names: &[String], from: usize, name: &str) -> (usize, Option<u32>)
     (names.len(), None)
 }
 
-impl Met {
+impl RankMap {
     ghost use Rattle.std.specs.Prelude.{◌≡◌, false, get_or, IfOk, Some};
     ghost use Rattle.avro_nodes.specs.Nodes.{texts_view};
-    ghost use Rattle.avro_schema.specs.Index.{AreNames};
-    ghost use Rattle.avro_resolve.specs.Inside.Meeting.{met_at, AreMet, IsKnown};
+    ghost use Rattle.avro_schema.specs.Index.{AreIndexNames};
+    ghost use Rattle.avro_resolve.specs.Inside.RankMaps.{mapped_rank, AreMapped, IsKnown};
 
     /// Meets the names: both lists are walked once, side by side.
-    pub fn of(alloc: Global, writer: &[String], reader: &[String]) -> Made<Met>
-        requires writer { AreNames (texts_view writer.now) }
-        requires reader { AreNames (texts_view reader.now) }
-        ensures met { IfOk result (λ m. AreMet (texts_view writer.now) (texts_view reader.now) m.ranks.items) }
+    pub fn of(alloc: Global, writer: &[String], reader: &[String]) -> AllocResult<RankMap>
+        requires writer { AreIndexNames (texts_view writer.now) }
+        requires reader { AreIndexNames (texts_view reader.now) }
+        ensures mapped { IfOk result (λ m. AreMapped (texts_view writer.now) (texts_view reader.now) m.ranks.items) }
         ensures known { IfOk result (λ m. IsKnown m.ranks.items m.known.items) }
     {
         let mut ranks = Vec::with_capacity(alloc, writer.len())?;
         let mut from = 0;
         for rank in 0..writer.len() {
-            let (at, met) = first_from(reader, from, writer[rank].as_str());
+            let (at, mapped) = first_from(reader, from, writer[rank].as_str());
             from = at;
-            ranks.push(met)?;
+            ranks.push(mapped)?;
         }
         let known = known_of(alloc, &ranks, reader.len())?;
-        Ok(Met { ranks, known })
+        Ok(RankMap { ranks, known })
     }
 
     /// The reader's rank of a writer's name, if the reader has the name.
     pub fn rank(&self, rank: u32) -> Option<u32>
-        ensures { result ≡ met_at self.now.ranks.items rank }
+        ensures { result ≡ mapped_rank self.now.ranks.items rank }
     {
         *self.ranks.get(rank as usize)?
     }
@@ -115,7 +115,7 @@ pub struct Side<'a> {
 pub struct Sides<'a> {
     pub writer: Side<'a>,
     pub reader: Side<'a>,
-    pub met: Met,
+    pub rank_map: RankMap,
 }
 
 /// The fields of a record, and the ranks of their names.
@@ -186,17 +186,17 @@ impl<'a> Side<'a> {
 
 impl<'a> Sides<'a> {
     /// The sides of two schemas, with their names met.
-    pub fn of(alloc: Global, writer: &'a Schema, reader: &'a Schema) -> Made<Sides<'a>>
+    pub fn of(alloc: Global, writer: &'a Schema, reader: &'a Schema) -> AllocResult<Sides<'a>>
         ensures sides { IfOk result (λ s. IsSides s) }
         ensures writer { IfOk result (λ s. s.writer.schema.now ≡ writer.now) }
         ensures reader { IfOk result (λ s. s.reader.schema.now ≡ reader.now) }
     {
         let (writer, reader) = (Side::of(writer), Side::of(reader));
-        let met = Met::of(alloc, &writer.index.names, &reader.index.names)?;
+        let rank_map = RankMap::of(alloc, &writer.index.names, &reader.index.names)?;
         Ok(Sides {
             writer,
             reader,
-            met,
+            rank_map,
         })
     }
 }

@@ -1,23 +1,23 @@
 //! Whether the pairs that are left support a pair.
 
 ghost use Rattle.std.specs.Prelude.{◌<◌, ◌↔◌, All, Any, IsTrue};
-ghost use Rattle.avro_resolve.specs.Inside.Left.{left, Agreed};
-ghost use Rattle.avro_resolve.specs.Inside.Rows.{IsOver};
+ghost use Rattle.avro_resolve.specs.Inside.Remaining.{remains, Agreed};
+ghost use Rattle.avro_resolve.specs.Inside.Rows.{IsPairInTable};
 ghost use Rattle.avro_resolve.specs.Inside.Sides.{columns, rows};
 ghost use Rattle.avro_resolve.specs.Resolution.{Supports};
 
-use crate::readable::{Row, all_readable};
+use crate::readable::{WriterPlace, all_readable};
 use crate::sides::Sides;
 use crate::table::Table;
 use avro_nodes::Node;
 
 /// Whether the writer's place is left with some branch of the reader's union at j. Branches before
 /// the hint were eliminated earlier and never come back, so the scan resumes at the hint.
-pub fn any_left(i: u32, j: u32, places: &[u32], table: &Table) -> bool
+pub fn any_remaining(i: u32, j: u32, places: &[u32], table: &Table) -> bool
     requires within { All (λ p. p < table.now.readers) places.now }
     requires i_in { i < table.now.writers }
     requires j_in { j < table.now.readers }
-    ensures { IsTrue result ↔ Any (λ p. IsTrue (left table.now i p)) places.now }
+    ensures { IsTrue result ↔ Any (λ p. IsTrue (remains table.now i p)) places.now }
 {
     let hint = table.hint(i, j);
     let from = hint.map_or(0, |hint| hint.get() as usize).min(places.len());
@@ -34,14 +34,14 @@ pub fn any_left(i: u32, j: u32, places: &[u32], table: &Table) -> bool
 
 /// Whether what is left supports a pair whose nodes agree, by the first case that fits (Avro 1.11
 /// specification, Schema Resolution).
-pub fn supports(sides: &Sides, row: &Row, j: u32, table: &Table) -> bool
-    requires over { IsOver sides.now row.now table.now j }
+pub fn supports(sides: &Sides, row: &WriterPlace, j: u32, table: &Table) -> bool
+    requires over { IsPairInTable sides.now row.now table.now j }
     requires agreed { Agreed (rows sides.now) (columns sides.now) row.now.place j }
-    ensures { IsTrue result ↔ Supports (rows sides.now) (columns sides.now) (left table.now) row.now.place j }
+    ensures { IsTrue result ↔ Supports (rows sides.now) (columns sides.now) (remains table.now) row.now.place j }
 {
     match (sides.writer.node(row.place), sides.reader.node(j)) {
         (Node::Union { branches }, _) => branches.iter().all(|p| table.has(*p, j)),
-        (_, Node::Union { branches }) => any_left(row.place, j, branches, table),
+        (_, Node::Union { branches }) => any_remaining(row.place, j, branches, table),
         (Node::Array { items: p, .. }, Node::Array { items: q, .. }) => table.has(*p, *q),
         (Node::Map { values: p, .. }, Node::Map { values: q, .. }) => table.has(*p, *q),
         (Node::Rec { .. }, Node::Rec { .. }) => all_readable(sides, row, j, table),

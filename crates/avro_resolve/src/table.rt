@@ -2,7 +2,7 @@
 
 ghost use Rattle.std.specs.Prelude.{◌*◌, ◌<◌, ◌≡◌, ◌≤◌, false, vec_len, IsTrue, ℕ};
 
-use crate::Made;
+use crate::AllocResult;
 use std::alloc::Global;
 use std::cell::Cell;
 
@@ -22,15 +22,15 @@ pub struct Table {
 
 impl Table {
     ghost use Rattle.std.specs.Prelude.{ℕ, ◌≡◌, ◌+◌, ◌^◌, ◌<◌, IfOk, IsTrue, ◌==◌, ◌&&◌, if◌then◌else◌, false};
-    ghost use Rattle.avro_resolve.specs.Inside.Left.{left, count_left, SameShape};
+    ghost use Rattle.avro_resolve.specs.Inside.Remaining.{remains, count_remaining, SameShape};
 
     /// All pairs of so many places of the writer and of the reader, with hints or without.
-    pub fn all(alloc: Global, writers: usize, readers: usize, hinted: bool) -> Made<Table>
+    pub fn all(alloc: Global, writers: usize, readers: usize, hinted: bool) -> AllocResult<Table>
         requires { writers * readers < 2 ^ 64 }
         ensures writers { IfOk result (λ t. t.writers ≡ writers) }
         ensures readers { IfOk result (λ t. t.readers ≡ readers) }
-        ensures whole { IfOk result (λ t. (i j : ℕ) → i < writers → j < readers → IsTrue (left t i j)) }
-        ensures count { IfOk result (λ t. count_left t ≡ writers * readers) }
+        ensures whole { IfOk result (λ t. (i j : ℕ) → i < writers → j < readers → IsTrue (remains t i j)) }
+        ensures count { IfOk result (λ t. count_remaining t ≡ writers * readers) }
     {
         let flags = vec![in alloc; true; writers * readers]?;
         let count = if hinted { flags.len() } else { 0 };
@@ -47,17 +47,17 @@ impl Table {
     pub fn has(&self, i: u32, j: u32) -> bool
         requires i_in { i < self.now.writers }
         requires j_in { j < self.now.readers }
-        ensures { result ≡ left self.now i j }
+        ensures { result ≡ remains self.now i j }
     {
         self.flags[i as usize * self.readers + j as usize]
     }
 
     /// Whether a pair of row i and one of these columns is left, and that of row k isn't.
-    fn is_apart(&self, i: u32, k: u32, from: usize, to: usize) -> bool
+    fn has_difference(&self, i: u32, k: u32, from: usize, to: usize) -> bool
         requires i_in { i < self.now.writers }
         requires k_in { k < self.now.writers }
         requires to_in { to ≤ self.now.readers }
-        ensures { result ≡ false → (j : ℕ) → from ≤ j → j < to → IsTrue (left self.now i j) → IsTrue (left self.now k j) }
+        ensures { result ≡ false → (j : ℕ) → from ≤ j → j < to → IsTrue (remains self.now i j) → IsTrue (remains self.now k j) }
     {
         let (row, other) = (i as usize * self.readers, k as usize * self.readers);
         let mut apart = false;
@@ -68,20 +68,20 @@ impl Table {
     }
 
     /// The first column from one on whose pair is left in row i and not in row k, or their number.
-    pub fn next_apart(&self, i: u32, k: u32, from: usize) -> usize
+    pub fn next_difference(&self, i: u32, k: u32, from: usize) -> usize
         requires i_in { i < self.now.writers }
         requires k_in { k < self.now.writers }
         requires from_in { from ≤ self.now.readers }
         ensures on { from ≤ result }
         ensures within { result ≤ self.now.readers }
-        ensures before { (j : ℕ) → from ≤ j → j < result → IsTrue (left self.now i j) → IsTrue (left self.now k j) }
-        ensures at { result < self.now.readers → left self.now k result ≡ false }
+        ensures before { (j : ℕ) → from ≤ j → j < result → IsTrue (remains self.now i j) → IsTrue (remains self.now k j) }
+        ensures at { result < self.now.readers → remains self.now k result ≡ false }
     {
         let (row, other) = (i as usize * self.readers, k as usize * self.readers);
         let mut start = from;
         while start < self.readers {
             let end = start + BLOCK.min(self.readers - start);
-            if self.is_apart(i, k, start, end) {
+            if self.has_difference(i, k, start, end) {
                 for at in start..end {
                     if self.flags[row + at] && !self.flags[other + at] {
                         return at;
@@ -102,13 +102,13 @@ impl Table {
     }
 
     /// Strikes the pair out.
-    pub fn strike(&mut self, i: u32, j: u32)
+    pub fn eliminate(&mut self, i: u32, j: u32)
         requires i_in { i < self.old.writers }
         requires j_in { j < self.old.readers }
-        requires there { IsTrue (left self.old i j) }
+        requires there { IsTrue (remains self.old i j) }
         ensures shape { SameShape self.old self.new }
-        ensures others { (a b : ℕ) → left self.new a b ≡ (if a == i && b == j then false else left self.old a b) }
-        ensures fewer { count_left self.new + 1 ≡ count_left self.old }
+        ensures others { (a b : ℕ) → remains self.new a b ≡ (if a == i && b == j then false else remains self.old a b) }
+        ensures fewer { count_remaining self.new + 1 ≡ count_remaining self.old }
     {
         let k = i as usize * self.readers + j as usize;
         self.flags[k] = false;

@@ -11,9 +11,9 @@ use Rattle.avro_nodes.specs.Inside.Objects.{AreOrdered}
 use Rattle.avro_nodes.proofs.Written.{ordered_put}
 use Rattle.avro_schema.specs.Attributes.{without}
 use Rattle.avro_schema.specs.declared.borrowed.Json.{Json}
-use Rattle.avro_schema.specs.declared.words.Container.{Container}
-use Rattle.avro_schema.specs.declared.words.Container.TheVariants.{Items as of_items, Values as of_values}
-use Rattle.avro_schema.specs.Inside.Types.{key_of}
+use Rattle.avro_schema.specs.declared.keywords.Container.{Container}
+use Rattle.avro_schema.specs.declared.keywords.Container.TheVariants.{Items as of_items, Values as of_values}
+use Rattle.avro_schema.specs.Inside.Types.{member_name}
 use Rattle.avro_schema.specs.Inside.Reserved.{is_reserved, is_reserved_name}
 use Rattle.avro_schema.specs.Inside.Borrowed.{put_all, value_data}
 use Rattle.avro_schema.proofs.PutLemmas.{flip, put_apart, put_aside, nothing_there}
@@ -33,7 +33,7 @@ read_of xs = map (λ (m : Entry). (m.0, value_data m.1)) xs
 abbrev pub with_one : Read → Members → Members
 with_one m found = cond (is_reserved m.0.now) (put m.0.now m.1 found) found
 
-pub key_reserved : (c : Container) → IsTrue (is_reserved_name (key_of c))
+pub key_reserved : (c : Container) → IsTrue (is_reserved_name (member_name c))
 key_reserved of_items = refl
 key_reserved of_values = refl
 

@@ -12,11 +12,11 @@ use Rattle.avro_nodes.specs.Nodes.{NodeView}
 use Rattle.avro_nodes.specs.Plain.{plain}
 use Rattle.avro_schema.specs.Names.{Known, none_known}
 use Rattle.avro_schema.specs.Inside.DeclaredNodes.{value_in, root_in, declared_nodes}
-use Rattle.avro_schema.specs.Inside.ReaderAnswers.{Adds, Fails}
+use Rattle.avro_schema.specs.Inside.ReaderResults.{AddsPart, Fails}
 use Rattle.avro_schema.specs.Inside.Types.{type_at}
 use Rattle.avro_schema.specs.Inside.Weight.{weight}
-use Rattle.avro_schema.specs.declared.error.Unread.{Unread}
-use Rattle.avro_schema.specs.declared.error.Unread.TheVariants.{Invalid, OutOfMemory as no_memory}
+use Rattle.avro_schema.specs.declared.error.JsonError.{JsonError}
+use Rattle.avro_schema.specs.declared.error.JsonError.TheVariants.{Invalid, OutOfMemory as no_memory}
 use Rattle.avro_schema.specs.declared.error.SchemaError.{SchemaError}
 use Rattle.avro_schema.specs.declared.error.SchemaError.TheVariants.{OutOfMemory, NotJson}
 use Rattle.avro_schema.proofs.Conversions.{whole_read, whole_and_more, whole_refused}
@@ -56,7 +56,7 @@ pub no_root : (d : Data) → nat_le (weight max_nesting [] d) max_text ≡ true 
 unfolding root_in
 no_root d light none = rw (light, none) refl
 
-pub root_is : (d : Data) (p : ℕ) (after : List NodeView) (known2 : Known) → nat_le (weight max_nesting [] d) max_text ≡ true → Adds (type_at max_nesting [] d none_known 0) p [] after known2 → nodes_in d ≡ Some after
+pub root_is : (d : Data) (p : ℕ) (after : List NodeView) (known2 : Known) → nat_le (weight max_nesting [] d) max_text ≡ true → AddsPart (type_at max_nesting [] d none_known 0) p [] after known2 → nodes_in d ≡ Some after
 unfolding root_in
 root_is d p after known2 light root = rw (light, root.is, ← root.after_is) refl
 
@@ -80,6 +80,6 @@ something_more f (Some t) old new h e = (f t, h)
 
 -- ---- a refusal
 
-pub json_refused : {A : Type 0} (e : Unread) (x : SchemaError) (o : Option A) → (e ≡ no_memory → x ≡ OutOfMemory) → (e ≡ Invalid → x ≡ NotJson) → (e ≡ Invalid → o ≡ None) → Fails x o
+pub json_refused : {A : Type 0} (e : JsonError) (x : SchemaError) (o : Option A) → (e ≡ no_memory → x ≡ OutOfMemory) → (e ≡ Invalid → x ≡ NotJson) → (e ≡ Invalid → o ≡ None) → Fails x o
 json_refused no_memory x o memory other none = subst (λ (y : SchemaError). Fails y o) (sym (memory refl)) tt
 json_refused Invalid x o memory other none = subst (λ (y : SchemaError). Fails y o) (sym (other refl)) (none refl)

@@ -8,11 +8,11 @@ use Rattle.serde_json.specs.Find.{get_member}
 use Rattle.avro_nodes.specs.Nodes.{NamedView, FieldView, NodeView, enumeration, fixed}
 use Rattle.avro_schema.specs.Names.{Known, defined}
 use Rattle.avro_schema.specs.Attributes.{without_all, size_of}
-use Rattle.avro_schema.specs.Inside.Declarations.{naming, new_name, named_in, symbols_in, enum_at, fixed_at, LabelView, label_in, labelling, bounded, bounded_value}
+use Rattle.avro_schema.specs.Inside.Declarations.{name_keys, new_name, named_in, symbols_in, enum_at, fixed_at, FieldAttributesView, field_attributes_in, field_attribute_keys, bounded, bounded_value}
 use Rattle.avro_schema.specs.Inside.ValueReaders.{parts_of}
 use Rattle.avro_schema.specs.Inside.Types.{reference_to, primitive_at, name_at, container_at, branch_of, union_at, field_of, record_at, object_at, type_at}
 use Rattle.avro_schema.specs.Kinds.{BranchKind}
-use Rattle.avro_schema.specs.Denotes.{Others, IsNamed, IsEnum, IsField, Denotes, a_primitive, a_reference, primitive_type, reference_type, array_type, map_type, fixed_type, enum_type, record_type, union_type}
+use Rattle.avro_schema.specs.Denotes.{IsExtra, IsNamed, IsEnum, IsField, Denotes, a_primitive, a_reference, primitive_type, reference_type, array_type, map_type, fixed_type, enum_type, record_type, union_type}
 use Rattle.avro_schema.specs.Denotes.{Branches, no_branch, branch, Fields, no_field, field}
 use Rattle.avro_schema.proofs.KindLemmas.{numbered, same_places, number_of_kind}
 use Rattle.avro_schema.proofs.KindLemmas as kinds
@@ -22,7 +22,7 @@ pub bound_there : (ms : Members) → members_depth ms ≤ max_nesting → bounde
 unfolding bounded
 bound_there ms h = rw (le-leb (members_depth ms) max_nesting h) refl
 
-others_there : (keys : List (List ℕ)) (ms extra : Members) → Others keys ms extra → bounded (without_all keys ms) ≡ Some extra
+others_there : (keys : List (List ℕ)) (ms extra : Members) → IsExtra keys ms extra → bounded (without_all keys ms) ≡ Some extra
 others_there keys ms extra o = rw (← o.are) (bound_there extra o.shallow)
 
 -- ---- names
@@ -45,14 +45,14 @@ named_there space ms known named n =
 -- ---- enums and fixed
 
 enum_there : (space : List ℕ) (ms extra : Members) (known : Known) (first : ℕ) (named : NamedView) (symbols : List (List ℕ)) (fallback : Option (List ℕ))
-    → IsNamed space ms known named → IsEnum ms symbols fallback → bounded (without_all (codes "symbols" ∷ codes "default" ∷ []) (without_all naming (without_all (codes "type" ∷ []) ms))) ≡ Some extra → first < max_places
+    → IsNamed space ms known named → IsEnum ms symbols fallback → bounded (without_all (codes "symbols" ∷ codes "default" ∷ []) (without_all name_keys (without_all (codes "type" ∷ []) ms))) ≡ Some extra → first < max_places
     → enum_at space (without_all (codes "type" ∷ []) ms) known first ≡ made first (enumeration named symbols fallback extra ∷ []) (defined known named.name first)
 unfolding enum_at symbols_in
 enum_there space ms extra known first named symbols fallback n e bound h =
     rw (
       room_there first h,
       named_there space ms known named n,
-      items_past (codes "symbols") (codes "type" ∷ naming) ms refl,
+      items_past (codes "symbols") (codes "type" ∷ name_keys) ms refl,
       e.items_are,
       e.symbols_are,
       texts_apart symbols e.differ,
@@ -62,11 +62,11 @@ enum_there space ms extra known first named symbols fallback n e bound h =
     ) refl
 
 fixed_there : (space : List ℕ) (ms extra : Members) (known : Known) (first size : ℕ) (named : NamedView)
-    → IsNamed space ms known named → size_of (get_member (codes "size") ms) ≡ Some size → bounded (without_all (codes "size" ∷ []) (without_all naming (without_all (codes "type" ∷ []) ms))) ≡ Some extra → first < max_places
+    → IsNamed space ms known named → size_of (get_member (codes "size") ms) ≡ Some size → bounded (without_all (codes "size" ∷ []) (without_all name_keys (without_all (codes "type" ∷ []) ms))) ≡ Some extra → first < max_places
     → fixed_at space (without_all (codes "type" ∷ []) ms) known first ≡ made first (fixed named size extra ∷ []) (defined known named.name first)
 unfolding fixed_at
 fixed_there space ms extra known first size named n s bound h =
-    rw (room_there first h, named_there space ms known named n, get_past (codes "size") (codes "type" ∷ naming) ms refl, s, bound) refl
+    rw (room_there first h, named_there space ms known named n, get_past (codes "size") (codes "type" ∷ name_keys) ms refl, s, bound) refl
 
 -- ---- fields
 
@@ -74,11 +74,11 @@ value_there : (o v : Option Data) → o ≡ v → ((d : Data) → v ≡ Some d �
 value_there o None e h = rw e refl
 value_there o (Some d) e h = rw (e, le-leb (depth d) max_nesting (h d refl)) refl
 
-abbrev label_of : FieldView → LabelView
-label_of f = record { name = f.name; aliases = f.aliases; order = f.order; value = f.value }
+abbrev field_attributes_of : FieldView → FieldAttributesView
+field_attributes_of f = record { name = f.name; aliases = f.aliases; order = f.order; value = f.value }
 
-label_there : (ms : Members) (f : FieldView) → IsField ms f → label_in ms ≡ Some (label_of f)
-unfolding label_in
+label_there : (ms : Members) (f : FieldView) → IsField ms f → field_attributes_in ms ≡ Some (field_attributes_of f)
+unfolding field_attributes_in
 label_there ms f i =
     rw (
       i.name,
@@ -115,7 +115,7 @@ mutual
         s.2,
         room_there first h,
         named_there space ms known named n,
-        items_past (codes "fields") (codes "type" ∷ naming) ms refl,
+        items_past (codes "fields") (codes "type" ∷ name_keys) ms refl,
         i,
         others_there (codes "type" ∷ codes "name" ∷ codes "namespace" ∷ codes "aliases" ∷ codes "fields" ∷ []) ms extra o,
         fields_compute fs,
@@ -132,4 +132,4 @@ mutual
       → parts_of (field_of (type_at n space)) ds known first ≡ made fields nodes known2
   fields_compute no_field = refl
   fields_compute (field {ms = ms} {f = f} i t d more) =
-      rw (label_there ms f i, get_past (codes "type") labelling ms refl, t, others_there _ ms f.extra i.others, computes d, fields_compute more) refl
+      rw (label_there ms f i, get_past (codes "type") field_attribute_keys ms refl, t, others_there _ ms f.extra i.others, computes d, fields_compute more) refl

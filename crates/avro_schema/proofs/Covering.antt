@@ -20,7 +20,7 @@ use Rattle.avro_nodes.specs.declared.node.Node.{Node}
 use Rattle.avro_nodes.specs.Nodes.{NamedView, FieldView, NodeView, primitive, array, mapping, union, enumeration, fixed, rec, field_view, node_view, nodes_view}
 use Rattle.avro_schema.specs.declared.tables.FieldTable.{FieldTable}
 use Rattle.avro_schema.specs.Inside.Fitting.{Fitting, field_fits_by, fields_fit}
-use Rattle.avro_schema.specs.Inside.FieldTables.{is_always, IsFound, named_in, CoversFirst, IsTable, IsTableOf, AreTables, fits_if_any, index_fits, named_fit}
+use Rattle.avro_schema.specs.Inside.FieldTables.{is_required, IsCovered, named_in, CoversFirst, IsFieldTable, IsFieldTableOf, AreFieldTables, fits_if_any, index_fits, named_fit}
 use Rattle.avro_schema.proofs.Inversion.{same_bytes}
 
 or_more : (a b c : Bool) → (b ≡ true → c ≡ true) → (a || b) ≡ true → (a || c) ≡ true
@@ -37,18 +37,18 @@ among_here : (test : ℕ → Bool) (i j : ℕ) (same : Bool) (rest : Bool) → (
 among_here test i j true rest is h here later = subst (λ (k : ℕ). test k ≡ true) (eqb-true j i is) here
 among_here test i j false rest is h here later = later h
 
-among_passes : (test : ℕ → Bool) (xs : List ℕ) (i : ℕ) → list_all test xs ≡ true → is_always xs i ≡ true → test i ≡ true
+among_passes : (test : ℕ → Bool) (xs : List ℕ) (i : ℕ) → list_all test xs ≡ true → is_required xs i ≡ true → test i ≡ true
 among_passes test [] i h among = absurd (true≢false (sym among))
 among_passes test (j ∷ js) i h among =
-    among_here test i j (j == i) (is_always js i) refl among (and_parts (test j) (list_all test js) h).0 (λ later. among_passes test js i (and_parts (test j) (list_all test js) h).1 later)
+    among_here test i j (j == i) (is_required js i) refl among (and_parts (test j) (list_all test js) h).0 (λ later. among_passes test js i (and_parts (test j) (list_all test js) h).1 later)
 
-always_more : (xs : List ℕ) (i j : ℕ) → is_always xs i ≡ true → is_always (xs ++ j ∷ []) i ≡ true
-always_more [] i j h = absurd (true≢false (sym h))
-always_more (x ∷ xs) i j h = or_more (x == i) (is_always xs i) (is_always (xs ++ j ∷ []) i) (λ later. always_more xs i j later) h
+required_more : (xs : List ℕ) (i j : ℕ) → is_required xs i ≡ true → is_required (xs ++ j ∷ []) i ≡ true
+required_more [] i j h = absurd (true≢false (sym h))
+required_more (x ∷ xs) i j h = or_more (x == i) (is_required xs i) (is_required (xs ++ j ∷ []) i) (λ later. required_more xs i j later) h
 
-always_last : (xs : List ℕ) (j : ℕ) → is_always (xs ++ j ∷ []) j ≡ true
+always_last : (xs : List ℕ) (j : ℕ) → is_required (xs ++ j ∷ []) j ≡ true
 always_last [] j = rw (eq-eqb j j refl) refl
-always_last (x ∷ xs) j = or_right (x == j) (is_always (xs ++ j ∷ []) j) (always_last xs j)
+always_last (x ∷ xs) j = or_right (x == j) (is_required (xs ++ j ∷ []) j) (always_last xs j)
 
 all_pass : {A : Type 0} (test : A → Bool) (xs : List A) → ((x : A) → test x ≡ true) → list_all test xs ≡ true
 all_pass test [] each = refl
@@ -105,19 +105,19 @@ module _ (one : Fitting) (ms : Members) where
   left_out fields t i f None at is has named h = rw is has
   left_out fields t i f (Some d) at is has named h = rw (named, at) at (named_passes fields t f.name d ms is h)
 
-  one_fits : (fields : List FieldView) (t : FieldTable) (i : ℕ) (f : FieldView) → slice_get fields i ≡ Some f → IsFound t.always.items (named_in t) i f
-      → list_all (λ j. fits_if_any one ms (slice_get fields j)) t.always.items ≡ true → named_fit one ms fields t ms ≡ true → fits_here f ≡ true
-  one_fits fields t i f at (inl among) always named = rw at at (among_passes (λ j. fits_if_any one ms (slice_get fields j)) t.always.items i always among)
-  one_fits fields t i f at (inr found) always named = left_out fields t i f (get_member f.name ms) at refl found.0 found.1 named
+  one_fits : (fields : List FieldView) (t : FieldTable) (i : ℕ) (f : FieldView) → slice_get fields i ≡ Some f → IsCovered t.required.items (named_in t) i f
+      → list_all (λ j. fits_if_any one ms (slice_get fields j)) t.required.items ≡ true → named_fit one ms fields t ms ≡ true → fits_here f ≡ true
+  one_fits fields t i f at (inl among) required named = rw at at (among_passes (λ j. fits_if_any one ms (slice_get fields j)) t.required.items i required among)
+  one_fits fields t i f at (inr found) required named = left_out fields t i f (get_member f.name ms) at refl found.0 found.1 named
 
-  pub table_decides : (fields : List FieldView) (t : FieldTable) → IsTable t fields → (list_all (λ j. fits_if_any one ms (slice_get fields j)) t.always.items && named_fit one ms fields t ms) ≡ fields_fit one ms fields
+  pub table_decides : (fields : List FieldView) (t : FieldTable) → IsFieldTable t fields → (list_all (λ j. fits_if_any one ms (slice_get fields j)) t.required.items && named_fit one ms fields t ms) ≡ fields_fit one ms fields
   unfolding CoversFirst
   table_decides fields t is =
-      same_tests (list_all (λ j. fits_if_any one ms (slice_get fields j)) t.always.items && named_fit one ms fields t ms) (fields_fit one ms fields)
+      same_tests (list_all (λ j. fits_if_any one ms (slice_get fields j)) t.required.items && named_fit one ms fields t ms) (fields_fit one ms fields)
       (λ h. all_fit fields (λ i f at. one_fits fields t i f at (is i f (below fields i f at) at)
-      (and_parts (list_all (λ j. fits_if_any one ms (slice_get fields j)) t.always.items) (named_fit one ms fields t ms) h).0
-      (and_parts (list_all (λ j. fits_if_any one ms (slice_get fields j)) t.always.items) (named_fit one ms fields t ms) h).1))
-      (λ h. and_from (list_all (λ j. fits_if_any one ms (slice_get fields j)) t.always.items) (named_fit one ms fields t ms) (all_pass (λ j. fits_if_any one ms (slice_get fields j)) t.always.items (each_fits fields h)) (named_all fields t h ms))
+      (and_parts (list_all (λ j. fits_if_any one ms (slice_get fields j)) t.required.items) (named_fit one ms fields t ms) h).0
+      (and_parts (list_all (λ j. fits_if_any one ms (slice_get fields j)) t.required.items) (named_fit one ms fields t ms) h).1))
+      (λ h. and_from (list_all (λ j. fits_if_any one ms (slice_get fields j)) t.required.items) (named_fit one ms fields t ms) (all_pass (λ j. fits_if_any one ms (slice_get fields j)) t.required.items (each_fits fields h)) (named_all fields t h ms))
 
 pub last_decides : (a b c : Bool) → a ≡ true → (a && b) ≡ c → b ≡ c
 last_decides true b c e h = h
@@ -129,8 +129,8 @@ first_decides false b c e h = h
 
 -- ---- the tables
 
-pub table_is : (t : FieldTable) (node : NodeView) (named : NamedView) (fields : List FieldView) (extra : Members) → IsTableOf t node → node ≡ rec named fields extra → IsTable t fields
-unfolding IsTableOf
+pub table_is : (t : FieldTable) (node : NodeView) (named : NamedView) (fields : List FieldView) (extra : Members) → IsFieldTableOf t node → node ≡ rec named fields extra → IsFieldTable t fields
+unfolding IsFieldTableOf
 table_is t node named fields extra is e = is named fields extra e
 
 fields_in : NodeView → List FieldView
@@ -142,12 +142,12 @@ fields_in (enumeration named symbols fallback extra) = []
 fields_in (fixed named size extra) = []
 fields_in (rec named fields extra) = fields
 
-pub table_of_record : (t : FieldTable) (named : NamedView) (fields : List FieldView) (extra : Members) → IsTable t fields → IsTableOf t (rec named fields extra)
-unfolding IsTableOf fields_in
-table_of_record t named fields extra is named2 fields2 extra2 e = subst (λ (fs : List FieldView). IsTable t fs) (ap fields_in e) is
+pub table_of_record : (t : FieldTable) (named : NamedView) (fields : List FieldView) (extra : Members) → IsFieldTable t fields → IsFieldTableOf t (rec named fields extra)
+unfolding IsFieldTableOf fields_in
+table_of_record t named fields extra is named2 fields2 extra2 e = subst (λ (fs : List FieldView). IsFieldTable t fs) (ap fields_in e) is
 
-pub no_tables : (nodes : List NodeView) → AreTables nodes []
-unfolding AreTables
+pub no_tables : (nodes : List NodeView) → AreFieldTables nodes []
+unfolding AreFieldTables
 no_tables nodes place t node e f = absurd cc
 
 -- ---- how a table is made
@@ -165,29 +165,29 @@ same_text s = (bytes_eq-Decides s s).1 refl
 none_is_no_index : (i : ℕ) → None ≡ Some i → ⊥
 none_is_no_index i e = absurd cc
 
-still_found : (always : List ℕ) (named : List ℕ → Option ℕ) (i n : ℕ) (f : FieldView) → IsFound always named i f → IsFound (always ++ n ∷ []) named i f
-still_found always named i n f (inl among) = inl (always_more always i n among)
-still_found always named i n f (inr found) = inr found
+still_found : (required : List ℕ) (named : List ℕ → Option ℕ) (i n : ℕ) (f : FieldView) → IsCovered required named i f → IsCovered (required ++ n ∷ []) named i f
+still_found required named i n f (inl among) = inl (required_more required i n among)
+still_found required named i n f (inr found) = inr found
 
-named_still : (always : List ℕ) (named named2 : List ℕ → Option ℕ) (i n : ℕ) (f g : FieldView) (same : Bool) → bytes_eq g.name f.name ≡ same → named g.name ≡ None → named2 f.name ≡ update bytes_eq named g.name (Some n) f.name
-    → IsFound always named i f → IsFound always named2 i f
-named_still always named named2 i n f g same is new more (inl among) = inl among
-named_still always named named2 i n f g true is new more (inr found) = absurd (none_is_no_index i (sym new ∙ ap named (same_bytes g.name f.name is) ∙ found.1))
-named_still always named named2 i n f g false is new more (inr found) = inr (found.0, more ∙ update_other bytes_eq named g.name (Some n) f.name is ∙ found.1)
+named_still : (required : List ℕ) (named named2 : List ℕ → Option ℕ) (i n : ℕ) (f g : FieldView) (same : Bool) → bytes_eq g.name f.name ≡ same → named g.name ≡ None → named2 f.name ≡ update bytes_eq named g.name (Some n) f.name
+    → IsCovered required named i f → IsCovered required named2 i f
+named_still required named named2 i n f g same is new more (inl among) = inl among
+named_still required named named2 i n f g true is new more (inr found) = absurd (none_is_no_index i (sym new ∙ ap named (same_bytes g.name f.name is) ∙ found.1))
+named_still required named named2 i n f g false is new more (inr found) = inr (found.0, more ∙ update_other bytes_eq named g.name (Some n) f.name is ∙ found.1)
 
-module _ (n : ℕ) (always : List ℕ) (named : List ℕ → Option ℕ) (fields : List FieldView) (so_far : CoversFirst n always named fields) where
-  pushed_at : (same : Bool) (i : ℕ) (f : FieldView) → (i == n) ≡ same → i < n + 1 → slice_get fields i ≡ Some f → IsFound (always ++ n ∷ []) named i f
+module _ (n : ℕ) (required : List ℕ) (named : List ℕ → Option ℕ) (fields : List FieldView) (so_far : CoversFirst n required named fields) where
+  pushed_at : (same : Bool) (i : ℕ) (f : FieldView) → (i == n) ≡ same → i < n + 1 → slice_get fields i ≡ Some f → IsCovered (required ++ n ∷ []) named i f
   unfolding CoversFirst
-  pushed_at true i f is h e = inl (subst (λ (k : ℕ). is_always (always ++ n ∷ []) k ≡ true) (sym (eqb-true i n is)) (always_last always n))
-  pushed_at false i f is h e = still_found always named i n f (so_far i f (omega (arith, other_index n i is)) e)
+  pushed_at true i f is h e = inl (subst (λ (k : ℕ). is_required (required ++ n ∷ []) k ≡ true) (sym (eqb-true i n is)) (always_last required n))
+  pushed_at false i f is h e = still_found required named i n f (so_far i f (omega (arith, other_index n i is)) e)
 
   -- one that is always asked for
-  pub covers_pushed : CoversFirst (n + 1) (always ++ n ∷ []) named fields
+  pub covers_pushed : CoversFirst (n + 1) (required ++ n ∷ []) named fields
   unfolding CoversFirst
   covers_pushed i f h e = pushed_at (i == n) i f refl h e
 
   module _ (g : FieldView) (named2 : List ℕ → Option ℕ) (here : slice_get fields n ≡ Some g) (has : is_some g.value ≡ true) (new : named g.name ≡ None) (more : (q : List ℕ) → named2 q ≡ update bytes_eq named g.name (Some n) q) where
-    named_at : (same : Bool) (i : ℕ) (f : FieldView) → (i == n) ≡ same → i < n + 1 → slice_get fields i ≡ Some f → IsFound always named2 i f
+    named_at : (same : Bool) (i : ℕ) (f : FieldView) → (i == n) ≡ same → i < n + 1 → slice_get fields i ≡ Some f → IsCovered required named2 i f
     unfolding CoversFirst
     named_at true i f is h e =
         let i_is : i ≡ n = eqb-true i n is in
@@ -196,17 +196,17 @@ module _ (n : ℕ) (always : List ℕ) (named : List ℕ → Option ℕ) (fields
           ap (λ (x : FieldView). is_some x.value) (sym f_is) ∙ has,
           more f.name ∙ update_same bytes_eq named g.name (Some n) f.name (ap (λ (x : FieldView). bytes_eq g.name x.name) (sym f_is) ∙ same_text g.name) ∙ ap (λ (k : ℕ). Some k) (sym i_is),
         )
-    named_at false i f is h e = named_still always named named2 i n f g (bytes_eq g.name f.name) refl new (more f.name) (so_far i f (omega (arith, other_index n i is)) e)
+    named_at false i f is h e = named_still required named named2 i n f g (bytes_eq g.name f.name) refl new (more f.name) (so_far i f (omega (arith, other_index n i is)) e)
 
     -- one with a default, whose name is new
-    pub covers_named : CoversFirst (n + 1) always named2 fields
+    pub covers_named : CoversFirst (n + 1) required named2 fields
     unfolding CoversFirst
     covers_named i f h e = named_at (i == n) i f refl h e
 
-pub covers_all : (n : ℕ) (always : List ℕ) (named : List ℕ → Option ℕ) (fields : List Field) → length fields ≤ n → CoversFirst n always named (map field_view fields)
-    → CoversFirst (length (map field_view fields)) always named (map field_view fields)
+pub covers_all : (n : ℕ) (required : List ℕ) (named : List ℕ → Option ℕ) (fields : List Field) → length fields ≤ n → CoversFirst n required named (map field_view fields)
+    → CoversFirst (length (map field_view fields)) required named (map field_view fields)
 unfolding CoversFirst
-covers_all n always named fields h so_far i f within e = so_far i f (omega (arith, length-map fields field_view)) e
+covers_all n required named fields h so_far i f within e = so_far i f (omega (arith, length-map fields field_view)) e
 
 pub field_here : (fields : List Field) (n : ℕ) (x d : Field) → n < length fields → x ≡ get_or fields n d → slice_get (map field_view fields) n ≡ Some (field_view x)
 field_here [] n x d h is = absurd (omega arith)
@@ -237,20 +237,20 @@ got_before [] y z (suc i) e = absurd cc
 got_before (x ∷ xs) y z zero e = inl e
 got_before (x ∷ xs) y z (suc i) e = one_further x xs y z i (got_before xs y z i e)
 
-table_there : (nodes : List NodeView) (o : Option FieldTable) (node other : NodeView) (n place : ℕ) (t : FieldTable) → slice_get nodes n ≡ Some node → place ≡ n → slice_get nodes place ≡ Some other → o ≡ Some t → IfSome o (λ s. IsTableOf s node) → IsTableOf t other
+table_there : (nodes : List NodeView) (o : Option FieldTable) (node other : NodeView) (n place : ℕ) (t : FieldTable) → slice_get nodes n ≡ Some node → place ≡ n → slice_get nodes place ≡ Some other → o ≡ Some t → IfSome o (λ s. IsFieldTableOf s node) → IsFieldTableOf t other
 table_there nodes None node other n place t here at f is given = absurd cc
 table_there nodes (Some s) node other n place t here at f is given =
     let node_is : node ≡ other = same_Some _ _ (sym here ∙ ap (slice_get nodes) (sym at) ∙ f) in
-    subst (λ (x : NodeView). IsTableOf t x) node_is (subst (λ (x : FieldTable). IsTableOf x node) (same_Some _ _ is) given)
+    subst (λ (x : NodeView). IsFieldTableOf t x) node_is (subst (λ (x : FieldTable). IsFieldTableOf x node) (same_Some _ _ is) given)
 
-table_one_of : (nodes : List NodeView) (tables : List (Option FieldTable)) (o : Option FieldTable) (node other : NodeView) (place : ℕ) (t : FieldTable) → AreTables nodes tables → slice_get nodes (length tables) ≡ Some node → IfSome o (λ s. IsTableOf s node)
-    → slice_get nodes place ≡ Some other → (slice_get tables place ≡ Some (Some t)) ⊎ ((place ≡ length tables) × (o ≡ Some t)) → IsTableOf t other
-unfolding AreTables
+table_one_of : (nodes : List NodeView) (tables : List (Option FieldTable)) (o : Option FieldTable) (node other : NodeView) (place : ℕ) (t : FieldTable) → AreFieldTables nodes tables → slice_get nodes (length tables) ≡ Some node → IfSome o (λ s. IsFieldTableOf s node)
+    → slice_get nodes place ≡ Some other → (slice_get tables place ≡ Some (Some t)) ⊎ ((place ≡ length tables) × (o ≡ Some t)) → IsFieldTableOf t other
+unfolding AreFieldTables
 table_one_of nodes tables o node other place t so_far here given f (inl e) = so_far place t other e f
 table_one_of nodes tables o node other place t so_far here given f (inr e) = table_there nodes o node other (length tables) place t here e.0 f e.1 given
 
-pub tables_more : (nodes : List NodeView) (tables : List (Option FieldTable)) (o : Option FieldTable) (node : NodeView) → AreTables nodes tables → slice_get nodes (length tables) ≡ Some node → IfSome o (λ t. IsTableOf t node) → AreTables nodes (tables ++ o ∷ [])
-unfolding AreTables
+pub tables_more : (nodes : List NodeView) (tables : List (Option FieldTable)) (o : Option FieldTable) (node : NodeView) → AreFieldTables nodes tables → slice_get nodes (length tables) ≡ Some node → IfSome o (λ t. IsFieldTableOf t node) → AreFieldTables nodes (tables ++ o ∷ [])
+unfolding AreFieldTables
 tables_more nodes tables o node so_far here is place t other e f = table_one_of nodes tables o node other place t so_far here is f (got_before tables o (Some t) place e)
 
 pub node_here : (nodes : List Node) (n : ℕ) (x d : Node) → n < length nodes → x ≡ get_or nodes n d → slice_get (nodes_view nodes) n ≡ Some (node_view x)

@@ -16,7 +16,7 @@ use Rattle.avro_nodes.specs.declared.node.Kind.TheVariants.{Null, Boolean, Int, 
 use Rattle.avro_nodes.specs.Nodes.{FieldView, NodeView, primitive, array, mapping, union, enumeration, fixed, rec}
 use Rattle.avro_nodes.proofs.Carried.{OfField}
 use Rattle.avro_nodes.proofs.Shallow.{IsShallow, AreShallow, ShallowNodes}
-use Rattle.avro_schema.specs.Inside.Fitting.{whole_fits, primitive_fits, items_fit, members_fit, field_fits_by, fields_fit, node_fits, entered, fits, value_fits, field_defaults_fit, node_defaults_fit}
+use Rattle.avro_schema.specs.Inside.Fitting.{integer_fits, primitive_fits, items_fit, members_fit, field_fits_by, fields_fit, node_fits, default_type, fits, value_fits, field_defaults_fit, node_defaults_fit}
 use Rattle.avro_schema.specs.Defaults.{is_int, is_bytes, FitsDefault, fits_type, fits_union, FitsNode, fits_null, fits_boolean, fits_int, fits_long, fits_float, fits_double, fits_bytes, fits_string, fits_enum, fits_fixed, fits_array, fits_map, fits_record}
 use Rattle.avro_schema.specs.Defaults.{ItemsFit, no_item_left, item_fits, MembersFit, no_member_left, member_fits, FieldsFit, no_field_left, field_fits, field_missing, ValueFits, FieldDefaultsFit, NodeDefaultsFit}
 
@@ -41,7 +41,7 @@ module _ (nodes : List NodeView) where
     fits_computes (fits_type e f) (suc n) h = let found = node_computes f n (omega arith) in rw (e, found.0) found.1
     fits_computes (fits_union e g f) (suc n) h = rw (e, g) (node_computes f n (omega arith)).1
 
-    node_computes : {v : Data} {node : NodeView} → FitsNode nodes v node → (n : ℕ) → depth v ≤ n → (entered nodes (Some node) ≡ Some node) × (node_fits (fits n nodes) v (Some node) ≡ true)
+    node_computes : {v : Data} {node : NodeView} → FitsNode nodes v node → (n : ℕ) → depth v ≤ n → (default_type nodes (Some node) ≡ Some node) × (node_fits (fits n nodes) v (Some node) ≡ true)
     node_computes fits_null n h = (refl, refl)
     node_computes fits_boolean n h = (refl, refl)
     node_computes (fits_int e i) n h = (refl, rw e i)
@@ -73,7 +73,7 @@ module _ (nodes : List NodeView) where
 -- ---- to the rules
 
 module _ (nodes : List NodeView) where
-  int_says : (n : json.Num) (o : Option ℤ) (extra : Members) → as_i64 n ≡ o → whole_fits is_int o ≡ true → FitsNode nodes (number n) (primitive Int extra)
+  int_says : (n : json.Num) (o : Option ℤ) (extra : Members) → as_i64 n ≡ o → integer_fits is_int o ≡ true → FitsNode nodes (number n) (primitive Int extra)
   int_says n None extra e h = absurd (true≢false (sym h))
   int_says n (Some z) extra e h = fits_int e h
 
@@ -128,7 +128,7 @@ module _ (nodes : List NodeView) where
     first_says None v place first others e f h = absurd (true≢false (sym h))
     first_says (Some node) v place first others e f h = fits_union e f (node_says v node h)
 
-    place_says : (o : Option NodeView) (v : Data) (place : ℕ) → slice_get nodes place ≡ o → node_fits (fits n nodes) v (entered nodes o) ≡ true → FitsDefault nodes v place
+    place_says : (o : Option NodeView) (v : Data) (place : ℕ) → slice_get nodes place ≡ o → node_fits (fits n nodes) v (default_type nodes o) ≡ true → FitsDefault nodes v place
     place_says None v place e h = absurd (true≢false (sym h))
     place_says (Some (primitive kind extra)) v place e h = fits_type e (node_says v (primitive kind extra) h)
     place_says (Some (array items extra)) v place e h = fits_type e (node_says v (array items extra) h)

@@ -8,8 +8,8 @@ use Rattle.std.proofs.lemmas.List.Folds.{list_any-append}
 use Rattle.std.proofs.lemmas.List.Sorted.{IsPermutation-reverse, list_any-IsPermutation}
 use Rattle.std.proofs.lemmas.List.Sums.{suffix_len-le-length}
 use Rattle.avro_nodes.specs.Names.{is_dot, has_dot, namespace_of, last_part}
-use Rattle.avro_schema.specs.Names.{joined}
-use Rattle.avro_schema.specs.Inside.NameTables.{without_space}
+use Rattle.avro_schema.specs.Names.{qualified}
+use Rattle.avro_schema.specs.Inside.NameTables.{without_namespace}
 use Rattle.avro_schema.proofs.RoundNames.{no_namespace}
 
 abbrev is_no_dot : ℕ → Bool
@@ -75,19 +75,19 @@ unfolding namespace_of
 splits [] e = absurd (true≢false (sym e))
 splits (c ∷ cs) e = split_at (list_any is_dot cs) c cs refl e (splits cs)
 
-whole_by : (space full : List ℕ) (any : Bool) → namespace_of full ≡ space → list_any is_dot full ≡ any → joined space (without_space space full) ≡ full
-unfolding joined
+whole_by : (space full : List ℕ) (any : Bool) → namespace_of full ≡ space → list_any is_dot full ≡ any → qualified space (without_namespace space full) ≡ full
+unfolding qualified
 whole_by [] full any e is = refl
 whole_by (c ∷ space) full true e is = ap (λ (s : List ℕ). s ++ 46 ∷ last_part full) (sym e) ∙ sym (splits full is)
 whole_by (c ∷ space) full false e is = let none : c ∷ space ≡ [] = sym e ∙ no_namespace full is in absurd cc
 
 -- the name without its namespace, put back into it
-pub whole : (full : List ℕ) → joined (namespace_of full) (without_space (namespace_of full) full) ≡ full
+pub whole : (full : List ℕ) → qualified (namespace_of full) (without_namespace (namespace_of full) full) ≡ full
 whole full = whole_by (namespace_of full) full (list_any is_dot full) refl refl
 
 -- a full name is told by its namespace and by its name without it
-pub same_full : (a b : List ℕ) → namespace_of a ≡ namespace_of b → without_space (namespace_of a) a ≡ without_space (namespace_of b) b → a ≡ b
-same_full a b spaces names = sym (whole a) ∙ ap (λ (s : List ℕ). joined s (without_space (namespace_of a) a)) spaces ∙ ap (joined (namespace_of b)) names ∙ whole b
+pub same_full : (a b : List ℕ) → namespace_of a ≡ namespace_of b → without_namespace (namespace_of a) a ≡ without_namespace (namespace_of b) b → a ≡ b
+same_full a b spaces names = sym (whole a) ∙ ap (λ (s : List ℕ). qualified s (without_namespace (namespace_of a) a)) spaces ∙ ap (qualified (namespace_of b)) names ∙ whole b
 
 -- ---- a name without a dot in a namespace
 
@@ -100,19 +100,19 @@ cut_back [] name plain = rw plain refl
 cut_back (c ∷ cs) name plain = rw (dot_between cs name, cut_back cs name plain) refl
 
 -- its namespace is the one that it was put in
-pub joined_space : (space name : List ℕ) → has_dot name ≡ false → namespace_of (joined space name) ≡ space
-unfolding joined has_dot
+pub joined_space : (space name : List ℕ) → has_dot name ≡ false → namespace_of (qualified space name) ≡ space
+unfolding qualified has_dot
 joined_space [] name plain = no_namespace name plain
 joined_space (c ∷ space) name plain = cut_back (c ∷ space) name plain
 
-same_name : (space a b : List ℕ) → joined space a ≡ joined space b → a ≡ b
-unfolding joined
+same_name : (space a b : List ℕ) → qualified space a ≡ qualified space b → a ≡ b
+unfolding qualified
 same_name [] a b e = e
 same_name (c ∷ space) a b e = let tails : 46 ∷ a ≡ 46 ∷ b = append_cancel_left (c ∷ space) (46 ∷ a) (46 ∷ b) e in cc
 
 -- and without it, it is the name
-pub joined_name : (space name : List ℕ) → has_dot name ≡ false → without_space (namespace_of (joined space name)) (joined space name) ≡ name
+pub joined_name : (space name : List ℕ) → has_dot name ≡ false → without_namespace (namespace_of (qualified space name)) (qualified space name) ≡ name
 joined_name space name plain =
-    let full = joined space name in
-    let within : joined space (without_space (namespace_of full) full) ≡ full = ap (λ (s : List ℕ). joined s (without_space (namespace_of full) full)) (sym (joined_space space name plain)) ∙ whole full in
-    same_name space (without_space (namespace_of full) full) name within
+    let full = qualified space name in
+    let within : qualified space (without_namespace (namespace_of full) full) ≡ full = ap (λ (s : List ℕ). qualified s (without_namespace (namespace_of full) full)) (sym (joined_space space name plain)) ∙ whole full in
+    same_name space (without_namespace (namespace_of full) full) name within

@@ -24,7 +24,7 @@ pub mod BorrowedMembers
 pub mod BorrowedReads
 pub mod RoundNames
 pub mod FullNames
-pub mod PlaceLemmas
+pub mod NameTableLemmas
 pub mod RoundDeclarations
 pub mod Sizes
 pub mod WeightLemmas

@@ -11,14 +11,14 @@ use Rattle.serde_json.specs.Data as json
 use Rattle.serde_json.specs.Find.{get_member, as_array, as_number, as_u64}
 use Rattle.avro_nodes.specs.Limits.{max_nesting}
 use Rattle.avro_nodes.specs.Nodes.{FieldView, NodeView}
-use Rattle.avro_nodes.specs.Inside.Objects.{AllBehind}
+use Rattle.avro_nodes.specs.Inside.Objects.{AllAfter}
 use Rattle.avro_nodes.proofs.Carried.{AllItems, OfField, OfNode}
 use Rattle.avro_nodes.proofs.Shallow.{IsShallow, AreShallow, ShallowNodes}
 use Rattle.avro_nodes.proofs.Tidy.{IsTidy, TidyItems, TidyMembers, TidyNodes}
 use Rattle.avro_schema.specs.Names.{Known}
 use Rattle.avro_schema.specs.Attributes.{◌>>=◌, without, without_all, array_in, size_of}
 use Rattle.avro_schema.specs.Kinds.{BranchKind}
-use Rattle.avro_schema.specs.Denotes.{Others, IsField, Denotes, a_primitive, a_reference, primitive_type, reference_type, array_type, map_type, fixed_type, enum_type, record_type, union_type}
+use Rattle.avro_schema.specs.Denotes.{IsExtra, IsField, Denotes, a_primitive, a_reference, primitive_type, reference_type, array_type, map_type, fixed_type, enum_type, record_type, union_type}
 use Rattle.avro_schema.specs.Denotes.{Branches, no_branch, branch, Fields, no_field, field}
 use Rattle.avro_schema.proofs.Inversion.{bind_some, guard_some}
 
@@ -51,7 +51,7 @@ array_there k ms items e = let p = bind_some (get_member k ms) as_array items e 
 
 -- E holds of defaults and sizes, and F of other attributes, where P holds of the value
 module _ (P : Data → Type 0) (E : Data → Type 0) (F : Members → Type 0) (of_member : (ms : Members) (k : List ℕ) (d : Data) → P (json.object ms) → get_member k ms ≡ Some d → P d) (of_items : (ds : Items) → P (json.array ds) → AllItems P ds)
-    (of_others : (keys : List (List ℕ)) (ms extra : Members) → P (json.object ms) → Others keys ms extra → F extra) (of_value : (d : Data) → P d → depth d ≤ max_nesting → E d) (of_size : (n : ℕ) → n < 2 ^ 31 → E (number (unsigned n)))
+    (of_others : (keys : List (List ℕ)) (ms extra : Members) → P (json.object ms) → IsExtra keys ms extra → F extra) (of_value : (d : Data) → P d → depth d ≤ max_nesting → E d) (of_size : (n : ℕ) → n < 2 ^ 31 → E (number (unsigned n)))
     (of_nothing : F no_members) where
   -- the default, if there is one
   value_is : (ms : Members) (o : Option Data) → P (json.object ms) → get_member (codes "default") ms ≡ o → ((d : Data) → o ≡ Some d → depth d ≤ max_nesting) → IfSome o E
@@ -120,17 +120,17 @@ each_tidy no_items t = tt
 each_tidy (item d ds) t = (t.0, each_tidy ds t.1)
 
 -- what stands behind a name does so where one member is left out
-behind_at : (same : Bool) (j l : List ℕ) (d : Data) (rest : Members) → slice_cmp nat_cmp j l ≡ Less → AllBehind j rest → AllBehind j (cond same rest (member l d rest))
+behind_at : (same : Bool) (j l : List ℕ) (d : Data) (rest : Members) → slice_cmp nat_cmp j l ≡ Less → AllAfter j rest → AllAfter j (cond same rest (member l d rest))
 behind_at true j l d rest below h = h
 behind_at false j l d rest below h = (below, h)
 
 -- and where those of a name are
-pub behind_without : (j k : List ℕ) (ms : Members) → AllBehind j ms → AllBehind j (without k ms)
+pub behind_without : (j k : List ℕ) (ms : Members) → AllAfter j ms → AllAfter j (without k ms)
 behind_without j k no_members h = tt
 behind_without j k (member l d ms) h = behind_at (bytes_eq k l) j l d (without k ms) h.0 (behind_without j k ms h.1)
 
 -- a member before the others, or left out
-tidy_at : (same : Bool) (l : List ℕ) (d : Data) (rest : Members) → IsTidy d → AllBehind l rest → TidyMembers rest → TidyMembers (cond same rest (member l d rest))
+tidy_at : (same : Bool) (l : List ℕ) (d : Data) (rest : Members) → IsTidy d → AllAfter l rest → TidyMembers rest → TidyMembers (cond same rest (member l d rest))
 tidy_at true l d rest p h t = t
 tidy_at false l d rest p h t = (p, h, t)
 

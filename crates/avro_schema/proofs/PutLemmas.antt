@@ -7,9 +7,9 @@ use Rattle.std.proofs.lemmas.Map.Text.{is_eq-slice_cmp}
 use Rattle.std.proofs.lemmas.Slice.Eq.{bytes_eq-Decides}
 use Rattle.serde_json.specs.Data.{Data, Members, no_members, member, put}
 use Rattle.serde_json.specs.Find.{get_member}
-use Rattle.avro_nodes.specs.Inside.Objects.{AllBehind, AreOrdered}
+use Rattle.avro_nodes.specs.Inside.Objects.{AllAfter, AreOrdered}
 use Rattle.avro_nodes.proofs.Merged.{order, same_name}
-use Rattle.avro_nodes.proofs.Written.{behind_further}
+use Rattle.avro_nodes.proofs.Written.{after_further}
 use Rattle.avro_schema.specs.Attributes.{without}
 use Rattle.avro_schema.proofs.Passing.{behind_without}
 
@@ -85,13 +85,13 @@ nothing_there k no_members none = refl
 nothing_there k (member l d ms) none = nothing_at (bytes_eq k l) k l d ms refl none (nothing_there k ms)
 
 -- a name before all others goes first
-put_first : (l : List ℕ) (d : Data) (ms : Members) → AllBehind l ms → put l d ms ≡ member l d ms
+put_first : (l : List ℕ) (d : Data) (ms : Members) → AllAfter l ms → put l d ms ≡ member l d ms
 put_first l d no_members h = refl
 put_first l d (member m e ms) h = rw (h.0) refl
 
-aside_at : (o : Ordering) (same : Bool) (k l m : List ℕ) (d e : Data) (ms : Members) → slice_cmp nat_cmp l m ≡ o → bytes_eq k m ≡ same → bytes_eq k l ≡ false → AllBehind m ms → without k (put l d ms) ≡ put l d (without k ms)
+aside_at : (o : Ordering) (same : Bool) (k l m : List ℕ) (d e : Data) (ms : Members) → slice_cmp nat_cmp l m ≡ o → bytes_eq k m ≡ same → bytes_eq k l ≡ false → AllAfter m ms → without k (put l d ms) ≡ put l d (without k ms)
     → without k (match_ordering o (member l d (member m e ms)) (member m d ms) (member m e (put l d ms))) ≡ put l d (cond same (without k ms) (member m e (without k ms)))
-aside_at Less true k l m d e ms is here other h more = rw (other, here) (sym (put_first l d (without k ms) (behind_without l k ms (behind_further l m ms is h))))
+aside_at Less true k l m d e ms is here other h more = rw (other, here) (sym (put_first l d (without k ms) (behind_without l k ms (after_further l m ms is h))))
 aside_at Less false k l m d e ms is here other h more = rw (other, here, is) refl
 aside_at Equal true k l m d e ms is here other h more =
     let same : l ≡ m = (bytes_eq-Decides l m).0 (sym (is_eq-slice_cmp l m) ∙ ap is_eq is) in
@@ -106,13 +106,13 @@ put_aside k l d no_members other h = rw other refl
 put_aside k l d (member m e ms) other h = aside_at (slice_cmp nat_cmp l m) (bytes_eq k m) k l m d e ms refl refl other h.0 (put_aside k l d ms other h.1)
 
 -- a name before all others isn't among them
-none_before : (k : List ℕ) (ms : Members) → AllBehind k ms → without k ms ≡ ms
+none_before : (k : List ℕ) (ms : Members) → AllAfter k ms → without k ms ≡ ms
 none_before k no_members h = refl
 none_before k (member m e ms) h = rw (sym (is_eq-slice_cmp k m) ∙ ap is_eq h.0) (ap (member m e) (none_before k ms h.1))
 
-again_at : (o : Ordering) (k m : List ℕ) (d e : Data) (ms : Members) → order k m ≡ o → AllBehind m ms → put k d (without k ms) ≡ put k d ms → put k d (without k (member m e ms)) ≡ put k d (member m e ms)
+again_at : (o : Ordering) (k m : List ℕ) (d e : Data) (ms : Members) → order k m ≡ o → AllAfter m ms → put k d (without k ms) ≡ put k d ms → put k d (without k (member m e ms)) ≡ put k d (member m e ms)
 again_at Less k m d e ms is h more =
-    rw (sym (is_eq-slice_cmp k m) ∙ ap is_eq is) (ap (λ (xs : Members). put k d (member m e xs)) (none_before k ms (behind_further k m ms is h)))
+    rw (sym (is_eq-slice_cmp k m) ∙ ap is_eq is) (ap (λ (xs : Members). put k d (member m e xs)) (none_before k ms (after_further k m ms is h)))
 again_at Equal k m d e ms is h more =
     let same : k ≡ m = same_name k m is in
     rw (sym (is_eq-slice_cmp k m) ∙ ap is_eq is, is) (ap (put k d) (ap (λ (n : List ℕ). without n ms) same ∙ none_before m ms h) ∙ ap (λ (n : List ℕ). put n d ms) same ∙ put_first m d ms h)

@@ -9,7 +9,7 @@ use Rattle.std.proofs.lemmas.List.Kept.{Contains-dedup_nat, Contains-from_dedup}
 use Rattle.std.proofs.lemmas.List.Sorted.{Contains-permutation, IsPermutation-sym}
 use Rattle.std.proofs.lemmas.Map.Keys.{IsStrictlyIncreasing-dedup}
 use Rattle.std.specs.Prelude.{eqb}
-use Rattle.avro_schema.specs.Index.{IsRank, AreRanks, AreRisingRanks}
+use Rattle.avro_schema.specs.Index.{IsRank, AreRanks, AreSortedRanks}
 
 module _ (names : List (List ℕ)) where
   long : (texts : List (List ℕ)) (ranks : List ℕ) → AreRanks names texts ranks → length ranks ≡ length texts
@@ -21,7 +21,7 @@ module _ (names : List (List ℕ)) where
       let l2 : k < length ranks = omega (arith, long texts ranks are) in
       sym (get_or-map (λ rank. slice_get names rank) ranks k 0 (Some d) l2) ∙ ap (λ os. get_or os k (Some d)) are ∙ get_or-map (λ text. Some text) texts k d (Some d) l
 
-  pub rising : (texts : List (List ℕ)) (ranks sorted : List ℕ) → AreRanks names texts ranks → IsPermutation ranks sorted → IsSorted nat_cmp sorted → AreRisingRanks names texts (dedup eqb sorted)
+  pub rising : (texts : List (List ℕ)) (ranks sorted : List ℕ) → AreRanks names texts ranks → IsPermutation ranks sorted → IsSorted nat_cmp sorted → AreSortedRanks names texts (dedup eqb sorted)
   rising texts ranks sorted are moved up = record {
     rise = IsStrictlyIncreasing-dedup sorted up;
     each = λ k d l. (

@@ -5,19 +5,19 @@ use Rattle.serde_json.specs.Data.{Data, string, Items, Members}
 use Rattle.serde_json.specs.Data as json
 use Rattle.serde_json.specs.Find.{get_member, as_object}
 use Rattle.avro_nodes.specs.Nodes.{NamedView, FieldView, NodeView, union, rec}
-use Rattle.avro_schema.specs.declared.words.Container.{Container}
-use Rattle.avro_schema.specs.declared.words.Word.{Word}
-use Rattle.avro_schema.specs.declared.words.Word.TheVariants.{Reference}
+use Rattle.avro_schema.specs.declared.keywords.Container.{Container}
+use Rattle.avro_schema.specs.declared.keywords.TypeName.{TypeName}
+use Rattle.avro_schema.specs.declared.keywords.TypeName.TheVariants.{Reference}
 use Rattle.avro_schema.specs.Names.{Known, defined}
 use Rattle.avro_nodes.specs.Names.{namespace_of}
-use Rattle.avro_schema.specs.Words.{word_of}
+use Rattle.avro_schema.specs.Keywords.{type_name_of}
 use Rattle.avro_schema.specs.Attributes.{without_all, text_in, array_in}
 use Rattle.avro_schema.specs.Inside.Distinct.{all_differ}
-use Rattle.avro_schema.specs.Inside.Declarations.{naming, named_in, LabelView, label_in, labelling, bounded}
-use Rattle.avro_schema.specs.Inside.ValueReaders.{Part, Reader, Types, parts_of, room_at}
+use Rattle.avro_schema.specs.Inside.Declarations.{name_keys, named_in, FieldAttributesView, field_attributes_in, field_attribute_keys, bounded}
+use Rattle.avro_schema.specs.Inside.ValueReaders.{Part, PartReader, TypeReader, parts_of, room_at}
 use Rattle.avro_schema.specs.Inside.KindNumbers.{branch_number}
-use Rattle.avro_schema.specs.Inside.Types.{name_at, reference_to, key_of, container_node, container_at, branch_of, union_at, field_at, field_of, record_at, by_word, object_at, form_at, type_at}
-use Rattle.avro_schema.specs.Inside.ReaderAnswers.{Adds}
+use Rattle.avro_schema.specs.Inside.Types.{name_at, reference_to, member_name, container_node, container_at, branch_of, union_at, field_at, field_of, record_at, by_type_name, object_at, form_at, type_at}
+use Rattle.avro_schema.specs.Inside.ReaderResults.{AddsPart}
 use Rattle.avro_schema.proofs.Sequence.{settled}
 
 abbrev pub made : {A : Type 0} → A → List NodeView → Known → Option (Part A)
@@ -54,40 +54,40 @@ unfolding type_at
 too_deep zero space d known first h = refl
 too_deep (suc n) space d known first h = absurd (omega arith)
 
-module _ (types : Types) (space : List ℕ) (ms : Members) (known : Known) (first : ℕ) where
+module _ (types : TypeReader) (space : List ℕ) (ms : Members) (known : Known) (first : ℕ) where
   pub no_word : text_in (codes "type") ms ≡ None → object_at types space ms known first ≡ None
   unfolding object_at
   no_word e = rw e refl
 
-  module _ (word : List ℕ) (rest : Members) (says : text_in (codes "type") ms ≡ Some word) (rest_is : rest ≡ without_all (codes "type" ∷ []) ms) where
-    pub object_is : (w : Word) → w ≡ word_of word → object_at types space ms known first ≡ by_word w word types space rest known first
+  module _ (type_name : List ℕ) (rest : Members) (says : text_in (codes "type") ms ≡ Some type_name) (rest_is : rest ≡ without_all (codes "type" ∷ []) ms) where
+    pub object_is : (w : TypeName) → w ≡ type_name_of type_name → object_at types space ms known first ≡ by_type_name w type_name types space rest known first
     unfolding object_at
     object_is w is = rw (says, ← is, rest_is) refl
 
-    pub reference_unbound : Reference ≡ word_of word → bounded rest ≡ None → object_at types space ms known first ≡ None
+    pub reference_unbound : Reference ≡ type_name_of type_name → bounded rest ≡ None → object_at types space ms known first ≡ None
     reference_unbound is none = object_is Reference is ∙ rw none refl
 
-    pub reference_is : (extra : Members) → Reference ≡ word_of word → bounded rest ≡ Some extra → object_at types space ms known first ≡ reference_to space word known
+    pub reference_is : (extra : Members) → Reference ≡ type_name_of type_name → bounded rest ≡ Some extra → object_at types space ms known first ≡ reference_to space type_name known
     reference_is extra is bound = object_is Reference is ∙ rw bound refl
 
 -- ---- arrays and maps
 
-module _ (container : Container) (one : Reader ℕ) (ms : Members) (known : Known) (first : ℕ) where
+module _ (container : Container) (one : PartReader ℕ) (ms : Members) (known : Known) (first : ℕ) where
   pub container_past : room_at first ≡ None → container_at container one ms known first ≡ None
   unfolding container_at
   container_past none = rw none refl
 
   module _ (place : ℕ) (room : room_at first ≡ Some place) where
-    pub nothing_held : get_member (key_of container) ms ≡ None → container_at container one ms known first ≡ None
+    pub nothing_held : get_member (member_name container) ms ≡ None → container_at container one ms known first ≡ None
     unfolding container_at
     nothing_held none = rw (room, none) refl
 
-    module _ (i : Data) (holds : get_member (key_of container) ms ≡ Some i) where
-      pub container_unbound : bounded (without_all (key_of container ∷ []) ms) ≡ None → container_at container one ms known first ≡ None
+    module _ (i : Data) (holds : get_member (member_name container) ms ≡ Some i) where
+      pub container_unbound : bounded (without_all (member_name container ∷ []) ms) ≡ None → container_at container one ms known first ≡ None
       unfolding container_at
       container_unbound none = rw (room, holds, none) refl
 
-      module _ (extra : Members) (bound : bounded (without_all (key_of container ∷ []) ms) ≡ Some extra) where
+      module _ (extra : Members) (bound : bounded (without_all (member_name container ∷ []) ms) ≡ Some extra) where
         pub held_fails : one i known (first + 1) ≡ None → container_at container one ms known first ≡ None
         unfolding container_at
         held_fails none = rw (room, holds, bound, none) refl
@@ -97,13 +97,13 @@ module _ (container : Container) (one : Reader ℕ) (ms : Members) (known : Know
         container_is p nodes known2 inner = rw (room, holds, bound, inner) refl
 
         pub container_done : (p : ℕ) (before mid after : List NodeView) (blank : NodeView) (known2 : Known) → place ≡ length before → mid ≡ before ++ blank ∷ []
-            → Adds (one i known (first + 1)) p mid after known2 → Adds (container_at container one ms known first) place before (set after place (container_node container p extra)) known2
+            → AddsPart (one i known (first + 1)) p mid after known2 → AddsPart (container_at container one ms known first) place before (set after place (container_node container p extra)) known2
         container_done p before mid after blank known2 place_is mid_is inner =
             record { added = container_node container p extra ∷ inner.added; is = container_is p inner.added known2 inner.is; after_is = settled before mid after inner.added place blank (container_node container p extra) mid_is inner.after_is place_is }
 
 -- ---- unions
 
-module _ (one : Reader ℕ) (ds : Items) (known : Known) (first : ℕ) where
+module _ (one : PartReader ℕ) (ds : Items) (known : Known) (first : ℕ) where
   pub union_past : room_at first ≡ None → union_at one ds known first ≡ None
   unfolding union_at
   union_past none = rw none refl
@@ -116,7 +116,7 @@ module _ (one : Reader ℕ) (ds : Items) (known : Known) (first : ℕ) where
     unfolding union_at
     branches_fail none = rw (room, none) refl
 
-    pub branches_alike : (bs : List (ℕ × ℕ)) (before after : List NodeView) (known2 : Known) → Adds branches_read bs before after known2 → all_differ (λ a b. a == b) (map (λ b. b.1) bs) ≡ false → union_at one ds known first ≡ None
+    pub branches_alike : (bs : List (ℕ × ℕ)) (before after : List NodeView) (known2 : Known) → AddsPart branches_read bs before after known2 → all_differ (λ a b. a == b) (map (λ b. b.1) bs) ≡ false → union_at one ds known first ≡ None
     unfolding union_at
     branches_alike bs before after known2 parts alike = rw (room, parts.is, alike) refl
 
@@ -126,8 +126,8 @@ module _ (one : Reader ℕ) (ds : Items) (known : Known) (first : ℕ) where
     union_is bs nodes known2 parts differ = rw (room, parts, differ) refl
 
     pub union_done : (bs : List (ℕ × ℕ)) (before mid after : List NodeView) (blank : NodeView) (known2 : Known) → place ≡ length before → mid ≡ before ++ blank ∷ []
-        → Adds branches_read bs mid after known2 → all_differ (λ a b. a == b) (map (λ b. b.1) bs) ≡ true
-        → Adds (union_at one ds known first) place before (set after place (union (map (λ b. b.0) bs))) known2
+        → AddsPart branches_read bs mid after known2 → all_differ (λ a b. a == b) (map (λ b. b.1) bs) ≡ true
+        → AddsPart (union_at one ds known first) place before (set after place (union (map (λ b. b.0) bs))) known2
     union_done bs before mid after blank known2 place_is mid_is parts differ =
         record {
           added = union (map (λ b. b.0) bs) ∷ parts.added;
@@ -137,53 +137,53 @@ module _ (one : Reader ℕ) (ds : Items) (known : Known) (first : ℕ) where
 
 -- ---- a branch
 
-module _ (one : Reader ℕ) (d : Data) (known : Known) (first : ℕ) where
+module _ (one : PartReader ℕ) (d : Data) (known : Known) (first : ℕ) where
   pub branch_fails : one d known first ≡ None → branch_of one d known first ≡ None
   unfolding branch_of
   branch_fails none = rw none refl
 
-  pub is_no_branch : (p : ℕ) (before after : List NodeView) (known2 : Known) (t : Adds (one d known first) p before after known2) → branch_number p t.added ≡ None → branch_of one d known first ≡ None
+  pub is_no_branch : (p : ℕ) (before after : List NodeView) (known2 : Known) (t : AddsPart (one d known first) p before after known2) → branch_number p t.added ≡ None → branch_of one d known first ≡ None
   unfolding branch_of
   is_no_branch p before after known2 t none = rw (t.is, none) refl
 
-  pub is_branch : (p k : ℕ) (before after : List NodeView) (known2 : Known) (t : Adds (one d known first) p before after known2) → branch_number p t.added ≡ Some k → Adds (branch_of one d known first) (p, k) before after known2
+  pub is_branch : (p k : ℕ) (before after : List NodeView) (known2 : Known) (t : AddsPart (one d known first) p before after known2) → branch_number p t.added ≡ Some k → AddsPart (branch_of one d known first) (p, k) before after known2
   unfolding branch_of
   is_branch p k before after known2 t some = record { added = t.added; is = rw (t.is, some) refl; after_is = t.after_is }
 
 -- ---- a field
 
-module _ (one : Reader ℕ) (d : Data) (known : Known) (first : ℕ) where
+module _ (one : PartReader ℕ) (d : Data) (known : Known) (first : ℕ) where
   pub no_object : as_object d ≡ None → field_of one d known first ≡ None
   unfolding field_of
   no_object none = rw none refl
 
   module _ (ms : Members) (object : as_object d ≡ Some ms) where
-    pub no_label : label_in ms ≡ None → field_of one d known first ≡ None
+    pub no_label : field_attributes_in ms ≡ None → field_of one d known first ≡ None
     unfolding field_of
     no_label none = rw (object, none) refl
 
-    module _ (label : LabelView) (labelled : label_in ms ≡ Some label) where
-      pub no_type : get_member (codes "type") (without_all labelling ms) ≡ None → field_of one d known first ≡ None
+    module _ (label : FieldAttributesView) (labelled : field_attributes_in ms ≡ Some label) where
+      pub no_type : get_member (codes "type") (without_all field_attribute_keys ms) ≡ None → field_of one d known first ≡ None
       unfolding field_of
       no_type none = rw (object, labelled, none) refl
 
-      module _ (t : Data) (typed : get_member (codes "type") (without_all labelling ms) ≡ Some t) where
-        pub field_unbound : bounded (without_all (codes "type" ∷ []) (without_all labelling ms)) ≡ None → field_of one d known first ≡ None
+      module _ (t : Data) (typed : get_member (codes "type") (without_all field_attribute_keys ms) ≡ Some t) where
+        pub field_unbound : bounded (without_all (codes "type" ∷ []) (without_all field_attribute_keys ms)) ≡ None → field_of one d known first ≡ None
         unfolding field_of
         field_unbound none = rw (object, labelled, typed, none) refl
 
-        module _ (extra : Members) (bound : bounded (without_all (codes "type" ∷ []) (without_all labelling ms)) ≡ Some extra) where
+        module _ (extra : Members) (bound : bounded (without_all (codes "type" ∷ []) (without_all field_attribute_keys ms)) ≡ Some extra) where
           pub field_fails : one t known first ≡ None → field_of one d known first ≡ None
           unfolding field_of
           field_fails none = rw (object, labelled, typed, bound, none) refl
 
-          pub field_is : (p : ℕ) (before after : List NodeView) (known2 : Known) → Adds (one t known first) p before after known2 → Adds (field_of one d known first) (field_at label p extra) before after known2
+          pub field_is : (p : ℕ) (before after : List NodeView) (known2 : Known) → AddsPart (one t known first) p before after known2 → AddsPart (field_of one d known first) (field_at label p extra) before after known2
           unfolding field_of
           field_is p before after known2 inner = record { added = inner.added; is = rw (object, labelled, typed, bound, inner.is) refl; after_is = inner.after_is }
 
 -- ---- records
 
-module _ (types : Types) (space : List ℕ) (ms : Members) (known : Known) (first : ℕ) where
+module _ (types : TypeReader) (space : List ℕ) (ms : Members) (known : Known) (first : ℕ) where
   pub record_past : room_at first ≡ None → record_at types space ms known first ≡ None
   unfolding record_at
   record_past none = rw none refl
@@ -194,16 +194,16 @@ module _ (types : Types) (space : List ℕ) (ms : Members) (known : Known) (firs
     no_named none = rw (room, none) refl
 
     module _ (named : NamedView) (e : named_in space ms known ≡ Some named) where
-      pub no_fields : array_in (codes "fields") (without_all naming ms) ≡ None → record_at types space ms known first ≡ None
+      pub no_fields : array_in (codes "fields") (without_all name_keys ms) ≡ None → record_at types space ms known first ≡ None
       unfolding record_at
       no_fields none = rw (room, e, none) refl
 
-      module _ (ds : Items) (f : array_in (codes "fields") (without_all naming ms) ≡ Some ds) where
-        pub record_unbound : bounded (without_all (codes "fields" ∷ []) (without_all naming ms)) ≡ None → record_at types space ms known first ≡ None
+      module _ (ds : Items) (f : array_in (codes "fields") (without_all name_keys ms) ≡ Some ds) where
+        pub record_unbound : bounded (without_all (codes "fields" ∷ []) (without_all name_keys ms)) ≡ None → record_at types space ms known first ≡ None
         unfolding record_at
         record_unbound none = rw (room, e, f, none) refl
 
-        module _ (extra : Members) (bound : bounded (without_all (codes "fields" ∷ []) (without_all naming ms)) ≡ Some extra) where
+        module _ (extra : Members) (bound : bounded (without_all (codes "fields" ∷ []) (without_all name_keys ms)) ≡ Some extra) where
           abbrev pub fields_read : Option (Part (List FieldView))
           fields_read = parts_of (field_of (types (namespace_of named.name))) ds (defined known named.name place) (first + 1)
 
@@ -211,7 +211,7 @@ module _ (types : Types) (space : List ℕ) (ms : Members) (known : Known) (firs
           unfolding record_at
           fields_fail none = rw (room, e, f, bound, none) refl
 
-          pub fields_alike : (fields : List FieldView) (before after : List NodeView) (known2 : Known) → Adds fields_read fields before after known2 → all_differ bytes_eq (map (λ x. x.name) fields) ≡ false
+          pub fields_alike : (fields : List FieldView) (before after : List NodeView) (known2 : Known) → AddsPart fields_read fields before after known2 → all_differ bytes_eq (map (λ x. x.name) fields) ≡ false
               → record_at types space ms known first ≡ None
           unfolding record_at
           fields_alike fields before after known2 parts alike = rw (room, e, f, bound, parts.is, alike) refl
@@ -222,8 +222,8 @@ module _ (types : Types) (space : List ℕ) (ms : Members) (known : Known) (firs
           record_is fields nodes known2 parts differ = rw (room, e, f, bound, parts, differ) refl
 
           pub record_done : (fields : List FieldView) (before mid after : List NodeView) (blank : NodeView) (known2 : Known) → place ≡ length before → mid ≡ before ++ blank ∷ []
-              → Adds fields_read fields mid after known2 → all_differ bytes_eq (map (λ x. x.name) fields) ≡ true
-              → Adds (record_at types space ms known first) place before (set after place (rec named fields extra)) known2
+              → AddsPart fields_read fields mid after known2 → all_differ bytes_eq (map (λ x. x.name) fields) ≡ true
+              → AddsPart (record_at types space ms known first) place before (set after place (rec named fields extra)) known2
           record_done fields before mid after blank known2 place_is mid_is parts differ =
               record {
                 added = rec named fields extra ∷ parts.added;

@@ -5,7 +5,7 @@ use Rattle.std.proofs.lemmas.Result.{err_from_is_err_and}
 use Rattle.avro_nodes.specs.Nodes.{NodeView}
 use Rattle.avro_schema.specs.Names.{Known}
 use Rattle.avro_schema.specs.Inside.ValueReaders.{Part}
-use Rattle.avro_schema.specs.Inside.ReaderAnswers.{Fails, Gives, Reads}
+use Rattle.avro_schema.specs.Inside.ReaderResults.{Fails, Gives, ReadsPart}
 use Rattle.avro_schema.specs.declared.error.SchemaError.{SchemaError}
 use Rattle.avro_schema.specs.declared.error.SchemaError.TheVariants.{OutOfMemory}
 
@@ -18,8 +18,8 @@ fails_from _ o u h f = h f
 pub gives_exit : {X A : Type 0} (shown : X → A) (r : Result X SchemaError) (e : SchemaError) (o : Option A) → IsErrAnd r (λ y. y ≡ e) → Fails e o → Gives shown r o
 gives_exit shown r e o is f = let p = err_from_is_err_and r is in rw (p.1, p.2) f
 
-pub reads_exit : {X A : Type 0} (shown : X → A) (r : Result X SchemaError) (e : SchemaError) (o : Option (Part A)) (before after : List NodeView) (known : Known) → IsErrAnd r (λ y. y ≡ e) → Fails e o → Reads shown r o before after known
+pub reads_exit : {X A : Type 0} (shown : X → A) (r : Result X SchemaError) (e : SchemaError) (o : Option (Part A)) (before after : List NodeView) (known : Known) → IsErrAnd r (λ y. y ≡ e) → Fails e o → ReadsPart shown r o before after known
 reads_exit shown r e o before after known is f = let p = err_from_is_err_and r is in rw (p.1, p.2) f
 
-pub same_reads : {X A : Type 0} (shown : X → A) (r : Result X SchemaError) (o u : Option (Part A)) (before after : List NodeView) (known : Known) → u ≡ o → Reads shown r o before after known → Reads shown r u before after known
+pub same_reads : {X A : Type 0} (shown : X → A) (r : Result X SchemaError) (o u : Option (Part A)) (before after : List NodeView) (known : Known) → u ≡ o → ReadsPart shown r o before after known → ReadsPart shown r u before after known
 same_reads shown r o u before after known e h = rw e h

@@ -9,7 +9,7 @@ use Rattle.serde_json.specs.Find.{get_member}
 use Rattle.avro_schema.specs.Attributes.{without}
 use Rattle.std.proofs.lemmas.Bool.{false≢true, and_parts}
 use Rattle.std.specs.Ordering.{is_lt}
-use Rattle.avro_nodes.specs.Inside.Objects.{AllBehind, AreOrdered}
+use Rattle.avro_nodes.specs.Inside.Objects.{AllAfter, AreOrdered}
 use Rattle.avro_schema.specs.Inside.Reserved.{is_reserved, is_reserved_name, has_reserved, is_first, are_in_order}
 use Rattle.avro_schema.proofs.Inversion.{differ}
 use Rattle.avro_schema.proofs.RoundMembers.{not_found_at}
@@ -75,7 +75,7 @@ is_less Less e = refl
 is_less Equal e = absurd (false≢true e)
 is_less Greater e = absurd (false≢true e)
 
-behind_first : (k : List ℕ) (ms : Members) → is_first k ms ≡ true → AllBehind k ms
+behind_first : (k : List ℕ) (ms : Members) → is_first k ms ≡ true → AllAfter k ms
 behind_first k no_members h = tt
 behind_first k (member l d ms) h =
     let parts = and_parts (is_lt (slice_cmp nat_cmp k l)) (is_first k ms) h in
@@ -87,7 +87,7 @@ in_order (member k d ms) h =
     let parts = and_parts (is_first k ms) (are_in_order ms) h in
     (behind_first k ms parts.0, in_order ms parts.1)
 
-first_behind : (k : List ℕ) (ms : Members) → AllBehind k ms → is_first k ms ≡ true
+first_behind : (k : List ℕ) (ms : Members) → AllAfter k ms → is_first k ms ≡ true
 first_behind k no_members h = refl
 first_behind k (member l d ms) h = rw h.0 (first_behind k ms h.1)
 

@@ -22,7 +22,7 @@ use Rattle.std.proofs.lemmas.List.Sorted.{Contains-permutation}
 use Rattle.std.proofs.lemmas.Map.Lookups.{exact_bytes}
 use Rattle.std.proofs.lemmas.Map.Text.{is_eq-slice_cmp}
 use Rattle.std.proofs.lemmas.Option.{slice_get-get_or}
-use Rattle.avro_schema.specs.Index.{Rise}
+use Rattle.avro_schema.specs.Index.{AreStrictlySorted}
 use Rattle.avro_schema.specs.Inside.NodeTexts.{borrowed}
 
 -- a text behind a reference
@@ -60,7 +60,7 @@ each_of : (x : List ℕ) (ts : List (Bor (List ℕ))) → AllByRecursion (λ t. 
 each_of x [] h = tt
 each_of x (t ∷ ts) h = (h.0, each_of x ts h.1)
 
-rise_from : (ts : List (Bor (List ℕ))) → IsStrictlySortedBy (on text order) ts → Rise (map text ts)
+rise_from : (ts : List (Bor (List ℕ))) → IsStrictlySortedBy (on text order) ts → AreStrictlySorted (map text ts)
 unfolding IsStrictlySortedBy
 rise_from [] h = λ i j d l m. absurd (omega arith)
 rise_from (t ∷ ts) h = AllPairs-cons (λ x y. order x y ≡ Less) (text t) (map text ts) (All-from_recursion (λ y. order (text t) y ≡ Less) (map text ts) (each_of (text t) ts h.0)) (rise_from ts h.1)
@@ -72,7 +72,7 @@ ties : (x y : Bor (List ℕ)) → same x y ≡ eq_by_cmp (on text order) x y
 ties x y = sym (is_eq-slice_cmp (text x) (text y))
 
 -- a sorted list, each of its texts once, rises
-pub rise_once : (ts : List (Bor (List ℕ))) → IsSorted (on text order) ts → Rise (map text (dedup same ts))
+pub rise_once : (ts : List (Bor (List ℕ))) → IsSorted (on text order) ts → AreStrictlySorted (map text (dedup same ts))
 rise_once ts h = rise_from (dedup same ts) (IsStrictlySortedBy-dedup total ties ts h)
 
 -- ---- in order with their places
@@ -135,7 +135,7 @@ no_later x y z Greater Less e f g = absurd (true≢false (sym (ap is_lt (nat_lis
 no_later x y z Greater Equal e f g = absurd (true≢false (sym (ap is_lt (subst (λ (u : List ℕ). order x u ≡ Less) (exact_bytes y z f) g)) ∙ ap is_lt e))
 no_later x y z Greater Greater e f g = omega arith
 
-one : (ts : List (Bor (List ℕ))) (x : List ℕ) → Rise (map text ts) → IsNonDecreasingBy (λ t. ordering_index (order (text t) x)) ts
+one : (ts : List (Bor (List ℕ))) (x : List ℕ) → AreStrictlySorted (map text ts) → IsNonDecreasingBy (λ t. ordering_index (order (text t) x)) ts
 one ts x rise i j d le l = elim (cases_lt i j) [
   | inl g ↦ (
       let li : i < length ts = omega arith in
@@ -144,7 +144,7 @@ one ts x rise i j d le l = elim (cases_lt i j) [
   | inr g ↦ (let e : i ≡ j = omega arith in omega (arith, ap (λ (k : ℕ). ordering_index (order (text (get_or ts k d)) x)) e))
 ]
 
-pub lost : (ts : List (Bor (List ℕ))) (x : List ℕ) (at : ℕ) → Rise (map text ts) → Contains (map text ts) x
+pub lost : (ts : List (Bor (List ℕ))) (x : List ℕ) (at : ℕ) → AreStrictlySorted (map text ts) → Contains (map text ts) x
     → (IsNonDecreasingBy (λ t. ordering_index (order (text t) x)) ts → IsPartitionPoint (λ t. order (text t) x ≡ Less) (λ t. order (text t) x ≡ Greater) ts at) → ⊥
 lost ts x at rise there point =
     let k = there.0 in

@@ -13,12 +13,12 @@ use Rattle.avro_nodes.specs.declared.node.Order.TheVariants.{Ascending, Descendi
 use Rattle.avro_nodes.specs.Names.{has_dot, namespace_of}
 use Rattle.avro_nodes.specs.Nodes.{NamedView, FieldView}
 use Rattle.avro_nodes.specs.Identity.{kind_text, texts, with_text, with_aliases, with_default, with_order, with_namespace}
-use Rattle.avro_schema.specs.declared.words.Word.{Word}
-use Rattle.avro_schema.specs.declared.words.Word.TheVariants as word
-use Rattle.avro_schema.specs.Names.{Known, is_simple, is_dotted, is_space, allowed, full_name, alias_in}
-use Rattle.avro_schema.specs.Words.{kind_of, word_of, order_of}
+use Rattle.avro_schema.specs.declared.keywords.TypeName.{TypeName}
+use Rattle.avro_schema.specs.declared.keywords.TypeName.TheVariants as type_name
+use Rattle.avro_schema.specs.Names.{Known, is_simple, is_name_sequence, is_namespace, allowed, full_name, alias_in}
+use Rattle.avro_schema.specs.Keywords.{kind_of, type_name_of, order_of}
 use Rattle.avro_schema.specs.Attributes.{◌>>=◌, without_all, text_in, array_in, text_if_any, texts_in, texts_if_any, size_of, symbol_in, fallback_in, order_in}
-use Rattle.avro_schema.specs.Denotes.{Others, IsNamed, IsEnum, IsField, Says, array_keys, map_keys, fixed_keys, enum_keys, record_keys}
+use Rattle.avro_schema.specs.Denotes.{IsExtra, IsNamed, IsEnum, IsField, HasTypeName, array_keys, map_keys, fixed_keys, enum_keys, record_keys}
 use Rattle.avro_schema.proofs.Inversion.{bind_some, bind3, guard_some, not_same}
 use Rattle.avro_schema.proofs.RoundMembers.{is_among, without-put, without_twice, none_without}
 use Rattle.avro_schema.proofs.RoundNames.{good_name, good_namespace, full_again_dot, full_again_null, full_again_said, alias_again, allowed_says, kind_again}
@@ -73,12 +73,12 @@ less_namespace ks [] name ms among = refl
 less_namespace ks (c ∷ space) name ms among = less_namespace_at (has_dot name) ks ms among
 
 -- other attributes, with members of these keys put among them
-others_again : (keys : List (List ℕ)) (ms extra written : Members) → Others keys ms extra → without_all keys written ≡ without_all keys extra → Others keys written extra
+others_again : (keys : List (List ℕ)) (ms extra written : Members) → IsExtra keys ms extra → without_all keys written ≡ without_all keys extra → IsExtra keys written extra
 others_again keys ms extra written o e =
     record { are = sym (e ∙ ap (without_all keys) o.are ∙ without_twice keys ms ∙ sym o.are); shallow = o.shallow }
 
 -- one of the keys is not among other attributes
-others_lack : (keys : List (List ℕ)) (k : List ℕ) (ms extra : Members) → Others keys ms extra → is_among keys k ≡ true → get_member k extra ≡ None
+others_lack : (keys : List (List ℕ)) (k : List ℕ) (ms extra : Members) → IsExtra keys ms extra → is_among keys k ≡ true → get_member k extra ≡ None
 others_lack keys k ms extra o among = ap (get_member k) o.are ∙ none_without keys k ms among
 
 -- ---- texts
@@ -149,23 +149,23 @@ namespace_null : (ms : Members) → get_member (codes "namespace") ms ≡ Some (
 unfolding text_if_any
 namespace_null ms e = rw e refl
 
-name_again_at : (dot : Bool) (c : ℕ) (space name : List ℕ) → is_dotted name ≡ true → has_dot name ≡ dot → NameAgain (c ∷ space) name (cond dot None (Some (string [])))
+name_again_at : (dot : Bool) (c : ℕ) (space name : List ℕ) → is_name_sequence name ≡ true → has_dot name ≡ dot → NameAgain (c ∷ space) name (cond dot None (Some (string [])))
 name_again_at true c space name d dot = record { attribute = None; reads = namespace_missing; full = full_again_dot name None (c ∷ space) d dot }
 name_again_at false c space name d none = record { attribute = Some []; reads = namespace_null; full = full_again_said name (c ∷ space) d none }
 
-null_again_at : (dot : Bool) (name : List ℕ) → is_dotted name ≡ true → has_dot name ≡ dot → NameAgain [] name None
+null_again_at : (dot : Bool) (name : List ℕ) → is_name_sequence name ≡ true → has_dot name ≡ dot → NameAgain [] name None
 null_again_at true name d dot = record { attribute = None; reads = namespace_missing; full = full_again_dot name None [] d dot }
 null_again_at false name d none = record { attribute = None; reads = namespace_missing; full = full_again_null name d none }
 
-name_again : (space name : List ℕ) → is_dotted name ≡ true → NameAgain space name (namespace_due space name)
+name_again : (space name : List ℕ) → is_name_sequence name ≡ true → NameAgain space name (namespace_due space name)
 name_again [] name d = null_again_at (has_dot name) name d refl
 name_again (c ∷ space) name d = name_again_at (has_dot name) c space name d refl
 
-pub good_named : (space : List ℕ) (ms : Members) (known : Known) (named : NamedView) → is_space space ≡ true → IsNamed space ms known named → is_dotted named.name ≡ true
+pub good_named : (space : List ℕ) (ms : Members) (known : Known) (named : NamedView) → is_namespace space ≡ true → IsNamed space ms known named → is_name_sequence named.name ≡ true
 good_named space ms known named good n = good_name n.text n.attribute space named.name good n.full
 
 -- members that say a name, a namespace and aliases as they are written give these names again
-named_again : (space : List ℕ) (ms written : Members) (known : Known) (named : NamedView) → is_space space ≡ true → IsNamed space ms known named
+named_again : (space : List ℕ) (ms written : Members) (known : Known) (named : NamedView) → is_namespace space ≡ true → IsNamed space ms known named
     → get_member (codes "name") written ≡ Some (string named.name) → get_member (codes "namespace") written ≡ namespace_due space named.name → get_member (codes "aliases") written ≡ aliases_due named.aliases
     → IsNamed space written known named
 named_again space ms written known named good n name namespace aliases =
@@ -186,31 +186,31 @@ named_again space ms written known named good n name namespace aliases =
 
 -- ---- the words of `type`
 
-pub word_is_kind : (kind : Kind) → word_of (kind_text kind) ≡ word.Primitive kind
-unfolding word_of
+pub word_is_kind : (kind : Kind) → type_name_of (kind_text kind) ≡ type_name.Primitive kind
+unfolding type_name_of
 word_is_kind kind = rw (kind_again kind) refl
 
-typed : (w : Word) (name : List ℕ) (ms : Members) → word_of name ≡ w → get_member (codes "type") ms ≡ Some (string name) → Says ms w
+typed : (w : TypeName) (name : List ℕ) (ms : Members) → type_name_of name ≡ w → get_member (codes "type") ms ≡ Some (string name) → HasTypeName ms w
 typed w name ms is e = (name, text_found (codes "type") name ms e, is)
 
-word_array : word_of (codes "array") ≡ word.Array
-unfolding word_of kind_of
+word_array : type_name_of (codes "array") ≡ type_name.Array
+unfolding type_name_of kind_of
 word_array = refl
 
-word_map : word_of (codes "map") ≡ word.Map
-unfolding word_of kind_of
+word_map : type_name_of (codes "map") ≡ type_name.Map
+unfolding type_name_of kind_of
 word_map = refl
 
-word_fixed : word_of (codes "fixed") ≡ word.Fixed
-unfolding word_of kind_of
+word_fixed : type_name_of (codes "fixed") ≡ type_name.Fixed
+unfolding type_name_of kind_of
 word_fixed = refl
 
-word_enum : word_of (codes "enum") ≡ word.Enum
-unfolding word_of kind_of
+word_enum : type_name_of (codes "enum") ≡ type_name.Enum
+unfolding type_name_of kind_of
 word_enum = refl
 
-word_record : word_of (codes "record") ≡ word.Record
-unfolding word_of kind_of
+word_record : type_name_of (codes "record") ≡ type_name.Record
+unfolding type_name_of kind_of
 word_record = refl
 
 -- ---- defaults and orders
@@ -265,42 +265,42 @@ past_type q name extra other = past_put q (codes "type") (string name) extra oth
 abbrev pub primitive_members : Kind → Members → Members
 primitive_members kind extra = Typed (kind_text kind) extra
 
-pub primitive_says : (kind : Kind) (extra : Members) → Says (primitive_members kind extra) (word.Primitive kind)
-primitive_says kind extra = typed (word.Primitive kind) (kind_text kind) (primitive_members kind extra) (word_is_kind kind) (type_found (kind_text kind) extra)
+pub primitive_says : (kind : Kind) (extra : Members) → HasTypeName (primitive_members kind extra) (type_name.Primitive kind)
+primitive_says kind extra = typed (type_name.Primitive kind) (kind_text kind) (primitive_members kind extra) (word_is_kind kind) (type_found (kind_text kind) extra)
 
-pub primitive_others : (kind : Kind) (ms extra : Members) → Others (codes "type" ∷ []) ms extra → Others (codes "type" ∷ []) (primitive_members kind extra) extra
+pub primitive_others : (kind : Kind) (ms extra : Members) → IsExtra (codes "type" ∷ []) ms extra → IsExtra (codes "type" ∷ []) (primitive_members kind extra) extra
 primitive_others kind ms extra o = others_again (codes "type" ∷ []) ms extra (primitive_members kind extra) o (less_type (codes "type" ∷ []) (kind_text kind) extra refl)
 
 abbrev pub array_members : Data → Members → Members
 array_members items extra = put (codes "items") items (Typed (codes "array") extra)
 
-pub array_says : (items : Data) (extra : Members) → Says (array_members items extra) word.Array
+pub array_says : (items : Data) (extra : Members) → HasTypeName (array_members items extra) type_name.Array
 array_says items extra =
-    typed word.Array (codes "array") (array_members items extra) word_array (past_put (codes "type") (codes "items") items (Typed (codes "array") extra) refl ∙ type_found (codes "array") extra)
+    typed type_name.Array (codes "array") (array_members items extra) word_array (past_put (codes "type") (codes "items") items (Typed (codes "array") extra) refl ∙ type_found (codes "array") extra)
 
 pub array_items : (items : Data) (extra : Members) → get_member (codes "items") (array_members items extra) ≡ Some items
 array_items items extra = get_member-put (codes "items") items (Typed (codes "array") extra)
 
-pub array_others : (items : Data) (ms extra : Members) → Others array_keys ms extra → Others array_keys (array_members items extra) extra
+pub array_others : (items : Data) (ms extra : Members) → IsExtra array_keys ms extra → IsExtra array_keys (array_members items extra) extra
 array_others items ms extra o =
     others_again array_keys ms extra (array_members items extra) o (without-put array_keys (codes "items") items (Typed (codes "array") extra) refl ∙ less_type array_keys (codes "array") extra refl)
 
 abbrev pub map_members : Data → Members → Members
 map_members values extra = Typed (codes "map") (put (codes "values") values extra)
 
-pub map_says : (values : Data) (extra : Members) → Says (map_members values extra) word.Map
-map_says values extra = typed word.Map (codes "map") (map_members values extra) word_map (type_found (codes "map") (put (codes "values") values extra))
+pub map_says : (values : Data) (extra : Members) → HasTypeName (map_members values extra) type_name.Map
+map_says values extra = typed type_name.Map (codes "map") (map_members values extra) word_map (type_found (codes "map") (put (codes "values") values extra))
 
 pub map_values : (values : Data) (extra : Members) → get_member (codes "values") (map_members values extra) ≡ Some values
 map_values values extra = past_type (codes "values") (codes "map") (put (codes "values") values extra) refl ∙ get_member-put (codes "values") values extra
 
-pub map_others : (values : Data) (ms extra : Members) → Others map_keys ms extra → Others map_keys (map_members values extra) extra
+pub map_others : (values : Data) (ms extra : Members) → IsExtra map_keys ms extra → IsExtra map_keys (map_members values extra) extra
 map_others values ms extra o =
     others_again map_keys ms extra (map_members values extra) o (less_type map_keys (codes "map") (put (codes "values") values extra) refl ∙ without-put map_keys (codes "values") values extra refl)
 
 -- ---- fixed
 
-module _ (space : List ℕ) (known : Known) (named : NamedView) (size : ℕ) (ms extra : Members) (good : is_space space ≡ true) (n : IsNamed space ms known named) (o : Others fixed_keys ms extra) where
+module _ (space : List ℕ) (known : Known) (named : NamedView) (size : ℕ) (ms extra : Members) (good : is_namespace space ≡ true) (n : IsNamed space ms known named) (o : IsExtra fixed_keys ms extra) where
   abbrev fixed_inner : Members
   fixed_inner = put (codes "size") (number (unsigned size)) (Typed (codes "fixed") extra)
 
@@ -316,9 +316,9 @@ module _ (space : List ℕ) (known : Known) (named : NamedView) (size : ℕ) (ms
   fixed_lacks : (q : List ℕ) → bytes_eq q (codes "size") ≡ false → bytes_eq q (codes "type") ≡ false → is_among fixed_keys q ≡ true → get_member q fixed_inner ≡ None
   fixed_lacks q a b among = past_put q (codes "size") (number (unsigned size)) (Typed (codes "fixed") extra) a ∙ past_type q (codes "fixed") extra b ∙ others_lack fixed_keys q ms extra o among
 
-  pub fixed_says : Says fixed_members word.Fixed
+  pub fixed_says : HasTypeName fixed_members type_name.Fixed
   fixed_says =
-      typed word.Fixed (codes "fixed") fixed_members word_fixed
+      typed type_name.Fixed (codes "fixed") fixed_members word_fixed
       (fixed_past (codes "type") refl refl ∙ past_namespace (codes "type") space named.name fixed_inner refl ∙ past_put (codes "type") (codes "size") (number (unsigned size)) (Typed (codes "fixed") extra) refl ∙ type_found (codes "fixed") extra)
 
   pub fixed_titled : get_member (codes "name") fixed_members ≡ Some (string named.name)
@@ -337,7 +337,7 @@ module _ (space : List ℕ) (known : Known) (named : NamedView) (size : ℕ) (ms
   pub fixed_size : get_member (codes "size") fixed_members ≡ Some (number (unsigned size))
   fixed_size = fixed_past (codes "size") refl refl ∙ past_namespace (codes "size") space named.name fixed_inner refl ∙ get_member-put (codes "size") (number (unsigned size)) (Typed (codes "fixed") extra)
 
-  pub fixed_others : Others fixed_keys fixed_members extra
+  pub fixed_others : IsExtra fixed_keys fixed_members extra
   fixed_others =
       others_again fixed_keys ms extra fixed_members o
       (less_aliases fixed_keys named.aliases (with_text (codes "name") named.name fixed_named) refl ∙ without-put fixed_keys (codes "name") (string named.name) fixed_named refl ∙ less_namespace fixed_keys space named.name fixed_inner refl
@@ -352,7 +352,7 @@ size_again o size e =
 
 -- ---- enums
 
-module _ (space : List ℕ) (known : Known) (named : NamedView) (symbols : List (List ℕ)) (fallback : Option (List ℕ)) (ms extra : Members) (good : is_space space ≡ true) (n : IsNamed space ms known named) (o : Others enum_keys ms extra) where
+module _ (space : List ℕ) (known : Known) (named : NamedView) (symbols : List (List ℕ)) (fallback : Option (List ℕ)) (ms extra : Members) (good : is_namespace space ≡ true) (n : IsNamed space ms known named) (o : IsExtra enum_keys ms extra) where
   abbrev enum_inner : Members
   enum_inner = put (codes "symbols") (json.array (texts symbols)) (Typed (codes "enum") extra)
 
@@ -377,9 +377,9 @@ module _ (space : List ℕ) (known : Known) (named : NamedView) (symbols : List 
   enum_lacks : (q : List ℕ) → bytes_eq q (codes "symbols") ≡ false → bytes_eq q (codes "type") ≡ false → is_among enum_keys q ≡ true → get_member q enum_inner ≡ None
   enum_lacks q a b among = past_put q (codes "symbols") (json.array (texts symbols)) (Typed (codes "enum") extra) a ∙ past_type q (codes "enum") extra b ∙ others_lack enum_keys q ms extra o among
 
-  pub enum_says : Says enum_members word.Enum
+  pub enum_says : HasTypeName enum_members type_name.Enum
   enum_says =
-      typed word.Enum (codes "enum") enum_members word_enum
+      typed type_name.Enum (codes "enum") enum_members word_enum
       (enum_past (codes "type") refl refl ∙ enum_within (codes "type") refl refl ∙ past_put (codes "type") (codes "symbols") (json.array (texts symbols)) (Typed (codes "enum") extra) refl ∙ type_found (codes "enum") extra)
 
   pub enum_titled : get_member (codes "name") enum_members ≡ Some (string named.name)
@@ -412,7 +412,7 @@ module _ (space : List ℕ) (known : Known) (named : NamedView) (symbols : List 
     fallback_is = ap (fallback_in symbols) enum_default ∙ fallback_again symbols (get_member (codes "default") ms) fallback e.fallback_is;
   }
 
-  pub enum_others : Others enum_keys enum_members extra
+  pub enum_others : IsExtra enum_keys enum_members extra
   enum_others =
       others_again enum_keys ms extra enum_members o
       (less_aliases enum_keys named.aliases enum_chosen refl ∙ less_default enum_keys (option_map string fallback) enum_called refl ∙ without-put enum_keys (codes "name") (string named.name) enum_named refl
@@ -420,7 +420,7 @@ module _ (space : List ℕ) (known : Known) (named : NamedView) (symbols : List 
 
 -- ---- records
 
-module _ (space : List ℕ) (known : Known) (named : NamedView) (fields : Items) (ms extra : Members) (good : is_space space ≡ true) (n : IsNamed space ms known named) (o : Others record_keys ms extra) where
+module _ (space : List ℕ) (known : Known) (named : NamedView) (fields : Items) (ms extra : Members) (good : is_namespace space ≡ true) (n : IsNamed space ms known named) (o : IsExtra record_keys ms extra) where
   abbrev record_inner : Members
   record_inner = Typed (codes "record") extra
 
@@ -445,8 +445,8 @@ module _ (space : List ℕ) (known : Known) (named : NamedView) (fields : Items)
   record_lacks : (q : List ℕ) → bytes_eq q (codes "type") ≡ false → is_among record_keys q ≡ true → get_member q record_inner ≡ None
   record_lacks q b among = past_type q (codes "record") extra b ∙ others_lack record_keys q ms extra o among
 
-  pub record_says : Says record_members word.Record
-  record_says = typed word.Record (codes "record") record_members word_record (record_past (codes "type") refl refl ∙ record_within (codes "type") refl refl ∙ type_found (codes "record") extra)
+  pub record_says : HasTypeName record_members type_name.Record
+  record_says = typed type_name.Record (codes "record") record_members word_record (record_past (codes "type") refl refl ∙ record_within (codes "type") refl refl ∙ type_found (codes "record") extra)
 
   pub record_titled : get_member (codes "name") record_members ≡ Some (string named.name)
   record_titled = record_past (codes "name") refl refl ∙ get_member-put (codes "name") (string named.name) record_named
@@ -468,7 +468,7 @@ module _ (space : List ℕ) (known : Known) (named : NamedView) (fields : Items)
   pub record_fields : array_in (codes "fields") record_members ≡ Some fields
   record_fields = items_found (codes "fields") fields record_members record_held
 
-  pub record_others : Others record_keys record_members extra
+  pub record_others : IsExtra record_keys record_members extra
   record_others =
       others_again record_keys ms extra record_members o
       (less_aliases record_keys named.aliases record_filled refl ∙ without-put record_keys (codes "fields") (json.array fields) record_called refl ∙ without-put record_keys (codes "name") (string named.name) record_named refl

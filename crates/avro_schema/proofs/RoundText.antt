@@ -6,7 +6,7 @@ use Rattle.avro_nodes.proofs.Reread.{read-identity}
 use Rattle.avro_nodes.proofs.Tidy.{tidy_nodes_whole}
 use Rattle.avro_nodes.proofs.TidyRead.{tidy_read}
 use Rattle.avro_nodes.proofs.Unchanged.{plain-identity}
-use Rattle.avro_schema.specs.Texts.{TextDenotes, IsSchema, Keeps}
+use Rattle.avro_schema.specs.Texts.{TextDenotes, IsSchema, SchemaInvariant}
 use Rattle.avro_schema.proofs.Passing.{denoted_nest, denoted_tidy}
 use Rattle.avro_schema.proofs.RoundTrip.{identity_denotes}
 use Rattle.avro_schema.proofs.TextLemmas.{one_schema}
@@ -28,12 +28,12 @@ identity_text_denotes nodes (text, t) =
     }
 
 -- the text that a schema keeps denotes it
-pub kept_denotes : (nodes : List NodeView) (text : List ℕ) → Keeps nodes text → TextDenotes text nodes
+pub kept_denotes : (nodes : List NodeView) (text : List ℕ) → SchemaInvariant nodes text → TextDenotes text nodes
 kept_denotes nodes text k = rw k.text_is (identity_text_denotes nodes k.schema)
 
 -- schemas with one identity text are one
-pub same_kept : (xs ys : List NodeView) (s t : List ℕ) → Keeps xs s → Keeps ys t → s ≡ t → xs ≡ ys
+pub same_kept : (xs ys : List NodeView) (s t : List ℕ) → SchemaInvariant xs s → SchemaInvariant ys t → s ≡ t → xs ≡ ys
 same_kept xs ys s t k l e = one_schema t xs ys (subst (λ (x : List ℕ). TextDenotes x xs) e (kept_denotes xs s k)) (kept_denotes ys t l)
 
-pub kept_same : (xs ys : List NodeView) (s t : List ℕ) → Keeps xs s → Keeps ys t → xs ≡ ys → s ≡ t
+pub kept_same : (xs ys : List NodeView) (s t : List ℕ) → SchemaInvariant xs s → SchemaInvariant ys t → xs ≡ ys → s ≡ t
 kept_same xs ys s t k l e = k.text_is ∙ ap identity e ∙ sym l.text_is

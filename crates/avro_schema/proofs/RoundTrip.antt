@@ -10,17 +10,17 @@ use Rattle.avro_nodes.specs.Limits.{max_nesting, max_places}
 use Rattle.avro_nodes.specs.declared.node.Kind.{Kind}
 use Rattle.avro_nodes.specs.Names.{namespace_of}
 use Rattle.avro_nodes.specs.Nodes.{NamedView, FieldView, NodeView, primitive, array, mapping, union, enumeration, fixed, rec}
-use Rattle.avro_nodes.specs.Identity.{primitive_value, array_value, map_value, enum_value, fixed_value, record_value, field_value, kind_text, Spelt, then_items, branch_items, field_items, name_of, spelt_node, spelt_at, identity, identity_value}
+use Rattle.avro_nodes.specs.Identity.{primitive_value, array_value, map_value, enum_value, fixed_value, record_value, field_value, kind_text, Counted, then_items, branch_items, field_items, name_of, node_value, identity_at, identity, identity_value}
 use Rattle.avro_nodes.proofs.Lengths.{data_size, items_size, text_long}
 use Rattle.avro_nodes.proofs.Spelling.{at_suc, again_suc}
-use Rattle.avro_schema.specs.declared.words.Word.TheVariants as word
-use Rattle.avro_schema.specs.Names.{Known, none_known, is_space, defined, resolved}
-use Rattle.avro_schema.specs.Words.{kind_of, word_of, kind_or_other}
+use Rattle.avro_schema.specs.declared.keywords.TypeName.TheVariants as type_name
+use Rattle.avro_schema.specs.Names.{Known, none_known, is_namespace, defined, resolved}
+use Rattle.avro_schema.specs.Keywords.{kind_of, type_name_of, kind_or_other}
 use Rattle.avro_schema.specs.Attributes.{size_of}
 use Rattle.avro_schema.specs.Inside.Weight.{names_size}
 use Rattle.avro_schema.specs.Inside.Mentions.{mention, places_mentions, fields_mentions, mentions}
 use Rattle.avro_schema.specs.Kinds.{BranchKind, branch_kind}
-use Rattle.avro_schema.specs.Denotes.{Others, IsNamed, IsEnum, IsField, Denotes, a_primitive, a_reference, primitive_type, reference_type, array_type, map_type, fixed_type, enum_type, record_type, union_type}
+use Rattle.avro_schema.specs.Denotes.{IsExtra, IsNamed, IsEnum, IsField, Denotes, a_primitive, a_reference, primitive_type, reference_type, array_type, map_type, fixed_type, enum_type, record_type, union_type}
 use Rattle.avro_schema.specs.Denotes.{Branches, no_branch, branch, Fields, no_field, field, array_keys, map_keys, fixed_keys, enum_keys, record_keys, AllDiffer}
 use Rattle.avro_schema.proofs.Inversion.{same_bytes}
 use Rattle.avro_schema.proofs.RoundNames.{kind_again, refers, good_namespace}
@@ -35,7 +35,7 @@ pub record Knows (all : List NodeView) (first : ℕ) (known : Known) : Type 0 wh
 -- what is written for a place: the value gives the same place, nodes and names again
 pub record Trip (n : ℕ) (all : List NodeView) (space : List ℕ) (known : Known) (first place : ℕ) (nodes : List NodeView) (known2 : Known) : Type 0 where
   pub value : Data
-  pub spelt : spelt_at n all space place first ≡ (value, first + length nodes)
+  pub spelt : identity_at n all space place first ≡ (value, first + length nodes)
   pub again : Denotes n space value known first place nodes known2
   pub knows : Knows all (first + length nodes) known2
   pub within : place ≤ first
@@ -44,7 +44,7 @@ pub record Trip (n : ℕ) (all : List NodeView) (space : List ℕ) (known : Know
 
 pub record BranchesTrip (n : ℕ) (all : List NodeView) (space : List ℕ) (known : Known) (first : ℕ) (branches : List (ℕ × BranchKind)) (nodes : List NodeView) (known2 : Known) : Type 0 where
   pub value : Items
-  pub spelt : branch_items (spelt_at n all space) (map (λ b. b.0) branches) first ≡ (value, first + length nodes)
+  pub spelt : branch_items (identity_at n all space) (map (λ b. b.0) branches) first ≡ (value, first + length nodes)
   pub again : Branches n space value known first branches nodes known2
   pub knows : Knows all (first + length nodes) known2
   pub bound : names_size nodes ≤ items_size value
@@ -52,7 +52,7 @@ pub record BranchesTrip (n : ℕ) (all : List NodeView) (space : List ℕ) (know
 
 pub record FieldsTrip (n : ℕ) (all : List NodeView) (space : List ℕ) (known : Known) (first : ℕ) (fields : List FieldView) (nodes : List NodeView) (known2 : Known) : Type 0 where
   pub value : Items
-  pub spelt : field_items (spelt_at n all space) fields first ≡ (value, first + length nodes)
+  pub spelt : field_items (identity_at n all space) fields first ≡ (value, first + length nodes)
   pub again : Fields n space value known first fields nodes known2
   pub knows : Knows all (first + length nodes) known2
   pub bound : names_size nodes ≤ items_size value
@@ -98,8 +98,8 @@ mention_is all place = refl
 
 module _ (m : ℕ) (all before after : List NodeView) (space : List ℕ) (known : Known) (first : ℕ) (first_is : first ≡ length before) (k : Knows all first known) where
   -- a node that is written whole
-  first_time : (node : NodeView) (rest : List NodeView) → all ≡ before ++ node ∷ rest → spelt_at (suc m) all space first first ≡ spelt_node (spelt_at m all) space first (Some node)
-  first_time node rest all_is = at_suc (suc m) all space first first m refl ∙ ap (spelt_node (spelt_at m all) space first) (at_first all before rest node first all_is first_is)
+  first_time : (node : NodeView) (rest : List NodeView) → all ≡ before ++ node ∷ rest → identity_at (suc m) all space first first ≡ node_value (identity_at m all) space first (Some node)
+  first_time node rest all_is = at_suc (suc m) all space first first m refl ∙ ap (node_value (identity_at m all) space first) (at_first all before rest node first all_is first_is)
 
   named_at : (node : NodeView) (rest : List NodeView) → all ≡ before ++ node ∷ rest → mention all first ≡ length (name_of (Some node))
   named_at node rest all_is = mention_is all first ∙ ap (λ (o : Option NodeView). length (name_of o)) (at_first all before rest node first all_is first_is)
@@ -115,7 +115,7 @@ module _ (m : ℕ) (all before after : List NodeView) (space : List ℕ) (known 
     mentioned = omega (arith, named_at (primitive kind no_members) after all_is);
   }
 
-  primitive_trip : (kind : Kind) (ms extra : Members) → Others (codes "type" ∷ []) ms extra → first < max_places → all ≡ before ++ primitive kind extra ∷ after → Trip (suc m) all space known first first (primitive kind extra ∷ []) known
+  primitive_trip : (kind : Kind) (ms extra : Members) → IsExtra (codes "type" ∷ []) ms extra → first < max_places → all ≡ before ++ primitive kind extra ∷ after → Trip (suc m) all space known first first (primitive kind extra ∷ []) known
   primitive_trip kind ms no_members o room all_is = plain_trip kind room all_is
   primitive_trip kind ms (member l d extra) o room all_is = record {
     value = primitive_value kind (member l d extra);
@@ -143,13 +143,13 @@ module _ (m : ℕ) (all before after : List NodeView) (space : List ℕ) (known 
         mentioned = omega (arith, mention_is all place, ap length at.1);
       }
 
-  array_trip : (ms extra : Members) (place : ℕ) (nodes : List NodeView) (known2 : Known) → Others array_keys ms extra → first < max_places → Trip m all space known (first + 1) place nodes known2
+  array_trip : (ms extra : Members) (place : ℕ) (nodes : List NodeView) (known2 : Known) → IsExtra array_keys ms extra → first < max_places → Trip m all space known (first + 1) place nodes known2
       → all ≡ before ++ array place extra ∷ (nodes ++ after) → Trip (suc m) all space known first first (array place extra ∷ nodes) known2
   array_trip ms extra place nodes known2 o room t all_is =
       let sum : first + 1 + length nodes ≡ first + suc (length nodes) = omega arith in
       record {
         value = array_value t.value extra;
-        spelt = first_time (array place extra) (nodes ++ after) all_is ∙ ap (λ (x : Spelt Data). (array_value x.0 extra, x.1)) t.spelt ∙ ap (λ (w : ℕ). (array_value t.value extra, w)) sum;
+        spelt = first_time (array place extra) (nodes ++ after) all_is ∙ ap (λ (x : Counted Data). (array_value x.0 extra, x.1)) t.spelt ∙ ap (λ (w : ℕ). (array_value t.value extra, w)) sum;
         again = array_type (array_says t.value extra) (array_items t.value extra) (array_others t.value ms extra o) room t.again;
         knows = subst (λ (w : ℕ). Knows all w known2) sum t.knows;
         within = omega arith;
@@ -157,13 +157,13 @@ module _ (m : ℕ) (all before after : List NodeView) (space : List ℕ) (known 
         mentioned = omega (arith, t.mentioned, named_at (array place extra) (nodes ++ after) all_is, one_found (codes "items") t.value (array_members t.value extra) (array_items t.value extra));
       }
 
-  map_trip : (ms extra : Members) (place : ℕ) (nodes : List NodeView) (known2 : Known) → Others map_keys ms extra → first < max_places → Trip m all space known (first + 1) place nodes known2
+  map_trip : (ms extra : Members) (place : ℕ) (nodes : List NodeView) (known2 : Known) → IsExtra map_keys ms extra → first < max_places → Trip m all space known (first + 1) place nodes known2
       → all ≡ before ++ mapping place extra ∷ (nodes ++ after) → Trip (suc m) all space known first first (mapping place extra ∷ nodes) known2
   map_trip ms extra place nodes known2 o room t all_is =
       let sum : first + 1 + length nodes ≡ first + suc (length nodes) = omega arith in
       record {
         value = map_value t.value extra;
-        spelt = first_time (mapping place extra) (nodes ++ after) all_is ∙ ap (λ (x : Spelt Data). (map_value x.0 extra, x.1)) t.spelt ∙ ap (λ (w : ℕ). (map_value t.value extra, w)) sum;
+        spelt = first_time (mapping place extra) (nodes ++ after) all_is ∙ ap (λ (x : Counted Data). (map_value x.0 extra, x.1)) t.spelt ∙ ap (λ (w : ℕ). (map_value t.value extra, w)) sum;
         again = map_type (map_says t.value extra) (map_values t.value extra) (map_others t.value ms extra o) room t.again;
         knows = subst (λ (w : ℕ). Knows all w known2) sum t.knows;
         within = omega arith;
@@ -177,7 +177,7 @@ module _ (m : ℕ) (all before after : List NodeView) (space : List ℕ) (known 
       let sum : first + 1 + length nodes ≡ first + suc (length nodes) = omega arith in
       record {
         value = json.array t.value;
-        spelt = first_time (union (map (λ b. b.0) branches)) (nodes ++ after) all_is ∙ ap (λ (x : Spelt Items). (json.array x.0, x.1)) t.spelt ∙ ap (λ (w : ℕ). (json.array t.value, w)) sum;
+        spelt = first_time (union (map (λ b. b.0) branches)) (nodes ++ after) all_is ∙ ap (λ (x : Counted Items). (json.array x.0, x.1)) t.spelt ∙ ap (λ (w : ℕ). (json.array t.value, w)) sum;
         again = union_type room t.again d;
         knows = subst (λ (w : ℕ). Knows all w known2) sum t.knows;
         within = omega arith;
@@ -185,8 +185,8 @@ module _ (m : ℕ) (all before after : List NodeView) (space : List ℕ) (known 
         mentioned = omega (arith, t.mentioned, named_at (union (map (λ b. b.0) branches)) (nodes ++ after) all_is);
       }
 
-  module _ (good : is_space space ≡ true) where
-    fixed_trip : (ms extra : Members) (named : NamedView) (size : ℕ) → IsNamed space ms known named → size_of (get_member (codes "size") ms) ≡ Some size → Others fixed_keys ms extra → first < max_places
+  module _ (good : is_namespace space ≡ true) where
+    fixed_trip : (ms extra : Members) (named : NamedView) (size : ℕ) → IsNamed space ms known named → size_of (get_member (codes "size") ms) ≡ Some size → IsExtra fixed_keys ms extra → first < max_places
         → all ≡ before ++ fixed named size extra ∷ after → Trip (suc m) all space known first first (fixed named size extra ∷ []) (defined known named.name first)
     fixed_trip ms extra named size n z o room all_is =
         let held = named_found named (fixed_members space known named size ms extra good n o) (fixed_titled space known named size ms extra good n o) (fixed_listed space known named size ms extra good n o) in
@@ -201,7 +201,7 @@ module _ (m : ℕ) (all before after : List NodeView) (space : List ℕ) (known 
           mentioned = omega (arith, named_at (fixed named size extra) after all_is, held);
         }
 
-    enum_trip : (ms extra : Members) (named : NamedView) (symbols : List (List ℕ)) (fallback : Option (List ℕ)) → IsNamed space ms known named → IsEnum ms symbols fallback → Others enum_keys ms extra → first < max_places
+    enum_trip : (ms extra : Members) (named : NamedView) (symbols : List (List ℕ)) (fallback : Option (List ℕ)) → IsNamed space ms known named → IsEnum ms symbols fallback → IsExtra enum_keys ms extra → first < max_places
         → all ≡ before ++ enumeration named symbols fallback extra ∷ after → Trip (suc m) all space known first first (enumeration named symbols fallback extra ∷ []) (defined known named.name first)
     enum_trip ms extra named symbols fallback n e o room all_is =
         let held = named_found named (enum_members space known named symbols fallback ms extra good n o) (enum_titled space known named symbols fallback ms extra good n o) (enum_listed space known named symbols fallback ms extra good n o) in
@@ -216,7 +216,7 @@ module _ (m : ℕ) (all before after : List NodeView) (space : List ℕ) (known 
           mentioned = omega (arith, named_at (enumeration named symbols fallback extra) after all_is, held);
         }
 
-    record_trip : (ms extra : Members) (named : NamedView) (fields : List FieldView) (nodes : List NodeView) (known2 : Known) → IsNamed space ms known named → Others record_keys ms extra → first < max_places → AllDiffer (map (λ f. f.name) fields)
+    record_trip : (ms extra : Members) (named : NamedView) (fields : List FieldView) (nodes : List NodeView) (known2 : Known) → IsNamed space ms known named → IsExtra record_keys ms extra → first < max_places → AllDiffer (map (λ f. f.name) fields)
         → FieldsTrip m all (namespace_of named.name) (defined known named.name first) (first + 1) fields nodes known2
         → all ≡ before ++ rec named fields extra ∷ (nodes ++ after) → Trip (suc m) all space known first first (rec named fields extra ∷ nodes) known2
     record_trip ms extra named fields nodes known2 n o room d t all_is =
@@ -224,7 +224,7 @@ module _ (m : ℕ) (all before after : List NodeView) (space : List ℕ) (known 
         let held = record_found named (record_members space known named t.value ms extra good n o) (record_titled space known named t.value ms extra good n o) (record_listed space known named t.value ms extra good n o) t.value (record_held space known named t.value ms extra good n o) in
         record {
           value = record_value space named t.value extra;
-          spelt = first_time (rec named fields extra) (nodes ++ after) all_is ∙ ap (λ (x : Spelt Items). (record_value space named x.0 extra, x.1)) t.spelt ∙ ap (λ (w : ℕ). (record_value space named t.value extra, w)) sum;
+          spelt = first_time (rec named fields extra) (nodes ++ after) all_is ∙ ap (λ (x : Counted Items). (record_value space named x.0 extra, x.1)) t.spelt ∙ ap (λ (w : ℕ). (record_value space named t.value extra, w)) sum;
           again = record_type (record_says space known named t.value ms extra good n o) (record_name space known named t.value ms extra good n o) (record_fields space known named t.value ms extra good n o)
               (record_others space known named t.value ms extra good n o) room t.again d;
           knows = subst (λ (w : ℕ). Knows all w known2) sum t.knows;
@@ -235,12 +235,12 @@ module _ (m : ℕ) (all before after : List NodeView) (space : List ℕ) (known 
 
 -- ---- what is no primitive's name
 
-not_primitive : (o : Option Kind) (name : List ℕ) → kind_or_other o name ≡ word.Reference → o ≡ None
+not_primitive : (o : Option Kind) (name : List ℕ) → kind_or_other o name ≡ type_name.Reference → o ≡ None
 not_primitive (Some kind) name e = absurd cc
 not_primitive None name e = refl
 
-no_kind_by : (name : List ℕ) → word_of name ≡ word.Reference → kind_of name ≡ None
-unfolding word_of
+no_kind_by : (name : List ℕ) → type_name_of name ≡ type_name.Reference → kind_of name ≡ None
+unfolding type_name_of
 no_kind_by name e = not_primitive (kind_of name) name e
 
 -- ---- branches and fields
@@ -264,7 +264,7 @@ module _ (m : ℕ) (all : List NodeView) (space : List ℕ) where
       let sum : first + length nodes + length more ≡ first + length (nodes ++ more) = omega (arith, length-append nodes more) in
       record {
         value = item t.value rest.value;
-        spelt = ap (λ (x : Spelt Data). then_items x.0 (branch_items (spelt_at m all space) (map (λ b. b.0) branches) x.1)) t.spelt ∙ ap (then_items t.value) rest.spelt ∙ ap (λ (w : ℕ). (item t.value rest.value, w)) sum;
+        spelt = ap (λ (x : Counted Data). then_items x.0 (branch_items (identity_at m all space) (map (λ b. b.0) branches) x.1)) t.spelt ∙ ap (then_items t.value) rest.spelt ∙ ap (λ (w : ℕ). (item t.value rest.value, w)) sum;
         again = branch t.again is rest.again;
         knows = subst (λ (w : ℕ). Knows all w known3) sum rest.knows;
         bound = omega (arith, t.bound, rest.bound, names_append nodes more);
@@ -289,7 +289,7 @@ module _ (m : ℕ) (all : List NodeView) (space : List ℕ) where
       let sum : first + length nodes + length more ≡ first + length (nodes ++ more) = omega (arith, length-append nodes more) in
       record {
         value = item (field_value f t.value) rest.value;
-        spelt = ap (λ (x : Spelt Data). then_items (field_value f x.0) (field_items (spelt_at m all space) fields x.1)) t.spelt ∙ ap (then_items (field_value f t.value)) rest.spelt
+        spelt = ap (λ (x : Counted Data). then_items (field_value f x.0) (field_items (identity_at m all space) fields x.1)) t.spelt ∙ ap (then_items (field_value f t.value)) rest.spelt
             ∙ ap (λ (w : ℕ). (item (field_value f t.value) rest.value, w)) sum;
         again = field (field_again ms f t.value i) (field_type ms f t.value i) t.again rest.again;
         knows = subst (λ (w : ℕ). Knows all w known3) sum rest.knows;
@@ -301,7 +301,7 @@ module _ (m : ℕ) (all : List NodeView) (space : List ℕ) where
 
 mutual
   trips : {n : ℕ} {space : List ℕ} {d : Data} {known known2 : Known} {first place : ℕ} {nodes : List NodeView} → Denotes n space d known first place nodes known2
-      → (all before after : List NodeView) → all ≡ before ++ (nodes ++ after) → first ≡ length before → Knows all first known → is_space space ≡ true → Trip n all space known first place nodes known2
+      → (all before after : List NodeView) → all ≡ before ++ (nodes ++ after) → first ≡ length before → Knows all first known → is_namespace space ≡ true → Trip n all space known first place nodes known2
   trips (a_primitive {n = n} {space = space} {known = known} {first = first} {kind = kind} e room) all before after all_is first_is k good = plain_trip n all before after space known first first_is k kind room all_is
   trips (a_reference {n = n} {space = space} {name = name} {known = known} {first = first} {place = place} e found) all before after all_is first_is k good = reference_trip n all before after space known first first_is k name place e found
   trips (primitive_type {n = n} {space = space} {ms = ms} {extra = extra} {known = known} {first = first} {kind = kind} s o room) all before after all_is first_is k good =
@@ -332,7 +332,7 @@ mutual
       union_trip n all before after space known first first_is k branches nodes known2 room d t all_is
 
   branches_trip : {n : ℕ} {space : List ℕ} {ds : Items} {known known2 : Known} {first : ℕ} {branches : List (ℕ × BranchKind)} {nodes : List NodeView} → Branches n space ds known first branches nodes known2
-      → (all before after : List NodeView) → all ≡ before ++ (nodes ++ after) → first ≡ length before → Knows all first known → is_space space ≡ true → BranchesTrip n all space known first branches nodes known2
+      → (all before after : List NodeView) → all ≡ before ++ (nodes ++ after) → first ≡ length before → Knows all first known → is_namespace space ≡ true → BranchesTrip n all space known first branches nodes known2
   branches_trip (no_branch {n = n} {space = space} {known = known} {first = first}) all before after all_is first_is k good = no_branches n all space known first k
   branches_trip (branch {n = n} {space = space} {known = known} {known2 = known2} {known3 = known3} {first = first} {place = place} {kind = kind} {branches = branches} {nodes = nodes} {more = more} d is others) all before after all_is first_is k good =
       let parts : all ≡ before ++ (nodes ++ (more ++ after)) = all_is ∙ ap (λ (s : List NodeView). before ++ s) (append_assoc nodes more after) in
@@ -341,7 +341,7 @@ mutual
       branch_more n all space known known2 known3 first place kind branches nodes more is t rest
 
   fields_trip : {n : ℕ} {space : List ℕ} {ds : Items} {known known2 : Known} {first : ℕ} {fields : List FieldView} {nodes : List NodeView} → Fields n space ds known first fields nodes known2
-      → (all before after : List NodeView) → all ≡ before ++ (nodes ++ after) → first ≡ length before → Knows all first known → is_space space ≡ true → FieldsTrip n all space known first fields nodes known2
+      → (all before after : List NodeView) → all ≡ before ++ (nodes ++ after) → first ≡ length before → Knows all first known → is_namespace space ≡ true → FieldsTrip n all space known first fields nodes known2
   fields_trip (no_field {n = n} {space = space} {known = known} {first = first}) all before after all_is first_is k good = no_fields n all space known first k
   fields_trip (field {n = n} {space = space} {ms = ms} {known = known} {known2 = known2} {known3 = known3} {first = first} {f = f} {fields = fields} {nodes = nodes} {more = more} i type d others) all before after all_is first_is k good =
       let parts : all ≡ before ++ (nodes ++ (more ++ after)) = all_is ∙ ap (λ (s : List NodeView). before ++ s) (append_assoc nodes more after) in
@@ -359,8 +359,8 @@ pub identity_denotes : (d : Data) (place : ℕ) (nodes : List NodeView) (known :
 identity_denotes d place nodes known given =
     let t = trips given nodes [] [] (sym (append-nil nodes)) refl (nothing_known nodes 0) refl in
     let root : place ≡ 0 = omega (arith, t.within) in
-    let written : (t.value, 0 + length nodes) ≡ spelt_at max_nesting nodes [] 0 0 = sym (ap (λ (q : ℕ). spelt_at max_nesting nodes [] q 0) (sym root) ∙ t.spelt) in
-    subst (λ (x : Spelt Data). Denotes max_nesting [] x.0 none_known 0 place nodes known) written t.again
+    let written : (t.value, 0 + length nodes) ≡ identity_at max_nesting nodes [] 0 0 = sym (ap (λ (q : ℕ). identity_at max_nesting nodes [] q 0) (sym root) ∙ t.spelt) in
+    subst (λ (x : Counted Data). Denotes max_nesting [] x.0 none_known 0 place nodes known) written t.again
 
 module _ (d : Data) (place : ℕ) (nodes : List NodeView) (known : Known) (given : Denotes max_nesting [] d none_known 0 place nodes known) where
   abbrev root_trip : Trip max_nesting nodes [] none_known 0 place nodes known
@@ -369,7 +369,7 @@ module _ (d : Data) (place : ℕ) (nodes : List NodeView) (known : Known) (given
   value_written : root_trip.value ≡ identity_value nodes
   value_written =
       let root : place ≡ 0 = omega (arith, root_trip.within) in
-      ap (λ (x : Spelt Data). x.0) (sym (ap (λ (q : ℕ). spelt_at max_nesting nodes [] q 0) (sym root) ∙ root_trip.spelt))
+      ap (λ (x : Counted Data). x.0) (sym (ap (λ (q : ℕ). identity_at max_nesting nodes [] q 0) (sym root) ∙ root_trip.spelt))
 
   -- the identity text holds each full name and each full alias
   pub names_bounded : names_size nodes ≤ length (identity nodes)

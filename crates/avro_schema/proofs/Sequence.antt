@@ -6,8 +6,8 @@ use Rattle.avro_nodes.specs.declared.node.Node.{Node}
 use Rattle.avro_nodes.specs.Nodes.{NodeView, node_view, nodes_view}
 use Rattle.avro_schema.specs.Names.{Known}
 use Rattle.avro_schema.specs.Attributes.{◌>>=◌}
-use Rattle.avro_schema.specs.Inside.ValueReaders.{Part, Reader, parts_of}
-use Rattle.avro_schema.specs.Inside.ReaderAnswers.{Fails, Adds}
+use Rattle.avro_schema.specs.Inside.ValueReaders.{Part, PartReader, parts_of}
+use Rattle.avro_schema.specs.Inside.ReaderResults.{Fails, AddsPart}
 use Rattle.avro_schema.specs.declared.error.SchemaError.{SchemaError}
 use Rattle.avro_schema.proofs.ReaderErrors.{fails_from}
 
@@ -30,7 +30,7 @@ one_onto x new (Some p) = refl
 onto_nothing : {A : Type 0} (done : List A) (added : List NodeView) (known : Known) → onto done added (Some (record { it = []; nodes = []; known = known })) ≡ Some (record { it = done; nodes = added; known = known })
 onto_nothing {A = A} done added known = ap₂ (λ (it : List A) (nodes : List NodeView). Some (record { it = it; nodes = nodes; known = known })) (append-nil done) (append-nil added)
 
-module _ {A : Type 0} (one : Reader A) where
+module _ {A : Type 0} (one : PartReader A) where
   -- a loop that has read these, and goes on with the rest
   pub record Going (all : Items) (known0 : Known) (first : ℕ) (before : List NodeView) (done : List A) (nodes : List NodeView) (known : Known) (at : ℕ) (rest : Items) : Type 0 where
     pub added : List NodeView
@@ -55,7 +55,7 @@ module _ {A : Type 0} (one : Reader A) where
   over_is known at = refl
 
   pub goes_on : (all : Items) (known0 : Known) (first : ℕ) (before : List NodeView) (done : List A) (nodes nodes2 : List NodeView) (known known2 : Known) (at at2 : ℕ) (d : Data) (rest : Items) (x : A)
-      → Going all known0 first before done nodes known at (item d rest) → Adds (one d known at) x nodes nodes2 known2 → at2 ≡ length nodes2 → at ≡ length nodes
+      → Going all known0 first before done nodes known at (item d rest) → AddsPart (one d known at) x nodes nodes2 known2 → at2 ≡ length nodes2 → at ≡ length nodes
       → Going all known0 first before (done ++ x ∷ []) nodes2 known2 at2 rest
   goes_on all known0 first before done nodes nodes2 known known2 at at2 d rest x so_far new at2_is at_is =
       let longer : length nodes2 ≡ length nodes + length new.added = ap length new.after_is ∙ length-append nodes new.added in
@@ -74,7 +74,7 @@ module _ {A : Type 0} (one : Reader A) where
       fails_from e (one d known at) (parts_of one all known0 first) (λ none. so_far.is ∙ ap (onto done so_far.added) (step_fails d rest known at none)) f
 
   pub is_over : (all : Items) (known0 : Known) (first : ℕ) (before : List NodeView) (done : List A) (nodes : List NodeView) (known : Known) (at : ℕ)
-      → Going all known0 first before done nodes known at no_items → Adds (parts_of one all known0 first) done before nodes known
+      → Going all known0 first before done nodes known at no_items → AddsPart (parts_of one all known0 first) done before nodes known
   is_over all known0 first before done nodes known at so_far =
       record { added = so_far.added; is = so_far.is ∙ ap (onto done so_far.added) (over_is known at) ∙ onto_nothing done so_far.added known; after_is = so_far.nodes_are }
 

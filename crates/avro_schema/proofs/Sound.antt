@@ -9,21 +9,21 @@ use Rattle.serde_json.specs.Find.{get_member, as_object}
 use Rattle.avro_nodes.specs.Limits.{max_nesting}
 use Rattle.avro_nodes.specs.declared.node.Kind.{Kind}
 use Rattle.avro_nodes.specs.Nodes.{NamedView, FieldView, primitive, array, mapping, union, enumeration, fixed, rec}
-use Rattle.avro_schema.specs.declared.words.Word.{Word}
-use Rattle.avro_schema.specs.declared.words.Word.TheVariants as word
-use Rattle.avro_schema.specs.declared.words.Container.TheVariants as container
+use Rattle.avro_schema.specs.declared.keywords.TypeName.{TypeName}
+use Rattle.avro_schema.specs.declared.keywords.TypeName.TheVariants as type_name
+use Rattle.avro_schema.specs.declared.keywords.Container.TheVariants as container
 use Rattle.avro_schema.specs.Names.{Known, is_simple, allowed, full_name, alias_in, defined, resolved}
 use Rattle.avro_nodes.specs.Names.{namespace_of, last_part}
-use Rattle.avro_schema.specs.Words.{kind_of, word_of}
+use Rattle.avro_schema.specs.Keywords.{kind_of, type_name_of}
 use Rattle.avro_schema.specs.Attributes.{◌>>=◌, without_all, text_in, array_in, text_if_any, texts_in, texts_if_any, size_of, fallback_in, order_in}
 use Rattle.avro_schema.specs.Inside.Distinct.{all_differ}
-use Rattle.avro_schema.specs.Inside.Declarations.{naming, if_new, new_name, named_in, symbols_in, enum_at, fixed_at, LabelView, label_in, labelling, bounded, bounded_value}
+use Rattle.avro_schema.specs.Inside.Declarations.{name_keys, if_new, new_name, named_in, symbols_in, enum_at, fixed_at, FieldAttributesView, field_attributes_in, field_attribute_keys, bounded, bounded_value}
 use Rattle.avro_schema.specs.Inside.ValueReaders.{Part, parts_of, room_at}
 use Rattle.avro_schema.specs.Kinds.{BranchKind}
 use Rattle.avro_schema.specs.Inside.KindNumbers.{branch_number}
 use Rattle.avro_schema.proofs.KindLemmas.{numbered, same_places, kinds_differ, kind_of_number}
-use Rattle.avro_schema.specs.Inside.Types.{reference_to, primitive_at, kind_or_reference, name_at, container_at, branch_of, union_at, field_at, field_of, record_at, by_word, object_at, type_at}
-use Rattle.avro_schema.specs.Denotes.{Others, IsNamed, IsEnum, IsField, Says, Denotes, a_primitive, a_reference, primitive_type, reference_type, array_type, map_type, fixed_type, enum_type, record_type, union_type}
+use Rattle.avro_schema.specs.Inside.Types.{reference_to, primitive_at, kind_or_reference, name_at, container_at, branch_of, union_at, field_at, field_of, record_at, by_type_name, object_at, type_at}
+use Rattle.avro_schema.specs.Denotes.{IsExtra, IsNamed, IsEnum, IsField, HasTypeName, Denotes, a_primitive, a_reference, primitive_type, reference_type, array_type, map_type, fixed_type, enum_type, record_type, union_type}
 use Rattle.avro_schema.specs.Denotes.{array_keys, map_keys, fixed_keys, enum_keys, record_keys, Branches, no_branch, branch, Fields, no_field, field, AllDiffer}
 use Rattle.avro_schema.proofs.Inversion.{bind_some, bind2, bind3, bind4, bind5, guard_some, guard_none, map_some, room_is, get_past, text_past, items_past, text_if_any_past, texts_differ, numbers_differ}
 
@@ -34,7 +34,7 @@ bound_is ms extra e =
     let same : ms ≡ extra = same_Some _ _ g.1 in
     (sym same, subst (λ (x : Members). members_depth x ≤ max_nesting) same (leb-true (members_depth ms) max_nesting g.0))
 
-others_are : (keys : List (List ℕ)) (ms extra : Members) → bounded (without_all keys ms) ≡ Some extra → Others keys ms extra
+others_are : (keys : List (List ℕ)) (ms extra : Members) → bounded (without_all keys ms) ≡ Some extra → IsExtra keys ms extra
 others_are keys ms extra e = let b = bound_is (without_all keys ms) extra e in record { are = b.0; shallow = b.1 }
 
 -- ---- names
@@ -87,16 +87,16 @@ named_is space ms known named e =
 
 -- ---- enums and fixed
 
-enum_is : (ms : Members) (symbols : List (List ℕ)) (fallback : Option (List ℕ)) → symbols_in (without_all naming (inside ms)) ≡ Some symbols
-    → fallback_in symbols (get_member (codes "default") (without_all (codes "symbols" ∷ []) (without_all naming (inside ms)))) ≡ Some fallback → IsEnum ms symbols fallback
+enum_is : (ms : Members) (symbols : List (List ℕ)) (fallback : Option (List ℕ)) → symbols_in (without_all name_keys (inside ms)) ≡ Some symbols
+    → fallback_in symbols (get_member (codes "default") (without_all (codes "symbols" ∷ []) (without_all name_keys (inside ms)))) ≡ Some fallback → IsEnum ms symbols fallback
 unfolding symbols_in
 enum_is ms symbols fallback e f =
-    let p = bind2 (array_in (codes "symbols") (without_all naming (inside ms))) (λ items. texts_in (allowed is_simple) items) (λ _ found. cond (all_differ bytes_eq found) (Some found) None) symbols e in
+    let p = bind2 (array_in (codes "symbols") (without_all name_keys (inside ms))) (λ items. texts_in (allowed is_simple) items) (λ _ found. cond (all_differ bytes_eq found) (Some found) None) symbols e in
     let g = guard_some (all_differ bytes_eq p.1) (Some p.1) symbols p.4 in
     let same : p.1 ≡ symbols = same_Some _ _ g.1 in
     record {
       items = p.0;
-      items_are = sym (items_past (codes "symbols") (codes "type" ∷ naming) ms refl) ∙ p.2;
+      items_are = sym (items_past (codes "symbols") (codes "type" ∷ name_keys) ms refl) ∙ p.2;
       symbols_are = p.3 ∙ ap (λ (x : List (List ℕ)). Some x) same;
       differ = texts_differ symbols (ap (all_differ bytes_eq) (sym same) ∙ g.0);
       fallback_is = ap (fallback_in symbols) (sym (get_past (codes "default") (codes "type" ∷ codes "name" ∷ codes "namespace" ∷ codes "aliases" ∷ codes "symbols" ∷ []) ms refl)) ∙ f;
@@ -105,10 +105,10 @@ enum_is ms symbols fallback e f =
 abbrev Says_ : ℕ → List ℕ → Data → Known → ℕ → Part ℕ → Type 0
 Says_ n space d known first p = Denotes n space d known first p.it p.nodes p.known
 
-enum_says : (n : ℕ) (space : List ℕ) (ms : Members) (known : Known) (first : ℕ) (p : Part ℕ) → Says ms word.Enum → enum_at space (inside ms) known first ≡ Some p → Says_ (suc n) space (json.object ms) known first p
+enum_says : (n : ℕ) (space : List ℕ) (ms : Members) (known : Known) (first : ℕ) (p : Part ℕ) → HasTypeName ms type_name.Enum → enum_at space (inside ms) known first ≡ Some p → Says_ (suc n) space (json.object ms) known first p
 unfolding enum_at
 enum_says n space ms known first p s e =
-    let rest = without_all naming (inside ms) in
+    let rest = without_all name_keys (inside ms) in
     let q = bind5 (room_at first) (λ _. named_in space (inside ms) known) (λ _ _. symbols_in rest) (λ _ _ symbols. fallback_in symbols (get_member (codes "default") (without_all (codes "symbols" ∷ []) rest)))
     (λ _ _ _ _. bounded (without_all (codes "symbols" ∷ codes "default" ∷ []) rest))
     (λ place named symbols fallback extra. Some (record { it = place; nodes = enumeration named symbols fallback extra ∷ []; known = defined known named.name place })) p e in
@@ -117,20 +117,20 @@ enum_says n space ms known first p s e =
     (ap (λ (place : ℕ). record { it = place; nodes = enumeration q.1 q.2 q.3 q.4 ∷ []; known = defined known q.1.name place }) room.1 ∙ same_Some _ _ q.10)
     (enum_type s (named_is space ms known q.1 q.6) (enum_is ms q.2 q.3 q.7 q.8) (others_are enum_keys ms q.4 q.9) room.0)
 
-fixed_says : (n : ℕ) (space : List ℕ) (ms : Members) (known : Known) (first : ℕ) (p : Part ℕ) → Says ms word.Fixed → fixed_at space (inside ms) known first ≡ Some p → Says_ (suc n) space (json.object ms) known first p
+fixed_says : (n : ℕ) (space : List ℕ) (ms : Members) (known : Known) (first : ℕ) (p : Part ℕ) → HasTypeName ms type_name.Fixed → fixed_at space (inside ms) known first ≡ Some p → Says_ (suc n) space (json.object ms) known first p
 unfolding fixed_at
 fixed_says n space ms known first p s e =
-    let rest = without_all naming (inside ms) in
+    let rest = without_all name_keys (inside ms) in
     let q = bind4 (room_at first) (λ _. named_in space (inside ms) known) (λ _ _. size_of (get_member (codes "size") rest)) (λ _ _ _. bounded (without_all (codes "size" ∷ []) rest))
     (λ place named size extra. Some (record { it = place; nodes = fixed named size extra ∷ []; known = defined known named.name place })) p e in
     let room = room_is first q.0 q.4 in
     subst (λ (x : Part ℕ). Says_ (suc n) space (json.object ms) known first x)
     (ap (λ (place : ℕ). record { it = place; nodes = fixed q.1 q.2 q.3 ∷ []; known = defined known q.1.name place }) room.1 ∙ same_Some _ _ q.8)
-    (fixed_type s (named_is space ms known q.1 q.5) (ap size_of (sym (get_past (codes "size") (codes "type" ∷ naming) ms refl)) ∙ q.6) (others_are fixed_keys ms q.3 q.7) room.0)
+    (fixed_type s (named_is space ms known q.1 q.5) (ap size_of (sym (get_past (codes "size") (codes "type" ∷ name_keys) ms refl)) ∙ q.6) (others_are fixed_keys ms q.3 q.7) room.0)
 
 -- ---- primitives and references
 
-primitive_says : (n : ℕ) (space : List ℕ) (ms : Members) (known : Known) (first : ℕ) (kind : Kind) (p : Part ℕ) → Says ms (word.Primitive kind) → primitive_at kind (inside ms) known first ≡ Some p → Says_ (suc n) space (json.object ms) known first p
+primitive_says : (n : ℕ) (space : List ℕ) (ms : Members) (known : Known) (first : ℕ) (kind : Kind) (p : Part ℕ) → HasTypeName ms (type_name.Primitive kind) → primitive_at kind (inside ms) known first ≡ Some p → Says_ (suc n) space (json.object ms) known first p
 unfolding primitive_at
 primitive_says n space ms known first kind p s e =
     let q = bind2 (room_at first) (λ _. bounded (inside ms)) (λ place extra. Some (record { it = place; nodes = primitive kind extra ∷ []; known = known })) p e in
@@ -152,7 +152,7 @@ name_says None n space s known first p named e =
     let q = map_some (λ (x : ℕ). record { it = x; nodes = []; known = known }) (resolved known space s) p e in
     subst (λ (x : Part ℕ). Says_ (suc n) space (string s) known first x) q.2 (a_reference named q.1)
 
-reference_says : (n : ℕ) (space name : List ℕ) (ms : Members) (known : Known) (first : ℕ) (p : Part ℕ) → text_in (codes "type") ms ≡ Some name → word_of name ≡ word.Reference
+reference_says : (n : ℕ) (space name : List ℕ) (ms : Members) (known : Known) (first : ℕ) (p : Part ℕ) → text_in (codes "type") ms ≡ Some name → type_name_of name ≡ type_name.Reference
     → (bounded (inside ms) >>= λ _. reference_to space name known) ≡ Some p → Says_ (suc n) space (json.object ms) known first p
 unfolding reference_to
 reference_says n space name ms known first p t w e =
@@ -172,8 +172,8 @@ value_is (Some x) v e =
 allowed_is : (text name : List ℕ) → allowed is_simple text ≡ Some name → (text ≡ name) × (is_simple name ≡ true)
 allowed_is text name e = let g = guard_some (is_simple text) (Some text) name e in let same : text ≡ name = same_Some _ _ g.1 in (same, ap is_simple (sym same) ∙ g.0)
 
-label_says : (ms extra : Members) (place : ℕ) (label : LabelView) → label_in ms ≡ Some label → bounded (without_all (codes "type" ∷ []) (without_all labelling ms)) ≡ Some extra → IsField ms (field_at label place extra)
-unfolding label_in
+label_says : (ms extra : Members) (place : ℕ) (label : FieldAttributesView) → field_attributes_in ms ≡ Some label → bounded (without_all (codes "type" ∷ []) (without_all field_attribute_keys ms)) ≡ Some extra → IsField ms (field_at label place extra)
+unfolding field_attributes_in
 label_says ms extra place label e b =
     let p = bind5 (text_in (codes "name") ms) (λ text. allowed is_simple text) (λ _ _. texts_if_any (allowed is_simple) (get_member (codes "aliases") (without_all (codes "name" ∷ []) ms)))
     (λ _ _ _. order_in (get_member (codes "order") (without_all (codes "name" ∷ codes "aliases" ∷ []) ms)))
@@ -182,7 +182,7 @@ label_says ms extra place label e b =
     let same : record { name = p.1; aliases = p.2; order = p.3; value = p.4 } ≡ label = same_Some _ _ p.10 in
     let simple = allowed_is p.0 p.1 p.6 in
     let value = value_is (get_member (codes "default") (without_all (codes "name" ∷ codes "aliases" ∷ codes "order" ∷ []) ms)) p.4 p.9 in
-    subst (λ (x : LabelView). IsField ms (field_at x place extra)) same
+    subst (λ (x : FieldAttributesView). IsField ms (field_at x place extra)) same
     (record {
       name = p.5 ∙ ap (λ (x : List ℕ). Some x) simple.0;
       simple = simple.1;
@@ -232,16 +232,16 @@ module _ (n : ℕ) (says : AllSay n) where
   fields_say space (item d ds) known first ps e =
       let q = bind2 (field_of (type_at n space) d known first) (λ p. parts_of (field_of (type_at n space)) ds p.known (first + length p.nodes))
       (λ p more. Some (record { it = p.it ∷ more.it; nodes = p.nodes ++ more.nodes; known = more.known })) ps e in
-      let b = bind5 (as_object d) (λ ms. label_in ms) (λ ms _. get_member (codes "type") (without_all labelling ms)) (λ ms _ _. bounded (without_all (codes "type" ∷ []) (without_all labelling ms)))
+      let b = bind5 (as_object d) (λ ms. field_attributes_in ms) (λ ms _. get_member (codes "type") (without_all field_attribute_keys ms)) (λ ms _ _. bounded (without_all (codes "type" ∷ []) (without_all field_attribute_keys ms)))
       (λ _ _ inner _. type_at n space inner known first) (λ _ label _ extra p. Some (record { it = field_at label p.it extra; nodes = p.nodes; known = p.known })) q.0 q.2 in
       let is : record { it = field_at b.1 b.4.it b.3; nodes = b.4.nodes; known = b.4.known } ≡ q.0 = same_Some _ _ b.10 in
       let others = subst (λ (x : Part FieldView). parts_of (field_of (type_at n space)) ds x.known (first + length x.nodes) ≡ Some q.1) (sym is) q.3 in
       let whole = subst (λ (x : Part FieldView). Some (record { it = x.it ∷ q.1.it; nodes = x.nodes ++ q.1.nodes; known = q.1.known }) ≡ Some ps) (sym is) q.4 in
       subst (λ (x : Part (List FieldView)). Fields n space (item d ds) known first x.it x.nodes x.known) (same_Some _ _ whole)
       (subst (λ (x : Data). Fields n space (item x ds) known first (field_at b.1 b.4.it b.3 ∷ q.1.it) (b.4.nodes ++ q.1.nodes) q.1.known) (sym (object_members d b.0 b.5))
-      (field (label_says b.0 b.3 b.4.it b.1 b.6 b.8) (sym (get_past (codes "type") labelling b.0 refl) ∙ b.7) (says space b.2 known first b.4 b.9) (fields_say space ds b.4.known (first + length b.4.nodes) q.1 others)))
+      (field (label_says b.0 b.3 b.4.it b.1 b.6 b.8) (sym (get_past (codes "type") field_attribute_keys b.0 refl) ∙ b.7) (says space b.2 known first b.4 b.9) (fields_say space ds b.4.known (first + length b.4.nodes) q.1 others)))
 
-  array_says : (space : List ℕ) (ms : Members) (known : Known) (first : ℕ) (p : Part ℕ) → Says ms word.Array → container_at container.Items (type_at n space) (inside ms) known first ≡ Some p → Says_ (suc n) space (json.object ms) known first p
+  array_says : (space : List ℕ) (ms : Members) (known : Known) (first : ℕ) (p : Part ℕ) → HasTypeName ms type_name.Array → container_at container.Items (type_at n space) (inside ms) known first ≡ Some p → Says_ (suc n) space (json.object ms) known first p
   unfolding container_at
   array_says space ms known first p s e =
       let q = bind4 (room_at first) (λ _. get_member (codes "items") (inside ms)) (λ _ _. bounded (without_all (codes "items" ∷ []) (inside ms))) (λ _ inner _. type_at n space inner known (first + 1))
@@ -251,7 +251,7 @@ module _ (n : ℕ) (says : AllSay n) where
       (ap (λ (place : ℕ). record { it = place; nodes = array q.3.it q.2 ∷ q.3.nodes; known = q.3.known }) room.1 ∙ same_Some _ _ q.8)
       (array_type s (sym (get_past (codes "items") (codes "type" ∷ []) ms refl) ∙ q.5) (others_are array_keys ms q.2 q.6) room.0 (says space q.1 known (first + 1) q.3 q.7))
 
-  map_says : (space : List ℕ) (ms : Members) (known : Known) (first : ℕ) (p : Part ℕ) → Says ms word.Map → container_at container.Values (type_at n space) (inside ms) known first ≡ Some p → Says_ (suc n) space (json.object ms) known first p
+  map_says : (space : List ℕ) (ms : Members) (known : Known) (first : ℕ) (p : Part ℕ) → HasTypeName ms type_name.Map → container_at container.Values (type_at n space) (inside ms) known first ≡ Some p → Says_ (suc n) space (json.object ms) known first p
   unfolding container_at
   map_says space ms known first p s e =
       let q = bind4 (room_at first) (λ _. get_member (codes "values") (inside ms)) (λ _ _. bounded (without_all (codes "values" ∷ []) (inside ms))) (λ _ inner _. type_at n space inner known (first + 1))
@@ -276,10 +276,10 @@ module _ (n : ℕ) (says : AllSay n) where
       ∙ ap (λ (place : ℕ). record { it = place; nodes = union (map (λ b. b.0) q.1.it) ∷ q.1.nodes; known = q.1.known }) room.1 ∙ same_Some _ _ g.1)
       (union_type room.0 said.2 (kinds_differ said.0 differ))
 
-  record_says : (space : List ℕ) (ms : Members) (known : Known) (first : ℕ) (p : Part ℕ) → Says ms word.Record → record_at (type_at n) space (inside ms) known first ≡ Some p → Says_ (suc n) space (json.object ms) known first p
+  record_says : (space : List ℕ) (ms : Members) (known : Known) (first : ℕ) (p : Part ℕ) → HasTypeName ms type_name.Record → record_at (type_at n) space (inside ms) known first ≡ Some p → Says_ (suc n) space (json.object ms) known first p
   unfolding record_at
   record_says space ms known first p s e =
-      let rest = without_all naming (inside ms) in
+      let rest = without_all name_keys (inside ms) in
       let q = bind5 (room_at first) (λ _. named_in space (inside ms) known) (λ _ _. array_in (codes "fields") rest) (λ _ _ _. bounded (without_all (codes "fields" ∷ []) rest))
       (λ place named items _. parts_of (field_of (type_at n (namespace_of named.name))) items (defined known named.name place) (first + 1))
       (λ place named _ extra ps. cond (all_differ bytes_eq (map (λ f. f.name) ps.it)) (Some (record { it = place; nodes = rec named ps.it extra ∷ ps.nodes; known = ps.known })) None) p e in
@@ -288,24 +288,24 @@ module _ (n : ℕ) (says : AllSay n) where
       let fields = subst (λ (place : ℕ). parts_of (field_of (type_at n (namespace_of q.1.name))) q.2 (defined known q.1.name place) (first + 1) ≡ Some q.4) (sym room.1) q.9 in
       subst (λ (x : Part ℕ). Says_ (suc n) space (json.object ms) known first x)
       (ap (λ (place : ℕ). record { it = place; nodes = rec q.1 q.4.it q.3 ∷ q.4.nodes; known = q.4.known }) room.1 ∙ same_Some _ _ g.1)
-      (record_type s (named_is space ms known q.1 q.6) (sym (items_past (codes "fields") (codes "type" ∷ naming) ms refl) ∙ q.7) (others_are record_keys ms q.3 q.8) room.0
+      (record_type s (named_is space ms known q.1 q.6) (sym (items_past (codes "fields") (codes "type" ∷ name_keys) ms refl) ∙ q.7) (others_are record_keys ms q.3 q.8) room.0
       (fields_say (namespace_of q.1.name) q.2 (defined known q.1.name first) (first + 1) q.4 fields) (texts_differ (map (λ f. f.name) q.4.it) g.0))
 
-  word_says : (w : Word) (space name : List ℕ) (ms : Members) (known : Known) (first : ℕ) (p : Part ℕ) → text_in (codes "type") ms ≡ Some name → word_of name ≡ w
-      → by_word w name (type_at n) space (inside ms) known first ≡ Some p → Says_ (suc n) space (json.object ms) known first p
-  word_says (word.Primitive kind) space name ms known first p t w e = primitive_says n space ms known first kind p (name, t, w) e
-  word_says word.Array space name ms known first p t w e = array_says space ms known first p (name, t, w) e
-  word_says word.Map space name ms known first p t w e = map_says space ms known first p (name, t, w) e
-  word_says word.Fixed space name ms known first p t w e = fixed_says n space ms known first p (name, t, w) e
-  word_says word.Enum space name ms known first p t w e = enum_says n space ms known first p (name, t, w) e
-  word_says word.Record space name ms known first p t w e = record_says space ms known first p (name, t, w) e
-  word_says word.Reference space name ms known first p t w e = reference_says n space name ms known first p t w e
+  word_says : (w : TypeName) (space name : List ℕ) (ms : Members) (known : Known) (first : ℕ) (p : Part ℕ) → text_in (codes "type") ms ≡ Some name → type_name_of name ≡ w
+      → by_type_name w name (type_at n) space (inside ms) known first ≡ Some p → Says_ (suc n) space (json.object ms) known first p
+  word_says (type_name.Primitive kind) space name ms known first p t w e = primitive_says n space ms known first kind p (name, t, w) e
+  word_says type_name.Array space name ms known first p t w e = array_says space ms known first p (name, t, w) e
+  word_says type_name.Map space name ms known first p t w e = map_says space ms known first p (name, t, w) e
+  word_says type_name.Fixed space name ms known first p t w e = fixed_says n space ms known first p (name, t, w) e
+  word_says type_name.Enum space name ms known first p t w e = enum_says n space ms known first p (name, t, w) e
+  word_says type_name.Record space name ms known first p t w e = record_says space ms known first p (name, t, w) e
+  word_says type_name.Reference space name ms known first p t w e = reference_says n space name ms known first p t w e
 
   object_says : (space : List ℕ) (ms : Members) (known : Known) (first : ℕ) (p : Part ℕ) → object_at (type_at n) space ms known first ≡ Some p → Says_ (suc n) space (json.object ms) known first p
   unfolding object_at
   object_says space ms known first p e =
-      let q = bind_some (text_in (codes "type") ms) (λ name. by_word (word_of name) name (type_at n) space (inside ms) known first) p e in
-      word_says (word_of q.0) space q.0 ms known first p q.1 refl q.2
+      let q = bind_some (text_in (codes "type") ms) (λ name. by_type_name (type_name_of name) name (type_at n) space (inside ms) known first) p e in
+      word_says (type_name_of q.0) space q.0 ms known first p q.1 refl q.2
 
 pub says : (n : ℕ) → AllSay n
 unfolding type_at name_at

@@ -24,7 +24,7 @@ use Rattle.avro_schema.specs.DenotedNodes.{denoted_nodes}
 use Rattle.avro_schema.specs.Inside.DeclaredNodes.{value_in, root_in, declared_nodes, nodes_that_fit}
 use Rattle.avro_schema.specs.Inside.Weight.{weight}
 use Rattle.avro_schema.specs.Inside.Mentions.{mentions}
-use Rattle.avro_schema.specs.Inside.ReaderAnswers.{Fails, Adds}
+use Rattle.avro_schema.specs.Inside.ReaderResults.{Fails, AddsPart}
 use Rattle.avro_schema.specs.declared.error.SchemaError.{SchemaError}
 use Rattle.avro_schema.specs.declared.error.SchemaError.TheVariants.{OutOfMemory}
 use Rattle.avro_schema.proofs.Inversion.{bind_some, bind2, guard_some}
@@ -41,7 +41,7 @@ refused OutOfMemory o other f = absurd (other refl)
 refused _ o other f = f
 
 pub typed_is : (text : List ℕ) (d : Data) (p : ℕ) (after : List NodeView) (known2 : Known) → length text ≤ max_text → value_in text ≡ Some d → nat_le (weight max_nesting [] d) max_text ≡ true
-    → Adds (type_at max_nesting [] d none_known 0) p [] after known2 → declared_nodes text ≡ Some after
+    → AddsPart (type_at max_nesting [] d none_known 0) p [] after known2 → declared_nodes text ≡ Some after
 unfolding declared_nodes root_in
 typed_is text d p after known2 short e light root = rw (le-leb (length text) max_text short, e, light, root.is, ← root.after_is) refl
 

@@ -3,7 +3,7 @@ use Rattle.std.proofs.Common.{◌≡◌, ℕ, List, [], ◌∷◌, Bool, true, f
 use Rattle.serde_json.specs.Data.{Data, Members, no_members, member}
 use Rattle.serde_json.specs.Find.{get_member, as_object}
 use Rattle.avro_schema.specs.Attributes.{without, without_all, text_in}
-use Rattle.avro_schema.specs.Inside.Declarations.{label_in, labelling}
+use Rattle.avro_schema.specs.Inside.Declarations.{field_attributes_in, field_attribute_keys}
 use Rattle.avro_schema.proofs.Inversion.{get-without, get_past}
 
 swapped_at : (a b : Bool) (k l m : List ℕ) (d : Data) (ms : Members) → bytes_eq k m ≡ a → bytes_eq l m ≡ b → without k (without l ms) ≡ without l (without k ms)
@@ -21,8 +21,8 @@ all_swapped : (ks : List (List ℕ)) (l : List ℕ) (ms : Members) → without_a
 all_swapped [] l ms = refl
 all_swapped (k ∷ ks) l ms = ap (without_all ks) (swapped k l ms) ∙ all_swapped ks l (without k ms)
 
-same_label : (ms : Members) → label_in (without (codes "type") ms) ≡ label_in ms
-unfolding label_in text_in
+same_label : (ms : Members) → field_attributes_in (without (codes "type") ms) ≡ field_attributes_in ms
+unfolding field_attributes_in text_in
 same_label ms =
     let t = codes "type" in
     let one = codes "name" ∷ [] in
@@ -33,11 +33,11 @@ same_label ms =
     let value = get_past (codes "default") three (without t ms) refl ∙ get-without (codes "default") t ms refl ∙ sym (get_past (codes "default") three ms refl) in
     rw (get-without (codes "name") t ms refl, aliases, order, value) refl
 
-pub label_apart : (d : Data) (ms after : Members) → as_object d ≡ Some ms → after ≡ without (codes "type") ms → label_in after ≡ label_in ms
-label_apart d ms after is e = ap label_in e ∙ same_label ms
+pub label_apart : (d : Data) (ms after : Members) → as_object d ≡ Some ms → after ≡ without (codes "type") ms → field_attributes_in after ≡ field_attributes_in ms
+label_apart d ms after is e = ap field_attributes_in e ∙ same_label ms
 
-pub type_apart : (d : Data) (ms after : Members) → as_object d ≡ Some ms → after ≡ without (codes "type") ms → get_member (codes "type") (without_all labelling ms) ≡ get_member (codes "type") ms
-type_apart d ms after is e = get_past (codes "type") labelling ms refl
+pub type_apart : (d : Data) (ms after : Members) → as_object d ≡ Some ms → after ≡ without (codes "type") ms → get_member (codes "type") (without_all field_attribute_keys ms) ≡ get_member (codes "type") ms
+type_apart d ms after is e = get_past (codes "type") field_attribute_keys ms refl
 
-pub rest_apart : (d : Data) (ms after : Members) → as_object d ≡ Some ms → after ≡ without (codes "type") ms → without_all labelling after ≡ without (codes "type") (without_all labelling ms)
-rest_apart d ms after is e = ap (without_all labelling) e ∙ all_swapped labelling (codes "type") ms
+pub rest_apart : (d : Data) (ms after : Members) → as_object d ≡ Some ms → after ≡ without (codes "type") ms → without_all field_attribute_keys after ≡ without (codes "type") (without_all field_attribute_keys ms)
+rest_apart d ms after is e = ap (without_all field_attribute_keys) e ∙ all_swapped field_attribute_keys (codes "type") ms

@@ -6,11 +6,11 @@ use Rattle.serde_json.specs.Data.{Data, Items, no_items, item, Members}
 use Rattle.serde_json.specs.Find.{get_member, as_str, as_array}
 use Rattle.avro_nodes.specs.Names.{has_dot, namespace_of}
 use Rattle.avro_nodes.specs.Nodes.{NamedView, FieldView, NodeView}
-use Rattle.avro_schema.specs.Names.{Known, is_dotted, is_space, joined, name_in, full_name, alias_in}
+use Rattle.avro_schema.specs.Names.{Known, is_name_sequence, is_namespace, qualified, name_in, full_name, alias_in}
 use Rattle.avro_schema.specs.Attributes.{text_in, array_in, text_of_any, text_if_any, texts_in, texts_if_any}
 use Rattle.avro_schema.specs.Kinds.{BranchKind}
 use Rattle.avro_schema.specs.Denotes.{IsNamed, Denotes, a_primitive, a_reference, primitive_type, reference_type, array_type, map_type, fixed_type, enum_type, record_type, union_type, Branches, no_branch, branch, Fields, no_field, field}
-use Rattle.avro_schema.specs.Inside.Weight.{texts_size, named_size, names_size, if_any, items_weight, full_in, alias_weight, space_in, names_weight, definition_weight, field_weight, record_weight, object_weight, weight}
+use Rattle.avro_schema.specs.Inside.Weight.{texts_size, named_size, names_size, if_any, items_weight, full_name_in, alias_weight, namespace_in, names_weight, definition_weight, field_weight, record_weight, object_weight, weight}
 use Rattle.avro_schema.proofs.Inversion.{bind_some, bind3, guard_some, map_some}
 use Rattle.avro_schema.proofs.FullNames.{joined_space}
 use Rattle.avro_schema.proofs.Sizes.{names_append}
@@ -25,47 +25,47 @@ attribute_read : (ms : Members) (attribute : Option (List ℕ)) → text_if_any 
 unfolding text_if_any text_in
 attribute_read ms attribute e = attribute_same (get_member (codes "namespace") ms) attribute e
 
-full_there : (space name : List ℕ) → has_dot name ≡ true → full_in space name ≡ name
-unfolding full_in
+full_there : (space name : List ℕ) → has_dot name ≡ true → full_name_in space name ≡ name
+unfolding full_name_in
 full_there space name dot = rw dot refl
 
 -- the namespace of the full name, and the full name in it
 abbrev Placed : List ℕ → List ℕ → Members → List ℕ → Type 0
-Placed space text ms full = (space_in space text ms ≡ namespace_of full) × (full_in (namespace_of full) text ≡ full)
+Placed space text ms full = (namespace_in space text ms ≡ namespace_of full) × (full_name_in (namespace_of full) text ≡ full)
 
-placed_in : (given text full : List ℕ) → has_dot text ≡ false → joined given text ≡ full → (given ≡ namespace_of full) × (full_in (namespace_of full) text ≡ full)
-unfolding full_in
+placed_in : (given text full : List ℕ) → has_dot text ≡ false → qualified given text ≡ full → (given ≡ namespace_of full) × (full_name_in (namespace_of full) text ≡ full)
+unfolding full_name_in
 placed_in given text full plain is =
     let same : given ≡ namespace_of full = sym (joined_space given text plain) ∙ ap namespace_of is in
-    (same, rw plain (ap (λ (s : List ℕ). joined s text) (sym same) ∙ is))
+    (same, rw plain (ap (λ (s : List ℕ). qualified s text) (sym same) ∙ is))
 
-placed_plain : (attribute : Option (List ℕ)) (space text full : List ℕ) → has_dot text ≡ false → name_in attribute space text ≡ Some full → (unwrap_or attribute space ≡ namespace_of full) × (full_in (namespace_of full) text ≡ full)
-placed_plain (Some a) space text full plain e = placed_in a text full plain (same_Some _ _ (guard_some (is_space a) (Some (joined a text)) full e).1)
+placed_plain : (attribute : Option (List ℕ)) (space text full : List ℕ) → has_dot text ≡ false → name_in attribute space text ≡ Some full → (unwrap_or attribute space ≡ namespace_of full) × (full_name_in (namespace_of full) text ≡ full)
+placed_plain (Some a) space text full plain e = placed_in a text full plain (same_Some _ _ (guard_some (is_namespace a) (Some (qualified a text)) full e).1)
 placed_plain None space text full plain e = placed_in space text full plain (same_Some _ _ e)
 
 placed_at : (dot : Bool) (attribute : Option (List ℕ)) (space text : List ℕ) (ms : Members) (full : List ℕ) → has_dot text ≡ dot → text_in (codes "namespace") ms ≡ attribute
     → cond dot (Some text) (name_in attribute space text) ≡ Some full → Placed space text ms full
-unfolding space_in
+unfolding namespace_in
 placed_at true attribute space text ms full is given e = let same : text ≡ full = same_Some _ _ e in rw is (ap namespace_of same, full_there (namespace_of full) text is ∙ same)
 placed_at false attribute space text ms full is given e = rw (is, given) (placed_plain attribute space text full is e)
 
 placed : (space : List ℕ) (ms : Members) (known : Known) (named : NamedView) (n : IsNamed space ms known named) → Placed space n.text ms named.name
 unfolding full_name
 placed space ms known named n =
-    let g = guard_some (is_dotted n.text) (cond (has_dot n.text) (Some n.text) (name_in n.attribute space n.text)) named.name n.full in
+    let g = guard_some (is_name_sequence n.text) (cond (has_dot n.text) (Some n.text) (name_in n.attribute space n.text)) named.name n.full in
     placed_at (has_dot n.text) n.attribute space n.text ms named.name refl (attribute_read ms n.attribute n.attribute_is) g.1
 
 -- ---- aliases
 
-alias_at : (dot : Bool) (space alias name : List ℕ) → has_dot alias ≡ dot → cond dot (Some alias) (Some (joined space alias)) ≡ Some name → full_in space alias ≡ name
-unfolding full_in
+alias_at : (dot : Bool) (space alias name : List ℕ) → has_dot alias ≡ dot → cond dot (Some alias) (Some (qualified space alias)) ≡ Some name → full_name_in space alias ≡ name
+unfolding full_name_in
 alias_at true space alias name is e = rw is (same_Some _ _ e)
 alias_at false space alias name is e = rw is (same_Some _ _ e)
 
-alias_full : (space alias name : List ℕ) → alias_in space alias ≡ Some name → full_in space alias ≡ name
+alias_full : (space alias name : List ℕ) → alias_in space alias ≡ Some name → full_name_in space alias ≡ name
 unfolding alias_in
 alias_full space alias name e =
-    let g = guard_some (is_dotted alias) (cond (has_dot alias) (Some alias) (Some (joined space alias))) name e in
+    let g = guard_some (is_name_sequence alias) (cond (has_dot alias) (Some alias) (Some (qualified space alias))) name e in
     alias_at (has_dot alias) space alias name refl g.1
 
 texts_same : (space : List ℕ) (ds : Items) (ts : List (List ℕ)) → texts_in (alias_in space) ds ≡ Some ts → items_weight (alias_weight space) ds ≡ texts_size ts
@@ -73,14 +73,14 @@ unfolding texts_in
 texts_same space no_items ts e = ap texts_size (same_Some _ _ e)
 texts_same space (item d ds) ts e =
     let p = bind3 (as_str d) (λ text. alias_in space text) (λ _ _. texts_in (alias_in space) ds) (λ _ name more. Some (name ∷ more)) ts e in
-    let here : alias_weight space d ≡ length p.1 = ap (if_any (λ alias. length (full_in space alias))) p.3 ∙ ap length (alias_full space p.0 p.1 p.4) in
+    let here : alias_weight space d ≡ length p.1 = ap (if_any (λ alias. length (full_name_in space alias))) p.3 ∙ ap length (alias_full space p.0 p.1 p.4) in
     omega (arith, here, texts_same space ds p.2 p.5, ap texts_size (same_Some _ _ p.6))
 
 aliases_same : (space : List ℕ) (o : Option Data) (ts : List (List ℕ)) → texts_if_any (alias_in space) o ≡ Some ts → if_any (items_weight (alias_weight space)) (option_and_then as_array o) ≡ texts_size ts
 aliases_same space None ts e = ap texts_size (same_Some _ _ e)
 aliases_same space (Some d) ts e = let p = bind_some (as_array d) (λ ds. texts_in (alias_in space) ds) ts e in ap (if_any (items_weight (alias_weight space))) p.1 ∙ texts_same space p.0 ts p.2
 
-names_same : (space : List ℕ) (ms : Members) (known : Known) (named : NamedView) (n : IsNamed space ms known named) → names_weight (space_in space n.text ms) n.text ms ≡ named_size named
+names_same : (space : List ℕ) (ms : Members) (known : Known) (named : NamedView) (n : IsNamed space ms known named) → names_weight (namespace_in space n.text ms) n.text ms ≡ named_size named
 unfolding names_weight array_in
 names_same space ms known named n =
     let p = placed space ms known named n in

@@ -7,7 +7,7 @@ use Rattle.serde_json.specs.Data.{Data, Items, no_items, item, Members, no_membe
 use Rattle.serde_json.specs.Find.{get_member, as_str, as_array, as_number, as_u64}
 use Rattle.avro_nodes.specs.declared.node.Order.{Order}
 use Rattle.avro_nodes.specs.declared.node.Order.TheVariants.{Ascending}
-use Rattle.avro_schema.specs.Words.{order_of}
+use Rattle.avro_schema.specs.Keywords.{order_of}
 
 infixl 10 ◌>>=◌
 abbrev pub ◌>>=◌ : {A B : Type 0} → Option A → (A → Option B) → Option B

@@ -6,11 +6,11 @@ use Rattle.serde_json.specs.Find.{get_member}
 use Rattle.avro_nodes.specs.Limits.{max_nesting, max_places}
 use Rattle.avro_nodes.specs.declared.node.Kind.{Kind}
 use Rattle.avro_nodes.specs.Nodes.{NamedView, FieldView, NodeView, primitive, array, mapping, union, enumeration, fixed, rec}
-use Rattle.avro_schema.specs.declared.words.Word.{Word}
-use Rattle.avro_schema.specs.declared.words.Word.TheVariants as word
+use Rattle.avro_schema.specs.declared.keywords.TypeName.{TypeName}
+use Rattle.avro_schema.specs.declared.keywords.TypeName.TheVariants as type_name
 use Rattle.avro_schema.specs.Names.{Known, is_simple, allowed, full_name, alias_in, resolved, defined}
 use Rattle.avro_nodes.specs.Names.{namespace_of, last_part}
-use Rattle.avro_schema.specs.Words.{kind_of, word_of}
+use Rattle.avro_schema.specs.Keywords.{kind_of, type_name_of}
 use Rattle.avro_schema.specs.Attributes.{without_all, text_in, array_in, text_if_any, texts_in, texts_if_any, size_of, fallback_in, order_in}
 use Rattle.avro_schema.specs.Kinds.{BranchKind, branch_kind}
 
@@ -25,7 +25,7 @@ AllDiffer [] = Unit {0}
 AllDiffer (x ∷ xs) = Lacks xs x × AllDiffer xs
 
 -- The other attributes are those of no key with a meaning. Each nests within the limit.
-pub record Others (keys : List (List ℕ)) (ms extra : Members) : Type 0 where
+pub record IsExtra (keys : List (List ℕ)) (ms extra : Members) : Type 0 where
   pub are : extra ≡ without_all keys ms
   pub shallow : members_depth extra ≤ max_nesting
 
@@ -56,7 +56,7 @@ pub record IsField (ms : Members) (field : FieldView) : Type 0 where
   pub order : order_in (get_member (codes "order") ms) ≡ Some field.order
   pub value : get_member (codes "default") ms ≡ field.value
   pub shallow : (d : Data) → field.value ≡ Some d → depth d ≤ max_nesting
-  pub others : Others (codes "name" ∷ codes "aliases" ∷ codes "order" ∷ codes "default" ∷ codes "type" ∷ []) ms field.extra
+  pub others : IsExtra (codes "name" ∷ codes "aliases" ∷ codes "order" ∷ codes "default" ∷ codes "type" ∷ []) ms field.extra
 
 -- the keys with a meaning of an array, a map, a fixed, an enum and a record, in that order
 abbrev pub array_keys : List (List ℕ)
@@ -75,8 +75,8 @@ abbrev pub record_keys : List (List ℕ)
 record_keys = codes "type" ∷ codes "name" ∷ codes "namespace" ∷ codes "aliases" ∷ codes "fields" ∷ []
 
 -- what an object's attribute `type` says
-abbrev pub Says : Members → Word → Type 0
-Says ms w = (name : List ℕ) × (text_in (codes "type") ms ≡ Some name) × (word_of name ≡ w)
+abbrev pub HasTypeName : Members → TypeName → Type 0
+HasTypeName ms w = (name : List ℕ) × (text_in (codes "type") ms ≡ Some name) × (type_name_of name ≡ w)
 
 -- In a nesting of so many levels and inside the namespace, with the names known so far, the value gives the type at this place and the nodes from
 -- `first` on: its own node and then those of its parts, in order; and then these names are known.
@@ -89,31 +89,31 @@ mutual
     a_reference : {n : ℕ} {space name : List ℕ} {known : Known} {first place : ℕ} → kind_of name ≡ None → resolved known space name ≡ Some place
         → Denotes (suc n) space (string name) known first place [] known
     -- an object whose type is a primitive's name, with other attributes (Primitive Types)
-    primitive_type : {n : ℕ} {space : List ℕ} {ms extra : Members} {known : Known} {first : ℕ} {kind : Kind} → Says ms (word.Primitive kind) → Others (codes "type" ∷ []) ms extra → first < max_places
+    primitive_type : {n : ℕ} {space : List ℕ} {ms extra : Members} {known : Known} {first : ℕ} {kind : Kind} → HasTypeName ms (type_name.Primitive kind) → IsExtra (codes "type" ∷ []) ms extra → first < max_places
         → Denotes (suc n) space (json.object ms) known first first (primitive kind extra ∷ []) known
     -- an object whose type is a reference; its other attributes are dropped (this project's choice)
-    reference_type : {n : ℕ} {space name : List ℕ} {ms extra : Members} {known : Known} {first place : ℕ} → text_in (codes "type") ms ≡ Some name → word_of name ≡ word.Reference
-        → Others (codes "type" ∷ []) ms extra → resolved known space name ≡ Some place
+    reference_type : {n : ℕ} {space name : List ℕ} {ms extra : Members} {known : Known} {first place : ℕ} → text_in (codes "type") ms ≡ Some name → type_name_of name ≡ type_name.Reference
+        → IsExtra (codes "type" ∷ []) ms extra → resolved known space name ≡ Some place
         → Denotes (suc n) space (json.object ms) known first place [] known
     -- Complex Types, Arrays
-    array_type : {n : ℕ} {space : List ℕ} {ms extra : Members} {items : Data} {known known2 : Known} {first place : ℕ} {nodes : List NodeView} → Says ms word.Array
-        → get_member (codes "items") ms ≡ Some items → Others array_keys ms extra → first < max_places → Denotes n space items known (first + 1) place nodes known2
+    array_type : {n : ℕ} {space : List ℕ} {ms extra : Members} {items : Data} {known known2 : Known} {first place : ℕ} {nodes : List NodeView} → HasTypeName ms type_name.Array
+        → get_member (codes "items") ms ≡ Some items → IsExtra array_keys ms extra → first < max_places → Denotes n space items known (first + 1) place nodes known2
         → Denotes (suc n) space (json.object ms) known first first (array place extra ∷ nodes) known2
     -- Complex Types, Maps
-    map_type : {n : ℕ} {space : List ℕ} {ms extra : Members} {values : Data} {known known2 : Known} {first place : ℕ} {nodes : List NodeView} → Says ms word.Map
-        → get_member (codes "values") ms ≡ Some values → Others map_keys ms extra → first < max_places → Denotes n space values known (first + 1) place nodes known2
+    map_type : {n : ℕ} {space : List ℕ} {ms extra : Members} {values : Data} {known known2 : Known} {first place : ℕ} {nodes : List NodeView} → HasTypeName ms type_name.Map
+        → get_member (codes "values") ms ≡ Some values → IsExtra map_keys ms extra → first < max_places → Denotes n space values known (first + 1) place nodes known2
         → Denotes (suc n) space (json.object ms) known first first (mapping place extra ∷ nodes) known2
     -- Complex Types, Fixed
-    fixed_type : {n : ℕ} {space : List ℕ} {ms extra : Members} {known : Known} {first size : ℕ} {named : NamedView} → Says ms word.Fixed
-        → IsNamed space ms known named → size_of (get_member (codes "size") ms) ≡ Some size → Others fixed_keys ms extra → first < max_places
+    fixed_type : {n : ℕ} {space : List ℕ} {ms extra : Members} {known : Known} {first size : ℕ} {named : NamedView} → HasTypeName ms type_name.Fixed
+        → IsNamed space ms known named → size_of (get_member (codes "size") ms) ≡ Some size → IsExtra fixed_keys ms extra → first < max_places
         → Denotes (suc n) space (json.object ms) known first first (fixed named size extra ∷ []) (defined known named.name first)
     -- Complex Types, Enums
-    enum_type : {n : ℕ} {space : List ℕ} {ms extra : Members} {known : Known} {first : ℕ} {named : NamedView} {symbols : List (List ℕ)} {fallback : Option (List ℕ)} → Says ms word.Enum
-        → IsNamed space ms known named → IsEnum ms symbols fallback → Others enum_keys ms extra → first < max_places
+    enum_type : {n : ℕ} {space : List ℕ} {ms extra : Members} {known : Known} {first : ℕ} {named : NamedView} {symbols : List (List ℕ)} {fallback : Option (List ℕ)} → HasTypeName ms type_name.Enum
+        → IsNamed space ms known named → IsEnum ms symbols fallback → IsExtra enum_keys ms extra → first < max_places
         → Denotes (suc n) space (json.object ms) known first first (enumeration named symbols fallback extra ∷ []) (defined known named.name first)
     -- A record's name is known inside it, and its namespace is the one there (Complex Types, Records; Names). No two fields have one name (this project's choice).
-    record_type : {n : ℕ} {space : List ℕ} {ms extra : Members} {items : Items} {known known2 : Known} {first : ℕ} {named : NamedView} {fields : List FieldView} {nodes : List NodeView} → Says ms word.Record
-        → IsNamed space ms known named → array_in (codes "fields") ms ≡ Some items → Others record_keys ms extra → first < max_places
+    record_type : {n : ℕ} {space : List ℕ} {ms extra : Members} {items : Items} {known known2 : Known} {first : ℕ} {named : NamedView} {fields : List FieldView} {nodes : List NodeView} → HasTypeName ms type_name.Record
+        → IsNamed space ms known named → array_in (codes "fields") ms ≡ Some items → IsExtra record_keys ms extra → first < max_places
         → Fields n (namespace_of named.name) items (defined known named.name first) (first + 1) fields nodes known2 → AllDiffer (map (λ f. f.name) fields)
         → Denotes (suc n) space (json.object ms) known first first (rec named fields extra ∷ nodes) known2
     -- a JSON array is a union of its members, no two of one kind (Complex Types, Unions); it may be empty (this project's choice)

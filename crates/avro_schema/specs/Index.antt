@@ -15,12 +15,12 @@ use Rattle.avro_schema.specs.declared.index.Ranks.TheVariants.{Unnamed, Fixed, E
 use Rattle.avro_schema.specs.declared.index.Index.{Index}
 
 -- each name is below all later ones in the order of their bytes, so that none stands twice
-abbrev pub Rise : List (List ℕ) → Type 0
-Rise names = AllPairs (λ x y. slice_cmp nat_cmp x y ≡ Less) names
+abbrev pub AreStrictlySorted : List (List ℕ) → Type 0
+AreStrictlySorted names = AllPairs (λ x y. slice_cmp nat_cmp x y ≡ Less) names
 
 -- names that ranks tell: they rise, and 32 bits count them
-pub record AreNames (names : List (List ℕ)) : Type 0 where
-  pub rise : Rise names
+pub record AreIndexNames (names : List (List ℕ)) : Type 0 where
+  pub rise : AreStrictlySorted names
   pub few : length names < 2 ^ 32
 
 -- the rank of a text is its index among the names
@@ -32,7 +32,7 @@ abbrev pub AreRanks : List (List ℕ) → List (List ℕ) → List ℕ → Type 
 AreRanks names texts ranks = map (λ rank. slice_get names rank) ranks ≡ map (λ text. Some text) texts
 
 -- the ranks of the texts, in rising order, so that none stands twice
-pub record AreRisingRanks (names texts : List (List ℕ)) (ranks : List ℕ) : Type 0 where
+pub record AreSortedRanks (names texts : List (List ℕ)) (ranks : List ℕ) : Type 0 where
   pub rise : IsStrictlyIncreasing ranks
   -- each text's rank is one of them
   pub each : All (λ text. (rank : ℕ) × Contains ranks rank × IsRank names text rank) texts
@@ -43,7 +43,7 @@ pub record AreRisingRanks (names texts : List (List ℕ)) (ranks : List ℕ) : T
 pub record IsNamedRanked (names : List (List ℕ)) (named : NamedView) (ranks : NamedRanks) : Type 0 where
   pub last : IsRank names (last_part named.name) ranks.last
   pub full : IsRank names named.name ranks.full
-  pub aliases : AreRisingRanks names named.aliases ranks.aliases.items
+  pub aliases : AreSortedRanks names named.aliases ranks.aliases.items
 
 -- a field's names
 pub record IsFieldRanked (names : List (List ℕ)) (field : FieldView) (ranks : FieldRanks) : Type 0 where
@@ -71,7 +71,7 @@ IsFixedRanked names named (Rec ranks fields) = ⊥
 abbrev pub IsEnumRanked : List (List ℕ) → NamedView → List (List ℕ) → Ranks → Type 0
 IsEnumRanked names named symbols Unnamed = ⊥
 IsEnumRanked names named symbols (Fixed ranks) = ⊥
-IsEnumRanked names named symbols (Enum ranks by_rank) = IsNamedRanked names named ranks × AreRisingRanks names symbols by_rank.items
+IsEnumRanked names named symbols (Enum ranks by_rank) = IsNamedRanked names named ranks × AreSortedRanks names symbols by_rank.items
 IsEnumRanked names named symbols (Rec ranks fields) = ⊥
 
 abbrev pub IsRecRanked : List (List ℕ) → NamedView → List FieldView → Ranks → Type 0
@@ -95,5 +95,5 @@ AreRanked names nodes ranks = AllZip (IsRanked names) nodes ranks
 
 -- the index of the nodes
 pub record IsIndex (nodes : List NodeView) (index : Index) : Type 0 where
-  pub names : AreNames (texts_view index.names.items)
+  pub names : AreIndexNames (texts_view index.names.items)
   pub ranked : AreRanked (texts_view index.names.items) nodes index.ranks.items

@@ -11,5 +11,5 @@ pub mod FieldTables
 pub mod Weight
 pub mod Mentions
 pub mod NameTables
-pub mod ReaderAnswers
+pub mod ReaderResults
 pub mod NodeTexts

@@ -1,5 +1,5 @@
 pub mod Names
-pub mod Words
+pub mod Keywords
 pub mod Attributes
 pub mod Kinds
 pub mod Denotes

@@ -7,31 +7,31 @@ use Rattle.std.specs.Str.{bytes_eq}
 use Rattle.avro_nodes.specs.Names.{is_dot, has_dot}
 
 -- an ASCII letter, or `_`
-abbrev pub is_start : ℕ → Bool
-is_start c = is_ascii_alphabetic c || list_any (λ mark. c == mark) (codes "_")
+abbrev pub is_name_start : ℕ → Bool
+is_name_start c = is_ascii_alphabetic c || list_any (λ mark. c == mark) (codes "_")
 
 -- one of those, or a digit
-abbrev pub is_part : ℕ → Bool
-is_part c = is_start c || is_ascii_digit c
+abbrev pub is_name_part : ℕ → Bool
+is_name_part c = is_name_start c || is_ascii_digit c
 
 -- a simple name: `[A-Za-z_][A-Za-z0-9_]*`
 unfoldable pub is_simple : List ℕ → Bool
 is_simple [] = false
-is_simple (c ∷ cs) = is_start c && list_all is_part cs
+is_simple (c ∷ cs) = is_name_start c && list_all is_name_part cs
 
 -- simple names joined by dots: what stands between the dots are simple names
-unfoldable pub is_dotted : List ℕ → Bool
-is_dotted text = list_all is_simple (slice_split is_dot text)
+unfoldable pub is_name_sequence : List ℕ → Bool
+is_name_sequence text = list_all is_simple (slice_split is_dot text)
 
 -- a namespace: nothing, or simple names joined by dots
-abbrev pub is_space : List ℕ → Bool
-is_space [] = true
-is_space (c ∷ cs) = is_dotted (c ∷ cs)
+abbrev pub is_namespace : List ℕ → Bool
+is_namespace [] = true
+is_namespace (c ∷ cs) = is_name_sequence (c ∷ cs)
 
 -- the full name that a simple name has in a namespace
-unfoldable pub joined : List ℕ → List ℕ → List ℕ
-joined [] name = name
-joined (c ∷ space) name = c ∷ (space ++ (codes "." ++ name))
+unfoldable pub qualified : List ℕ → List ℕ → List ℕ
+qualified [] name = name
+qualified (c ∷ space) name = c ∷ (space ++ (codes "." ++ name))
 
 -- the names that are defined so far: the place of each, and none for any other name
 abbrev pub Known : Type 0
@@ -51,7 +51,7 @@ or_else None o = o
 -- The place that a reference names. With a dot it is a full name. Without one it is the name in the enclosing namespace or, where
 -- that is not defined so far, the name in the null namespace (this project's choice).
 unfoldable pub resolved : Known → List ℕ → List ℕ → Option ℕ
-resolved known space name = if has_dot name then known name else or_else (known (joined space name)) (known name)
+resolved known space name = if has_dot name then known name else or_else (known (qualified space name)) (known name)
 
 -- a text, where the test allows it
 abbrev pub allowed : (List ℕ → Bool) → List ℕ → Option (List ℕ)
@@ -59,14 +59,14 @@ allowed test text = if test text then Some text else None
 
 -- a name without a dot in the namespace that is given beside it, or else in the enclosing one
 abbrev pub name_in : Option (List ℕ) → List ℕ → List ℕ → Option (List ℕ)
-name_in (Some space) enclosing name = if is_space space then Some (joined space name) else None
-name_in None enclosing name = Some (joined enclosing name)
+name_in (Some space) enclosing name = if is_namespace space then Some (qualified space name) else None
+name_in None enclosing name = Some (qualified enclosing name)
 
 -- the full name that a definition's name gives, with the `namespace` attribute beside it and the enclosing namespace; a name with a dot
 -- is a full name, and what stands in `namespace` is then ignored
 unfoldable pub full_name : List ℕ → Option (List ℕ) → List ℕ → Option (List ℕ)
-full_name name attribute enclosing = if is_dotted name then (if has_dot name then Some name else name_in attribute enclosing name) else None
+full_name name attribute enclosing = if is_name_sequence name then (if has_dot name then Some name else name_in attribute enclosing name) else None
 
 -- the full name of an alias of a type whose namespace is given
 unfoldable pub alias_in : List ℕ → List ℕ → Option (List ℕ)
-alias_in space alias = if is_dotted alias then (if has_dot alias then Some alias else Some (joined space alias)) else None
+alias_in space alias = if is_name_sequence alias then (if has_dot alias then Some alias else Some (qualified space alias)) else None

@@ -28,6 +28,6 @@ abbrev pub IsSchema : List NodeView → Type 0
 IsSchema nodes = (text : List ℕ) × TextDenotes text nodes
 
 -- what a schema keeps: its nodes and their identity text
-pub record Keeps (nodes : List NodeView) (text : List ℕ) : Type 0 where
+pub record SchemaInvariant (nodes : List NodeView) (text : List ℕ) : Type 0 where
   pub schema : IsSchema nodes
   pub text_is : text ≡ identity nodes

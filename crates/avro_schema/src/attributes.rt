@@ -7,7 +7,7 @@ ghost use Rattle.avro_schema.specs.Inside.Declarations.{rule_by};
 ghost use Rattle.avro_schema.specs.Attributes.{without, text_in, array_in, text_if_any, texts_in, texts_if_any, size_of};
 ghost use Rattle.avro_schema.specs.Inside.Reserved.{is_reserved_name};
 ghost use Rattle.avro_schema.specs.Inside.Borrowed.{value_data, items_data, members_data};
-ghost use Rattle.avro_schema.specs.Inside.ReaderAnswers.{Gives};
+ghost use Rattle.avro_schema.specs.Inside.ReaderResults.{Gives};
 
 use crate::borrowed::{Attributes, Json, items_of, take, text_of, unsigned_of};
 use crate::error::SchemaError;

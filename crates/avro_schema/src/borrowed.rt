@@ -10,7 +10,7 @@ ghost use Rattle.avro_schema.specs.Attributes.{without};
 ghost use Rattle.avro_schema.specs.Inside.Reserved.{is_reserved, is_reserved_name};
 ghost use Rattle.avro_schema.specs.Inside.Borrowed.{value_data, items_data, members_data};
 
-use crate::others::Others;
+use crate::others::OtherMembers;
 use serde_json::Number;
 use std::alloc::{AllocError, Global};
 
@@ -30,7 +30,7 @@ pub enum Json<'a> {
 pub struct Object<M> {
     /// at most one of each name
     pub reserved: Vec<M>,
-    pub others: Others,
+    pub others: OtherMembers,
 }
 
 /// The attributes of a declaration.
@@ -113,7 +113,7 @@ pub fn unsigned_of(value: &Json<'_>) -> Option<u64>
 }
 
 /// The place of the last member of this name.
-fn last_at(attributes: &Attributes<'_>, key: &str) -> Option<usize>
+fn last_index(attributes: &Attributes<'_>, key: &str) -> Option<usize>
     requires { IsTrue (is_reserved_name key.now) }
     ensures { MatchOption result (get_member key.now (members_data attributes.now) ≡ None)
         (λ i. (i < length attributes.now.reserved.items)
@@ -137,7 +137,7 @@ pub fn find<'t, 'a>(attributes: &'t Attributes<'a>, key: &str) -> Option<&'t Jso
     ensures { option_map (λ v. value_data v.now) result
         ≡ get_member key.now (members_data attributes.now) }
 {
-    match last_at(attributes, key) {
+    match last_index(attributes, key) {
         Some(at) => Some(&attributes.reserved[at].1),
         None => None,
     }
@@ -150,7 +150,7 @@ fn has_member(members: &[(&str, Json<'_>)], key: &str) -> bool
 }
 
 /// Takes out the members of this name, of which there are rarely any.
-fn leave_out<'a>(members: &mut Vec<(&'a str, Json<'a>)>, key: &str)
+fn remove_members<'a>(members: &mut Vec<(&'a str, Json<'a>)>, key: &str)
     ensures { members.new.items ≡ filter (λ m. not (bytes_eq m.0.now key.now)) members.old.items }
 {
     if !has_member(members, key) {
@@ -171,11 +171,11 @@ pub fn take<'a>(attributes: &mut Attributes<'a>, key: &str) -> Option<Json<'a>>
     ensures rest { members_data attributes.new
         ≡ without key.now (members_data attributes.old) }
 {
-    let Some(at) = last_at(attributes, key) else {
+    let Some(at) = last_index(attributes, key) else {
         return None;
     };
     let (_key, value) = attributes.reserved.remove(at);
-    leave_out(&mut attributes.reserved, key);
+    remove_members(&mut attributes.reserved, key);
     Some(value)
 }
 
@@ -185,7 +185,7 @@ pub fn no_attributes<'a>(alloc: Global) -> Attributes<'a>
 {
     Object {
         reserved: Vec::new(alloc),
-        others: Others::none(alloc),
+        others: OtherMembers::none(alloc),
     }
 }
 
@@ -206,11 +206,11 @@ fn drop_member(attributes: &mut Attributes<'_>, key: &str)
     ensures { (value : Data) → put key.now value (members_data attributes.new)
         ≡ put key.now value (members_data attributes.old) }
 {
-    let Some(at) = last_at(attributes, key) else {
+    let Some(at) = last_index(attributes, key) else {
         return;
     };
     drop(attributes.reserved.remove(at));
-    leave_out(&mut attributes.reserved, key);
+    remove_members(&mut attributes.reserved, key);
 }
 
 /// Adds an attribute of a reserved name, or replaces the one of this name.

@@ -6,10 +6,10 @@ ghost use Rattle.serde_json.specs.Find.{get_member};
 ghost use Rattle.serde_json.specs.View.{view, items_view, members_view};
 ghost use Rattle.avro_nodes.specs.Nodes.{field_view, node_view, nodes_view};
 ghost use Rattle.avro_schema.specs.Inside.Fitting.{items_fit, members_fit, field_fits_by, fields_fit, node_fits, fits, node_defaults_fit};
-ghost use Rattle.avro_schema.specs.Inside.FieldTables.{IsTable, IsTableOf, AreTables, fits_if_any, index_fits, named_fit, named_in};
+ghost use Rattle.avro_schema.specs.Inside.FieldTables.{IsFieldTable, IsFieldTableOf, AreFieldTables, fits_if_any, index_fits, named_fit, named_in};
 
 use crate::defaults::fields::node_default_fits;
-use crate::defaults::lookups::{entered, table_at};
+use crate::defaults::lookups::{default_type, table_at};
 use crate::defaults::primitives::{is_bytes_of, primitive_fits};
 use crate::tables::{FieldTable, tables_of};
 use avro_nodes::{Extra, Field, Node};
@@ -38,13 +38,13 @@ pub fn fits(
     tables: &[Option<FieldTable>],
     depth: u32,
 ) -> bool
-    requires tables { AreTables (nodes_view nodes.now) tables.now }
+    requires tables { AreFieldTables (nodes_view nodes.now) tables.now }
     ensures { result ≡ fits depth (nodes_view nodes.now) (view value.now) place }
 {
     if depth == 0 {
         return false;
     }
-    match entered(nodes, place) {
+    match default_type(nodes, place) {
         Some((at, node)) => {
             let table = table_at(tables, at, nodes, node);
             node_fits(value, node, table, nodes, tables, depth - 1)
@@ -63,8 +63,8 @@ fn node_fits(
     tables: &[Option<FieldTable>],
     depth: u32,
 ) -> bool
-    requires tables { AreTables (nodes_view nodes.now) tables.now }
-    requires table { IfSome table (λ t. IsTableOf t.now (node_view node.now)) }
+    requires tables { AreFieldTables (nodes_view nodes.now) tables.now }
+    requires table { IfSome table (λ t. IsFieldTableOf t.now (node_view node.now)) }
     ensures { result ≡ node_fits (fits depth (nodes_view nodes.now)) (view value.now) (Some (node_view node.now)) }
 {
     match node {
@@ -101,7 +101,7 @@ fn items_fit(
     tables: &[Option<FieldTable>],
     depth: u32,
 ) -> bool
-    requires tables { AreTables (nodes_view nodes.now) tables.now }
+    requires tables { AreFieldTables (nodes_view nodes.now) tables.now }
     ensures { result ≡ items_fit (fits depth (nodes_view nodes.now)) (items_view values.now.items) place }
 {
     for value in values {
@@ -120,7 +120,7 @@ fn members_fit(
     tables: &[Option<FieldTable>],
     depth: u32,
 ) -> bool
-    requires tables { AreTables (nodes_view nodes.now) tables.now }
+    requires tables { AreFieldTables (nodes_view nodes.now) tables.now }
     ensures { result ≡ members_fit (fits depth (nodes_view nodes.now)) (members_view members.now.entries) place }
 {
     for (_key, value) in members.iter() {
@@ -139,7 +139,7 @@ fn fields_fit(
     tables: &[Option<FieldTable>],
     depth: u32,
 ) -> bool
-    requires tables { AreTables (nodes_view nodes.now) tables.now }
+    requires tables { AreFieldTables (nodes_view nodes.now) tables.now }
     ensures { result ≡ fields_fit (fits depth (nodes_view nodes.now)) (members_view members.now.entries) (map field_view fields.now.items) }
 {
     for field in fields {
@@ -160,27 +160,27 @@ fn table_fits(
     tables: &[Option<FieldTable>],
     depth: u32,
 ) -> bool
-    requires tables { AreTables (nodes_view nodes.now) tables.now }
-    requires table { IsTable table.now (map field_view fields.now.items) }
+    requires tables { AreFieldTables (nodes_view nodes.now) tables.now }
+    requires table { IsFieldTable table.now (map field_view fields.now.items) }
     ensures { result ≡ fields_fit (fits depth (nodes_view nodes.now)) (members_view members.now.entries) (map field_view fields.now.items) }
 {
-    always_fit(members, fields, &table.always, nodes, tables, depth)
+    required_fit(members, fields, &table.required, nodes, tables, depth)
         && named_fit(members, fields, table, nodes, tables, depth)
 }
 
 #[cycle(fit)]
-fn always_fit(
+fn required_fit(
     members: &Extra,
     fields: &Vec<Field>,
-    always: &Vec<usize>,
+    required: &Vec<usize>,
     nodes: &[Node],
     tables: &[Option<FieldTable>],
     depth: u32,
 ) -> bool
-    requires tables { AreTables (nodes_view nodes.now) tables.now }
-    ensures { result ≡ list_all (λ i. fits_if_any (fits depth (nodes_view nodes.now)) (members_view members.now.entries) (slice_get (map field_view fields.now.items) i)) always.now.items }
+    requires tables { AreFieldTables (nodes_view nodes.now) tables.now }
+    ensures { result ≡ list_all (λ i. fits_if_any (fits depth (nodes_view nodes.now)) (members_view members.now.entries) (slice_get (map field_view fields.now.items) i)) required.now.items }
 {
-    for at in always {
+    for at in required {
         if !index_fits(members, fields, *at, nodes, tables, depth) {
             return false;
         }
@@ -197,7 +197,7 @@ fn named_fit(
     tables: &[Option<FieldTable>],
     depth: u32,
 ) -> bool
-    requires tables { AreTables (nodes_view nodes.now) tables.now }
+    requires tables { AreFieldTables (nodes_view nodes.now) tables.now }
     ensures { result ≡ named_fit (fits depth (nodes_view nodes.now)) (members_view members.now.entries) (map field_view fields.now.items) table.now (members_view members.now.entries) }
 {
     for (key, _value) in members.iter() {
@@ -219,7 +219,7 @@ fn name_fits(
     tables: &[Option<FieldTable>],
     depth: u32,
 ) -> bool
-    requires tables { AreTables (nodes_view nodes.now) tables.now }
+    requires tables { AreFieldTables (nodes_view nodes.now) tables.now }
     ensures { result ≡ index_fits (fits depth (nodes_view nodes.now)) (members_view members.now.entries) (map field_view fields.now.items) (named_in table.now name.now) }
 {
     match table.by_name.get(name) {
@@ -238,7 +238,7 @@ fn index_fits(
     tables: &[Option<FieldTable>],
     depth: u32,
 ) -> bool
-    requires tables { AreTables (nodes_view nodes.now) tables.now }
+    requires tables { AreFieldTables (nodes_view nodes.now) tables.now }
     ensures { result ≡ fits_if_any (fits depth (nodes_view nodes.now)) (members_view members.now.entries) (slice_get (map field_view fields.now.items) at) }
 {
     match fields.get(at) {
@@ -255,7 +255,7 @@ fn field_fits(
     tables: &[Option<FieldTable>],
     depth: u32,
 ) -> bool
-    requires tables { AreTables (nodes_view nodes.now) tables.now }
+    requires tables { AreFieldTables (nodes_view nodes.now) tables.now }
     ensures { result ≡ field_fits_by (fits depth (nodes_view nodes.now)) (field_view field.now) (get_member (string_bytes field.now.name) (members_view members.now.entries)) }
 {
     match member_of(members, field.name.as_str()) {

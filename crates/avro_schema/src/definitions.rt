@@ -8,20 +8,20 @@ ghost use Rattle.serde_json.specs.View.{view, members_view};
 ghost use Rattle.avro_nodes.specs.Nodes.{texts_view, named_view, nodes_view};
 ghost use Rattle.avro_schema.specs.Attributes.{without_all, fallback_in};
 ghost use Rattle.avro_schema.specs.Inside.Borrowed.{members_data};
-ghost use Rattle.avro_schema.specs.Inside.Declarations.{naming, if_new, new_name, named_in, symbols_in, enum_at, fixed_at, bounded};
+ghost use Rattle.avro_schema.specs.Inside.Declarations.{name_keys, if_new, new_name, named_in, symbols_in, enum_at, fixed_at, bounded};
 ghost use Rattle.avro_schema.specs.Inside.ValueReaders.{room_at};
-ghost use Rattle.avro_schema.specs.Inside.ReaderAnswers.{Gives, Reads};
+ghost use Rattle.avro_schema.specs.Inside.ReaderResults.{Gives, ReadsPart};
 ghost use Rattle.avro_schema.specs.Inside.NameTables.{known_in, KeepsNumbers};
 
 use crate::attributes::{names_if_any, names_of, size_of, take_items, take_text, take_text_if_any};
 use crate::borrowed::{Attributes, take};
 use crate::distinct::texts_differ;
 use crate::error::SchemaError;
+use crate::keywords::kind_of;
+use crate::name_table::NameTable;
 use crate::names::full_name;
 use crate::nesting::members_within;
 use crate::owning::{owned_members, take_default};
-use crate::places::Places;
-use crate::words::kind_of;
 use avro_nodes::{Extra, MAX_NESTING, MAX_PLACES, Named, Node, last_part, namespace_of};
 use serde_json::Value;
 use std::alloc::Global;
@@ -62,7 +62,7 @@ pub fn other_attributes(alloc: Global, attributes: Attributes<'_>) -> Result<Ext
 }
 
 /// The full name, where it may be defined.
-fn if_free(full: String, known: &Places) -> Result<String, SchemaError>
+fn if_free(full: String, known: &NameTable) -> Result<String, SchemaError>
     ensures { Gives string_bytes result (if_new (known_in known.now) (string_bytes full)) }
 {
     if known.place_of(full.as_str()).is_some() {
@@ -80,7 +80,7 @@ fn new_name(
     alloc: Global,
     attributes: &mut Attributes<'_>,
     space: &str,
-    known: &Places,
+    known: &NameTable,
 ) -> Result<String, SchemaError>
     ensures name { Gives string_bytes result
         (new_name space.now (members_data attributes.old) (known_in known.now)) }
@@ -109,12 +109,12 @@ pub fn named_of(
     alloc: Global,
     attributes: &mut Attributes<'_>,
     space: &str,
-    known: &Places,
+    known: &NameTable,
 ) -> Result<Named, SchemaError>
     ensures named { Gives named_view result
         (named_in space.now (members_data attributes.old) (known_in known.now)) }
     ensures rest { OnOk result (members_data attributes.new
-        ≡ without_all naming (members_data attributes.old)) }
+        ≡ without_all name_keys (members_data attributes.old)) }
 {
     let name = new_name(alloc, attributes, space, known)?;
     let listed = take(attributes, "aliases");
@@ -190,9 +190,9 @@ pub fn enum_at(
     attributes: Attributes<'_>,
     space: &str,
     nodes: &mut Vec<Node>,
-    known: &mut Places,
+    known: &mut NameTable,
 ) -> Result<u32, SchemaError>
-    ensures read { Reads (λ p. p) result
+    ensures read { ReadsPart (λ p. p) result
         (enum_at space.now (members_data attributes.entry) (known_in known.old) (length nodes.old.items))
         (nodes_view nodes.old.items) (nodes_view nodes.new.items) (known_in known.new) }
     ensures kept { OnOk result (KeepsNumbers known.old known.new) }
@@ -226,9 +226,9 @@ pub fn fixed_at(
     attributes: Attributes<'_>,
     space: &str,
     nodes: &mut Vec<Node>,
-    known: &mut Places,
+    known: &mut NameTable,
 ) -> Result<u32, SchemaError>
-    ensures read { Reads (λ p. p) result
+    ensures read { ReadsPart (λ p. p) result
         (fixed_at space.now (members_data attributes.entry) (known_in known.old) (length nodes.old.items))
         (nodes_view nodes.old.items) (nodes_view nodes.new.items) (known_in known.new) }
     ensures kept { OnOk result (KeepsNumbers known.old known.new) }

@@ -1,7 +1,7 @@
 //! Why a text denotes no schema.
 
 ghost use Rattle.std.specs.Prelude.{◌≡◌};
-ghost use Rattle.avro_schema.specs.declared.error.Unread.TheVariants.{OutOfMemory as no_memory, Invalid as invalid};
+ghost use Rattle.avro_schema.specs.declared.error.JsonError.TheVariants.{OutOfMemory as no_memory, Invalid as invalid};
 ghost use Rattle.avro_schema.specs.declared.error.SchemaError.TheVariants.{OutOfMemory, NotJson};
 
 use avro_nodes::OutOfMemory as NoMemory;
@@ -70,44 +70,44 @@ impl<T: Drop> From<AllocFailed<T>> for SchemaError {
 
 /// Why a text was not read as JSON.
 #[derive(Clone, Copy, Debug, Drop)]
-pub enum Unread {
+pub enum JsonError {
     /// it is none
     Invalid,
     /// there was no memory
     OutOfMemory,
 }
 
-impl From<AllocError> for Unread {
+impl From<AllocError> for JsonError {
     ghost from_gives = { λ _ e. e ≡ no_memory };
 
-    fn from(_e: AllocError) -> Unread {
-        Unread::OutOfMemory
+    fn from(_e: AllocError) -> JsonError {
+        JsonError::OutOfMemory
     }
 }
 
-impl<T: Drop> From<AllocFailed<T>> for Unread {
+impl<T: Drop> From<AllocFailed<T>> for JsonError {
     ghost from_gives = { λ _ e. e ≡ no_memory };
 
-    fn from(_e: AllocFailed<T>) -> Unread {
-        Unread::OutOfMemory
+    fn from(_e: AllocFailed<T>) -> JsonError {
+        JsonError::OutOfMemory
     }
 }
 
-impl From<json::Invalid> for Unread {
+impl From<json::Invalid> for JsonError {
     ghost from_gives = { λ _ e. e ≡ invalid };
 
-    fn from(_e: json::Invalid) -> Unread {
-        Unread::Invalid
+    fn from(_e: json::Invalid) -> JsonError {
+        JsonError::Invalid
     }
 }
 
-impl From<Unread> for SchemaError {
+impl From<JsonError> for SchemaError {
     ghost from_gives = { λ e x. (e ≡ no_memory → x ≡ OutOfMemory) × (e ≡ invalid → x ≡ NotJson) };
 
-    fn from(e: Unread) -> SchemaError {
+    fn from(e: JsonError) -> SchemaError {
         match e {
-            Unread::Invalid => SchemaError::NotJson,
-            Unread::OutOfMemory => SchemaError::OutOfMemory,
+            JsonError::Invalid => SchemaError::NotJson,
+            JsonError::OutOfMemory => SchemaError::OutOfMemory,
         }
     }
 }

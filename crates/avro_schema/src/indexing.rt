@@ -2,11 +2,11 @@
 
 ghost use Rattle.std.specs.Prelude.{◌≡◌, ◌++◌, All, Contains, IfOk, OnOk, map};
 ghost use Rattle.avro_nodes.specs.Nodes.{field_view, named_view, node_view, nodes_view, texts_view};
-ghost use Rattle.avro_schema.specs.Index.{AreFieldsRanked, AreNames, AreRanked, IsFieldRanked, IsIndex, IsNamedRanked, IsRanked};
+ghost use Rattle.avro_schema.specs.Index.{AreFieldsRanked, AreIndexNames, AreRanked, IsFieldRanked, IsIndex, IsNamedRanked, IsRanked};
 ghost use Rattle.avro_schema.specs.Inside.NodeTexts.{borrowed, named_texts, field_texts, fields_texts, node_texts, nodes_texts};
 
 use crate::index::{FieldRanks, Index, NamedRanks, Ranks};
-use crate::ranking::{owned, rank_of, ranks_of, rising_ranks_of, sorted_once};
+use crate::ranking::{owned, rank_of, ranks_of, sorted_ranks_of, sorted_unique};
 use avro_nodes::{Field, Named, Node, last_part};
 use std::alloc::{AllocError, Global};
 use std::slice::Iter;
@@ -93,14 +93,14 @@ fn named_ranks(
     hints: &mut Iter<'_, u32>,
     named: &Named,
 ) -> Result<NamedRanks, AllocError>
-    requires names { AreNames (borrowed names.now) }
+    requires names { AreIndexNames (borrowed names.now) }
     requires known { All (Contains (borrowed names.now)) (named_texts (named_view named.now)) }
     ensures { IfOk result (IsNamedRanked (borrowed names.now) (named_view named.now)) }
 {
     let name = named.name.as_str();
     let last = rank_of(names, hints, last_part(name));
     let full = rank_of(names, hints, name);
-    let aliases = rising_ranks_of(alloc, names, hints, &named.aliases)?;
+    let aliases = sorted_ranks_of(alloc, names, hints, &named.aliases)?;
     Ok(NamedRanks {
         last,
         full,
@@ -114,7 +114,7 @@ fn field_ranks(
     hints: &mut Iter<'_, u32>,
     field: &Field,
 ) -> Result<FieldRanks, AllocError>
-    requires names { AreNames (borrowed names.now) }
+    requires names { AreIndexNames (borrowed names.now) }
     requires known { All (Contains (borrowed names.now)) (field_texts (field_view field.now)) }
     ensures { IfOk result (IsFieldRanked (borrowed names.now) (field_view field.now)) }
 {
@@ -129,7 +129,7 @@ fn fields_ranks(
     hints: &mut Iter<'_, u32>,
     fields: &[Field],
 ) -> Result<Vec<FieldRanks>, AllocError>
-    requires names { AreNames (borrowed names.now) }
+    requires names { AreIndexNames (borrowed names.now) }
     requires known { All (Contains (borrowed names.now)) (fields_texts (map field_view fields.now)) }
     ensures { IfOk result (λ v. AreFieldsRanked (borrowed names.now) (map field_view fields.now) v.items) }
 {
@@ -146,14 +146,14 @@ fn node_ranks(
     hints: &mut Iter<'_, u32>,
     node: &Node,
 ) -> Result<Ranks, AllocError>
-    requires names { AreNames (borrowed names.now) }
+    requires names { AreIndexNames (borrowed names.now) }
     requires known { All (Contains (borrowed names.now)) (node_texts (node_view node.now)) }
     ensures { IfOk result (IsRanked (borrowed names.now) (node_view node.now)) }
 {
     match node {
         Node::Enum { named, symbols, .. } => {
             let named = named_ranks(alloc, names, hints, named)?;
-            let symbols = rising_ranks_of(alloc, names, hints, symbols)?;
+            let symbols = sorted_ranks_of(alloc, names, hints, symbols)?;
             Ok(Ranks::Enum { named, symbols })
         }
         Node::Fixed { named, .. } => {
@@ -178,7 +178,7 @@ fn nodes_ranks(
     hints: &mut Iter<'_, u32>,
     nodes: &[Node],
 ) -> Result<Vec<Ranks>, AllocError>
-    requires names { AreNames (borrowed names.now) }
+    requires names { AreIndexNames (borrowed names.now) }
     requires known { All (Contains (borrowed names.now)) (nodes_texts (nodes_view nodes.now)) }
     ensures { IfOk result (λ v. AreRanked (borrowed names.now) (nodes_view nodes.now) v.items) }
 {
@@ -198,7 +198,7 @@ pub fn index_of(alloc: Global, nodes: &[Node]) -> Result<Index, AllocError>
     ensures { IfOk result (IsIndex (nodes_view nodes.now)) }
 {
     let texts = texts_of(alloc, nodes)?;
-    let (sorted, hints) = sorted_once(alloc, texts)?;
+    let (sorted, hints) = sorted_unique(alloc, texts)?;
     if sorted.len() > MAX_NAMES {
         return Err(AllocError);
     }

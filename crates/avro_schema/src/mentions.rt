@@ -24,26 +24,26 @@ fn name_length(nodes: &[Node], place: u32) -> usize
 
 /// What is left of a number of bytes after the name of the type at the place, and nothing where
 /// they do not suffice.
-fn after_place(left: usize, place: u32, nodes: &[Node]) -> usize
-    ensures { result ≡ left - mention (nodes_view nodes.now) place }
+fn after_place(budget: usize, place: u32, nodes: &[Node]) -> usize
+    ensures { result ≡ budget - mention (nodes_view nodes.now) place }
 {
-    left.saturating_sub(name_length(nodes, place))
+    budget.saturating_sub(name_length(nodes, place))
 }
 
-fn after_places(left: usize, places: &Vec<u32>, nodes: &[Node]) -> usize
-    ensures { result ≡ left - places_mentions (nodes_view nodes.now) places.now.items }
+fn after_places(budget: usize, places: &Vec<u32>, nodes: &[Node]) -> usize
+    ensures { result ≡ budget - places_mentions (nodes_view nodes.now) places.now.items }
 {
-    let mut rest = left;
+    let mut rest = budget;
     for place in places {
         rest = after_place(rest, *place, nodes);
     }
     rest
 }
 
-fn after_fields(left: usize, fields: &Vec<Field>, nodes: &[Node]) -> usize
-    ensures { result ≡ left - fields_mentions (nodes_view nodes.now) (map field_view fields.now.items) }
+fn after_fields(budget: usize, fields: &Vec<Field>, nodes: &[Node]) -> usize
+    ensures { result ≡ budget - fields_mentions (nodes_view nodes.now) (map field_view fields.now.items) }
 {
-    let mut rest = left;
+    let mut rest = budget;
     for field in fields {
         rest = after_place(rest, field.place, nodes);
     }
@@ -51,22 +51,22 @@ fn after_fields(left: usize, fields: &Vec<Field>, nodes: &[Node]) -> usize
 }
 
 /// What is left after the names of the types that a node is made of.
-fn after_node(left: usize, node: &Node, nodes: &[Node]) -> usize
-    ensures { result ≡ left - node_mentions (nodes_view nodes.now) (node_view node.now) }
+fn after_node(budget: usize, node: &Node, nodes: &[Node]) -> usize
+    ensures { result ≡ budget - node_mentions (nodes_view nodes.now) (node_view node.now) }
 {
     match node {
-        Node::Array { items, .. } => after_place(left, *items, nodes),
-        Node::Map { values, .. } => after_place(left, *values, nodes),
-        Node::Union { branches } => after_places(left, branches, nodes),
-        Node::Rec { fields, .. } => after_fields(left, fields, nodes),
-        Node::Primitive { .. } | Node::Enum { .. } | Node::Fixed { .. } => left,
+        Node::Array { items, .. } => after_place(budget, *items, nodes),
+        Node::Map { values, .. } => after_place(budget, *values, nodes),
+        Node::Union { branches } => after_places(budget, branches, nodes),
+        Node::Rec { fields, .. } => after_fields(budget, fields, nodes),
+        Node::Primitive { .. } | Node::Enum { .. } | Node::Fixed { .. } => budget,
     }
 }
 
-fn after_nodes(left: usize, nodes: &[Node]) -> usize
-    ensures { result ≡ left - mentions (nodes_view nodes.now) (nodes_view nodes.now) }
+fn after_nodes(budget: usize, nodes: &[Node]) -> usize
+    ensures { result ≡ budget - mentions (nodes_view nodes.now) (nodes_view nodes.now) }
 {
-    let mut rest = left;
+    let mut rest = budget;
     for node in nodes {
         rest = after_node(rest, node, nodes);
     }

@@ -2,45 +2,45 @@
 
 ghost use Rattle.std.specs.Prelude.{◌≡◌, ◌<◌, length, IfOk, option_map, string_bytes};
 ghost use Rattle.std.specs.List.{list_all};
-ghost use Rattle.avro_schema.specs.Names.{is_start, is_part, is_dotted, is_simple, joined, is_space, full_name, alias_in};
-ghost use Rattle.avro_schema.specs.Inside.NameTables.{without_space};
+ghost use Rattle.avro_schema.specs.Names.{is_name_start, is_name_part, is_name_sequence, is_simple, qualified, is_namespace, full_name, alias_in};
+ghost use Rattle.avro_schema.specs.Inside.NameTables.{without_namespace};
 
 use avro_nodes::{has_dot, last_part};
 use std::alloc::{AllocError, Global};
 
-fn is_start(c: u8) -> bool
-    ensures { result ≡ is_start c }
+fn is_name_start(c: u8) -> bool
+    ensures { result ≡ is_name_start c }
 {
     c.is_ascii_alphabetic() || c == b'_'
 }
 
-fn is_part(c: u8) -> bool
-    ensures { result ≡ is_part c }
+fn is_name_part(c: u8) -> bool
+    ensures { result ≡ is_name_part c }
 {
-    is_start(c) || c.is_ascii_digit()
+    is_name_start(c) || c.is_ascii_digit()
 }
 
-fn are_parts(bytes: &[u8]) -> bool
-    ensures { result ≡ list_all is_part bytes.now }
+fn are_name_parts(bytes: &[u8]) -> bool
+    ensures { result ≡ list_all is_name_part bytes.now }
 {
-    bytes.iter().all(|c| is_part(*c))
+    bytes.iter().all(|c| is_name_part(*c))
 }
 
 /// Whether these are simple names joined by dots.
-pub fn is_dotted(text: &str) -> bool
-    ensures { result ≡ is_dotted text.now }
+pub fn is_name_sequence(text: &str) -> bool
+    ensures { result ≡ is_name_sequence text.now }
 {
     let bytes = text.as_bytes();
     let mut fresh = true;
     for c in bytes {
         if fresh {
-            if !is_start(*c) {
+            if !is_name_start(*c) {
                 return false;
             }
             fresh = false;
         } else if *c == b'.' {
             fresh = true;
-        } else if !is_part(*c) {
+        } else if !is_name_part(*c) {
             return false;
         }
     }
@@ -54,22 +54,22 @@ pub fn is_simple(text: &str) -> bool
 {
     match text.as_bytes() {
         [] => false,
-        [first, rest @ ..] => is_start(*first) && are_parts(rest),
+        [first, rest @ ..] => is_name_start(*first) && are_name_parts(rest),
     }
 }
 
 /// Whether this is a namespace: the null one, or simple names joined by dots.
-pub fn is_space(text: &str) -> bool
-    ensures { result ≡ is_space text.now }
+pub fn is_namespace(text: &str) -> bool
+    ensures { result ≡ is_namespace text.now }
 {
-    text.is_empty() || is_dotted(text)
+    text.is_empty() || is_name_sequence(text)
 }
 
 /// The name behind a namespace that is not the null one.
-#[tactic(auto, unfolding(crate::specs::Names::joined))]
+#[tactic(auto, unfolding(crate::specs::Names::qualified))]
 fn dotted(alloc: Global, space: &str, name: &str) -> Result<String, AllocError>
     requires { 0 < length space.now }
-    ensures { IfOk result (λ s. string_bytes s ≡ joined space.now name.now) }
+    ensures { IfOk result (λ s. string_bytes s ≡ qualified space.now name.now) }
 {
     let mut full = String::with_capacity(alloc, space.len() + 1 + name.len())?;
     full.push_str(space)?;
@@ -79,9 +79,9 @@ fn dotted(alloc: Global, space: &str, name: &str) -> Result<String, AllocError>
 }
 
 /// The full name that the simple name has in the namespace.
-#[tactic(auto, unfolding(crate::specs::Names::joined))]
-fn joined(alloc: Global, space: &str, name: &str) -> Result<String, AllocError>
-    ensures { IfOk result (λ s. string_bytes s ≡ joined space.now name.now) }
+#[tactic(auto, unfolding(crate::specs::Names::qualified))]
+fn qualified(alloc: Global, space: &str, name: &str) -> Result<String, AllocError>
+    ensures { IfOk result (λ s. string_bytes s ≡ qualified space.now name.now) }
 {
     if space.is_empty() {
         return String::from_str(alloc, name);
@@ -90,8 +90,8 @@ fn joined(alloc: Global, space: &str, name: &str) -> Result<String, AllocError>
 }
 
 /// A full name without its namespace, which is given.
-pub fn without_space<'a>(space: &str, full: &'a str) -> &'a str
-    ensures { result.now ≡ without_space space.now full.now }
+pub fn without_namespace<'a>(space: &str, full: &'a str) -> &'a str
+    ensures { result.now ≡ without_namespace space.now full.now }
 {
     if space.is_empty() {
         full
@@ -115,7 +115,7 @@ pub fn full_name(
     ensures { IfOk result (λ o. option_map string_bytes o
         ≡ full_name name.now (option_map (λ s. s.now) attribute.entry) enclosing.now) }
 {
-    if !is_dotted(name) {
+    if !is_name_sequence(name) {
         return Ok(None);
     }
     if has_dot(name) {
@@ -123,13 +123,13 @@ pub fn full_name(
     }
     match attribute {
         Some(space) => {
-            if is_space(space) {
-                Ok(Some(joined(alloc, space, name)?))
+            if is_namespace(space) {
+                Ok(Some(qualified(alloc, space, name)?))
             } else {
                 Ok(None)
             }
         }
-        None => Ok(Some(joined(alloc, enclosing, name)?)),
+        None => Ok(Some(qualified(alloc, enclosing, name)?)),
     }
 }
 
@@ -142,11 +142,11 @@ pub fn full_name(
 pub fn alias_in(alloc: Global, space: &str, name: &str) -> Result<Option<String>, AllocError>
     ensures { IfOk result (λ o. option_map string_bytes o ≡ alias_in space.now name.now) }
 {
-    if !is_dotted(name) {
+    if !is_name_sequence(name) {
         return Ok(None);
     }
     if has_dot(name) {
         return Ok(Some(String::from_str(alloc, name)?));
     }
-    Ok(Some(joined(alloc, space, name)?))
+    Ok(Some(qualified(alloc, space, name)?))
 }

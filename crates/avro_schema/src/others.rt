@@ -13,18 +13,18 @@ use std::alloc::{AllocError, Global};
 
 /// Members without a reserved name, by name.
 #[derive(Debug, Drop)]
-pub struct Others {
+pub struct OtherMembers {
     members: Extra,
     ghost unreserved: { has_reserved (members_view members.entries) ≡ false },
     ghost in_order: { are_in_order (members_view members.entries) ≡ true },
 }
 
-impl Others {
+impl OtherMembers {
     /// No members.
-    pub fn none(alloc: Global) -> Others
+    pub fn none(alloc: Global) -> OtherMembers
         ensures { members_view result.members.entries ≡ no_members }
     {
-        Others {
+        OtherMembers {
             members: Extra::new(alloc),
         }
     }

@@ -3,14 +3,14 @@
 
 ghost use Rattle.std.specs.Prelude.{◌≡◌, ◌<◌, ◌^◌, All, Contains, IfOk, IfSome, length, map};
 ghost use Rattle.avro_nodes.specs.Nodes.{texts_view};
-ghost use Rattle.avro_schema.specs.Index.{AreNames, AreRanks, AreRisingRanks, IsRank, Rise};
+ghost use Rattle.avro_schema.specs.Index.{AreIndexNames, AreRanks, AreSortedRanks, IsRank, AreStrictlySorted};
 ghost use Rattle.avro_schema.specs.Inside.NodeTexts.{borrowed};
 
 use std::alloc::{AllocError, Global};
 use std::slice::Iter;
 
 /// The texts, each with its place in the list.
-fn placed<'a>(alloc: Global, texts: &[&'a str]) -> Result<Vec<(&'a str, usize)>, AllocError>
+fn with_indices<'a>(alloc: Global, texts: &[&'a str]) -> Result<Vec<(&'a str, usize)>, AllocError>
     ensures { IfOk result (λ v. map (λ p. p.0) v.items ≡ texts.now) }
 {
     let mut list = Vec::with_capacity(alloc, texts.len())?;
@@ -21,7 +21,7 @@ fn placed<'a>(alloc: Global, texts: &[&'a str]) -> Result<Vec<(&'a str, usize)>,
 }
 
 /// The texts without their places.
-fn unplaced<'a>(alloc: Global, list: &[(&'a str, usize)]) -> Result<Vec<&'a str>, AllocError>
+fn without_indices<'a>(alloc: Global, list: &[(&'a str, usize)]) -> Result<Vec<&'a str>, AllocError>
     ensures { IfOk result (λ v. v.items ≡ map (λ p. p.0) list.now) }
 {
     let mut texts = Vec::with_capacity(alloc, list.len())?;
@@ -57,18 +57,18 @@ fn hints_of(alloc: Global, sorted: &[(&str, usize)]) -> Result<Vec<u32>, AllocEr
 /// # Errors
 ///
 /// `AllocError` if an allocation fails.
-pub fn sorted_once<'a>(
+pub fn sorted_unique<'a>(
     alloc: Global,
     texts: Vec<&'a str>,
 ) -> Result<(Vec<&'a str>, Vec<u32>), AllocError>
-    ensures rise { IfOk result (λ r. Rise (borrowed r.0.items)) }
+    ensures rise { IfOk result (λ r. AreStrictlySorted (borrowed r.0.items)) }
     ensures all { IfOk result (λ r. All (Contains (borrowed r.0.items)) (borrowed texts.entry.items)) }
 {
-    let mut sorted = placed(alloc, &texts)?;
+    let mut sorted = with_indices(alloc, &texts)?;
     drop(texts);
     sorted.sort_unstable_by_key(|entry| entry.0);
     let hints = hints_of(alloc, &sorted)?;
-    let mut names = unplaced(alloc, &sorted)?;
+    let mut names = without_indices(alloc, &sorted)?;
     names.dedup();
     Ok((names, hints))
 }
@@ -103,7 +103,7 @@ fn confirmed(names: &[&str], hint: Option<&u32>, text: &str) -> Option<u32>
 
 /// The rank of a text, which is one of the names.
 pub fn rank_of(names: &[&str], hints: &mut Iter<'_, u32>, text: &str) -> u32
-    requires names { AreNames (borrowed names.now) }
+    requires names { AreIndexNames (borrowed names.now) }
     requires known { Contains (borrowed names.now) text.now }
     ensures { IsRank (borrowed names.now) text.now result }
 {
@@ -127,7 +127,7 @@ pub fn ranks_of(
     hints: &mut Iter<'_, u32>,
     texts: &[String],
 ) -> Result<Vec<u32>, AllocError>
-    requires names { AreNames (borrowed names.now) }
+    requires names { AreIndexNames (borrowed names.now) }
     requires known { All (Contains (borrowed names.now)) (texts_view texts.now) }
     ensures { IfOk result (λ v. AreRanks (borrowed names.now) (texts_view texts.now) v.items) }
 {
@@ -143,15 +143,15 @@ pub fn ranks_of(
 /// # Errors
 ///
 /// `AllocError` if an allocation fails.
-pub fn rising_ranks_of(
+pub fn sorted_ranks_of(
     alloc: Global,
     names: &[&str],
     hints: &mut Iter<'_, u32>,
     texts: &[String],
 ) -> Result<Vec<u32>, AllocError>
-    requires names { AreNames (borrowed names.now) }
+    requires names { AreIndexNames (borrowed names.now) }
     requires known { All (Contains (borrowed names.now)) (texts_view texts.now) }
-    ensures { IfOk result (λ v. AreRisingRanks (borrowed names.now) (texts_view texts.now) v.items) }
+    ensures { IfOk result (λ v. AreSortedRanks (borrowed names.now) (texts_view texts.now) v.items) }
 {
     let mut ranks = ranks_of(alloc, names, hints, texts)?;
     ranks.sort_unstable();

@@ -5,7 +5,7 @@ ghost use Rattle.avro_nodes.specs.Nodes.{field_view, nodes_view};
 ghost use Rattle.avro_schema.specs.Inside.Borrowed.{value_data, items_data, members_data};
 ghost use Rattle.avro_schema.specs.Inside.ValueReaders.{parts_of};
 ghost use Rattle.avro_schema.specs.Inside.Types.{container_at, branch_of, union_at, field_of, record_at, object_at, type_at};
-ghost use Rattle.avro_schema.specs.Inside.ReaderAnswers.{Reads};
+ghost use Rattle.avro_schema.specs.Inside.ReaderResults.{ReadsPart};
 ghost use Rattle.avro_schema.specs.Inside.NameTables.{known_in, HasNumber, KeepsNumbers};
 
 use crate::attributes::{take_items, take_text};
@@ -13,12 +13,12 @@ use crate::borrowed::{Attributes, Json, members_of, take};
 use crate::definitions::{enum_at, fixed_at, named_of, next_place, other_attributes};
 use crate::distinct::{kinds_differ, texts_differ};
 use crate::error::SchemaError;
-use crate::labels::label_of;
-use crate::places::{Places, Space};
-use crate::reading::kinds::{branch_number, key_of};
+use crate::field_attributes::field_attributes_of;
+use crate::keywords::{Container, TypeName, type_name_of};
+use crate::name_table::{NameTable, Namespace};
+use crate::reading::kinds::{branch_number, member_name};
 use crate::reading::names::{name_at, primitive_at, reference_to};
 use crate::reading::nodes::{blank, container_node, field_from, fill_blank};
-use crate::words::{Container, Word, word_of};
 use avro_nodes::{Field, Node, namespace_of};
 use std::alloc::Global;
 
@@ -36,13 +36,13 @@ mod nodes;
 pub fn type_at(
     alloc: Global,
     value: Json<'_>,
-    space: &Space,
+    space: &Namespace,
     depth: u32,
     nodes: &mut Vec<Node>,
-    known: &mut Places,
+    known: &mut NameTable,
 ) -> Result<u32, SchemaError>
     requires { HasNumber known.old space.now }
-    ensures read { Reads (λ p. p) result
+    ensures read { ReadsPart (λ p. p) result
         (type_at depth space.now.text.now (value_data value.entry) (known_in known.old) (length nodes.old.items))
         (nodes_view nodes.old.items) (nodes_view nodes.new.items) (known_in known.new) }
     ensures kept { OnOk result (KeepsNumbers known.old known.new) }
@@ -64,13 +64,13 @@ pub fn type_at(
 fn object_at(
     alloc: Global,
     object: Attributes<'_>,
-    space: &Space,
+    space: &Namespace,
     depth: u32,
     nodes: &mut Vec<Node>,
-    known: &mut Places,
+    known: &mut NameTable,
 ) -> Result<u32, SchemaError>
     requires { HasNumber known.old space.now }
-    ensures read { Reads (λ p. p) result
+    ensures read { ReadsPart (λ p. p) result
         (object_at (type_at depth) space.now.text.now (members_data object.entry) (known_in known.old) (length nodes.old.items))
         (nodes_view nodes.old.items) (nodes_view nodes.new.items) (known_in known.new) }
     ensures kept { OnOk result (KeepsNumbers known.old known.new) }
@@ -79,9 +79,9 @@ fn object_at(
     let Some(name) = take_text(&mut attributes, "type") else {
         return Err(SchemaError::BadShape);
     };
-    match word_of(name) {
-        Word::Primitive(kind) => primitive_at(alloc, kind, attributes, nodes, known),
-        Word::Array => container_at(
+    match type_name_of(name) {
+        TypeName::Primitive(kind) => primitive_at(alloc, kind, attributes, nodes, known),
+        TypeName::Array => container_at(
             alloc,
             Container::Items,
             attributes,
@@ -90,7 +90,7 @@ fn object_at(
             nodes,
             known,
         ),
-        Word::Map => container_at(
+        TypeName::Map => container_at(
             alloc,
             Container::Values,
             attributes,
@@ -99,10 +99,10 @@ fn object_at(
             nodes,
             known,
         ),
-        Word::Fixed => fixed_at(alloc, attributes, space.text, nodes, known),
-        Word::Enum => enum_at(alloc, attributes, space.text, nodes, known),
-        Word::Record => record_at(alloc, attributes, space, depth, nodes, known),
-        Word::Reference => {
+        TypeName::Fixed => fixed_at(alloc, attributes, space.text, nodes, known),
+        TypeName::Enum => enum_at(alloc, attributes, space.text, nodes, known),
+        TypeName::Record => record_at(alloc, attributes, space, depth, nodes, known),
+        TypeName::Reference => {
             drop(other_attributes(alloc, attributes)?);
             reference_to(name, space, nodes, known)
         }
@@ -114,20 +114,20 @@ fn container_at(
     alloc: Global,
     container: Container,
     attributes: Attributes<'_>,
-    space: &Space,
+    space: &Namespace,
     depth: u32,
     nodes: &mut Vec<Node>,
-    known: &mut Places,
+    known: &mut NameTable,
 ) -> Result<u32, SchemaError>
     requires { HasNumber known.old space.now }
-    ensures read { Reads (λ p. p) result
+    ensures read { ReadsPart (λ p. p) result
         (container_at container (type_at depth space.now.text.now) (members_data attributes.entry) (known_in known.old) (length nodes.old.items))
         (nodes_view nodes.old.items) (nodes_view nodes.new.items) (known_in known.new) }
     ensures kept { OnOk result (KeepsNumbers known.old known.new) }
 {
     let mut rest = attributes;
     let place = next_place(nodes)?;
-    let Some(inner) = take(&mut rest, key_of(container)) else {
+    let Some(inner) = take(&mut rest, member_name(container)) else {
         return Err(SchemaError::BadShape);
     };
     let extra = other_attributes(alloc, rest)?;
@@ -141,13 +141,13 @@ fn container_at(
 fn union_at(
     alloc: Global,
     items: Vec<Json<'_>>,
-    space: &Space,
+    space: &Namespace,
     depth: u32,
     nodes: &mut Vec<Node>,
-    known: &mut Places,
+    known: &mut NameTable,
 ) -> Result<u32, SchemaError>
     requires { HasNumber known.old space.now }
-    ensures read { Reads (λ p. p) result
+    ensures read { ReadsPart (λ p. p) result
         (union_at (type_at depth space.now.text.now) (items_data items.entry.items) (known_in known.old) (length nodes.old.items))
         (nodes_view nodes.old.items) (nodes_view nodes.new.items) (known_in known.new) }
     ensures kept { OnOk result (KeepsNumbers known.old known.new) }
@@ -167,13 +167,13 @@ fn union_at(
 fn branches_at(
     alloc: Global,
     items: Vec<Json<'_>>,
-    space: &Space,
+    space: &Namespace,
     depth: u32,
     nodes: &mut Vec<Node>,
-    known: &mut Places,
+    known: &mut NameTable,
 ) -> Result<Vec<(u32, u64)>, SchemaError>
     requires { HasNumber known.old space.now }
-    ensures read { Reads (λ v. v.items) result
+    ensures read { ReadsPart (λ v. v.items) result
         (parts_of (branch_of (type_at depth space.now.text.now)) (items_data items.entry.items) (known_in known.old) (length nodes.old.items))
         (nodes_view nodes.old.items) (nodes_view nodes.new.items) (known_in known.new) }
     ensures kept { OnOk result (KeepsNumbers known.old known.new) }
@@ -189,13 +189,13 @@ fn branches_at(
 fn branch_at(
     alloc: Global,
     value: Json<'_>,
-    space: &Space,
+    space: &Namespace,
     depth: u32,
     nodes: &mut Vec<Node>,
-    known: &mut Places,
+    known: &mut NameTable,
 ) -> Result<(u32, u64), SchemaError>
     requires { HasNumber known.old space.now }
-    ensures read { Reads (λ b. b) result
+    ensures read { ReadsPart (λ b. b) result
         (branch_of (type_at depth space.now.text.now) (value_data value.entry) (known_in known.old) (length nodes.old.items))
         (nodes_view nodes.old.items) (nodes_view nodes.new.items) (known_in known.new) }
     ensures kept { OnOk result (KeepsNumbers known.old known.new) }
@@ -212,13 +212,13 @@ fn branch_at(
 fn record_at(
     alloc: Global,
     attributes: Attributes<'_>,
-    space: &Space,
+    space: &Namespace,
     depth: u32,
     nodes: &mut Vec<Node>,
-    known: &mut Places,
+    known: &mut NameTable,
 ) -> Result<u32, SchemaError>
     requires { HasNumber known.old space.now }
-    ensures read { Reads (λ p. p) result
+    ensures read { ReadsPart (λ p. p) result
         (record_at (type_at depth) space.now.text.now (members_data attributes.entry) (known_in known.old) (length nodes.old.items))
         (nodes_view nodes.old.items) (nodes_view nodes.new.items) (known_in known.new) }
     ensures kept { OnOk result (KeepsNumbers known.old known.new) }
@@ -232,7 +232,7 @@ fn record_at(
     let extra = other_attributes(alloc, rest)?;
     nodes.push(blank(alloc))?;
     let number = known.define(alloc, named.name.as_str(), place)?;
-    let inside = Space {
+    let inside = Namespace {
         text: namespace_of(named.name.as_str()),
         number,
     };
@@ -253,13 +253,13 @@ fn record_at(
 fn fields_at(
     alloc: Global,
     items: Vec<Json<'_>>,
-    space: &Space,
+    space: &Namespace,
     depth: u32,
     nodes: &mut Vec<Node>,
-    known: &mut Places,
+    known: &mut NameTable,
 ) -> Result<Vec<Field>, SchemaError>
     requires { HasNumber known.old space.now }
-    ensures read { Reads (λ v. map field_view v.items) result
+    ensures read { ReadsPart (λ v. map field_view v.items) result
         (parts_of (field_of (type_at depth space.now.text.now)) (items_data items.entry.items) (known_in known.old) (length nodes.old.items))
         (nodes_view nodes.old.items) (nodes_view nodes.new.items) (known_in known.new) }
     ensures kept { OnOk result (KeepsNumbers known.old known.new) }
@@ -275,13 +275,13 @@ fn fields_at(
 fn field_at(
     alloc: Global,
     value: Json<'_>,
-    space: &Space,
+    space: &Namespace,
     depth: u32,
     nodes: &mut Vec<Node>,
-    known: &mut Places,
+    known: &mut NameTable,
 ) -> Result<Field, SchemaError>
     requires { HasNumber known.old space.now }
-    ensures read { Reads field_view result
+    ensures read { ReadsPart field_view result
         (field_of (type_at depth space.now.text.now) (value_data value.entry) (known_in known.old) (length nodes.old.items))
         (nodes_view nodes.old.items) (nodes_view nodes.new.items) (known_in known.new) }
     ensures kept { OnOk result (KeepsNumbers known.old known.new) }
@@ -291,7 +291,7 @@ fn field_at(
     };
     // most fields have a name and then a type, and what is last is found first
     let inner = take(&mut rest, "type");
-    let label = label_of(alloc, &mut rest)?;
+    let label = field_attributes_of(alloc, &mut rest)?;
     let Some(inner) = inner else {
         return Err(SchemaError::BadShape);
     };

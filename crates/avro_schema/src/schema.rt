@@ -10,7 +10,7 @@ ghost use Rattle.avro_schema.specs.Texts.{TextDenotes, IsSchema};
 ghost use Rattle.avro_schema.specs.DenotedNodes.{denoted_nodes};
 ghost use Rattle.avro_schema.specs.Inside.Borrowed.{value_data};
 ghost use Rattle.avro_schema.specs.Inside.DeclaredNodes.{value_in, root_in, declared_nodes};
-ghost use Rattle.avro_schema.specs.Inside.ReaderAnswers.{Gives};
+ghost use Rattle.avro_schema.specs.Inside.ReaderResults.{Gives};
 
 use crate::borrowed::Json;
 use crate::defaults::defaults_fit;
@@ -18,7 +18,7 @@ use crate::error::SchemaError;
 use crate::index::Index;
 use crate::indexing::index_of;
 use crate::mentions::mentions_fit;
-use crate::places::{Places, Space};
+use crate::name_table::{NameTable, Namespace};
 use crate::reading::type_at;
 use crate::source::value_at;
 use crate::weight::names_fit;
@@ -51,11 +51,11 @@ impl Model for Schema {
 
     ghost use Rattle.avro_nodes.specs.Nodes.{nodes_view};
     ghost use Rattle.avro_schema.specs.Index.{IsIndex};
-    ghost use Rattle.avro_schema.specs.Texts.{Keeps};
+    ghost use Rattle.avro_schema.specs.Texts.{SchemaInvariant};
 
     ghost view = { λ s. s.nodes.items };
 
-    ghost invariant = { λ s. Keeps (nodes_view s.nodes.items) (string_bytes s.text)
+    ghost invariant = { λ s. SchemaInvariant (nodes_view s.nodes.items) (string_bytes s.text)
         × IsIndex (nodes_view s.nodes.items) s.index };
 }
 
@@ -77,7 +77,7 @@ fn value_of<'a>(
 }
 
 /// The nodes of a value, before their defaults and their identity text are looked at.
-fn typed(alloc: Global, value: Json<'_>) -> Result<Vec<Node>, SchemaError>
+fn nodes_of_value(alloc: Global, value: Json<'_>) -> Result<Vec<Node>, SchemaError>
     ensures { Gives (λ v. nodes_view v.items) result
         (option_and_then (λ p. Some p.nodes) (root_in (value_data value.entry))) }
 {
@@ -85,8 +85,8 @@ fn typed(alloc: Global, value: Json<'_>) -> Result<Vec<Node>, SchemaError>
         return Err(SchemaError::TooLarge);
     }
     let mut nodes = Vec::new(alloc);
-    let mut known = Places::none(alloc);
-    let outside = Space {
+    let mut known = NameTable::none(alloc);
+    let outside = Namespace {
         text: "",
         number: known.number(alloc, "")?,
     };
@@ -107,7 +107,7 @@ fn nodes_of(alloc: Global, text: &str) -> Result<Vec<Node>, SchemaError>
     };
     let mut scratch = Scratch::new(alloc);
     let value = value_of(alloc, respelt.as_str(), &mut scratch)?;
-    typed(alloc, value)
+    nodes_of_value(alloc, value)
 }
 
 impl Schema {
@@ -121,7 +121,7 @@ impl Schema {
     pub fn read(alloc: Global, text: &str) -> Result<Schema, SchemaError>
         ensures ok { IfOk result (λ s. TextDenotes text.now (nodes_view s)) }
         // a text denotes at most one schema
-        ensures alone { IfOk result (λ s. (nodes : List NodeView) → TextDenotes text.now nodes
+        ensures unique { IfOk result (λ s. (nodes : List NodeView) → TextDenotes text.now nodes
             → nodes ≡ nodes_view s) }
         ensures err { IfErr result (λ e. e ≢ SchemaError.OutOfMemory
             → (nodes : List NodeView) → ¬ TextDenotes text.now nodes) }
@@ -150,7 +150,7 @@ impl Schema {
     pub fn text(&self, alloc: Global) -> Result<String, OutOfMemory>
         ensures text { IfOk result (λ s. string_bytes s ≡ identity (nodes_view self.now)) }
         ensures denotes { IfOk result (λ s. TextDenotes (string_bytes s) (nodes_view self.now)) }
-        ensures alone { IfOk result (λ s. (nodes : List NodeView)
+        ensures unique { IfOk result (λ s. (nodes : List NodeView)
             → TextDenotes (string_bytes s) nodes → nodes ≡ nodes_view self.now) }
     {
         Ok(String::from_str(alloc, self.text.as_str())?)

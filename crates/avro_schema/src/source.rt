@@ -7,8 +7,8 @@ ghost use Rattle.serde_json.specs.Read.{of_json, of_items, of_members, converted
 ghost use Rattle.avro_schema.specs.Inside.Borrowed.{value_data, items_data, members_data};
 
 use crate::borrowed::{Attributes, Json, is_reserved, make_room, no_attributes, put_reserved};
-use crate::error::Unread;
-use crate::kept::{kept_value, number_of};
+use crate::error::JsonError;
+use crate::owned_values::{number_of, owned_value_at};
 use crate::owning::put_other;
 use json::{Reader, Token};
 use std::alloc::Global;
@@ -24,32 +24,32 @@ pub fn value_at<'a>(
     alloc: Global,
     reader: &mut Reader<'a>,
     depth: usize,
-) -> Result<Json<'a>, Unread>
+) -> Result<Json<'a>, JsonError>
     ensures ok { IfOk result
         (λ v. converted of_json (value depth reader.old) ≡ Some (value_data v, reader.new)) }
     ensures shorter { OnOk result (length reader.new < length reader.old) }
-    ensures invalid { result ≡ Err Unread.Invalid
+    ensures invalid { result ≡ Err JsonError.Invalid
         → converted of_json (value depth reader.old) ≡ None }
 {
-    let token = reader.next().ok_or(Unread::Invalid)?;
+    let token = reader.next().ok_or(JsonError::Invalid)?;
     match token {
         Token::String(text) => Ok(Json::Text(text)),
         Token::Number(text) => match number_of(text) {
             Some(number) => Ok(Json::Number(number)),
-            None => Err(Unread::Invalid),
+            None => Err(JsonError::Invalid),
         },
         Token::Bool(b) => Ok(Json::Bool(b)),
         Token::Null => Ok(Json::Null),
-        Token::EndObject | Token::EndArray | Token::Key(_) | Token::Bad => Err(Unread::Invalid),
+        Token::EndObject | Token::EndArray | Token::Key(_) | Token::Bad => Err(JsonError::Invalid),
         Token::BeginArray => {
             if depth == 0 {
-                return Err(Unread::Invalid);
+                return Err(JsonError::Invalid);
             }
             Ok(Json::Array(items_at(alloc, reader, depth - 1)?))
         }
         Token::BeginObject => {
             if depth == 0 {
-                return Err(Unread::Invalid);
+                return Err(JsonError::Invalid);
             }
             Ok(Json::Object(members_at(alloc, reader, depth - 1)?))
         }
@@ -62,12 +62,12 @@ fn items_at<'a>(
     alloc: Global,
     reader: &mut Reader<'a>,
     depth: usize,
-) -> Result<Vec<Json<'a>>, Unread>
+) -> Result<Vec<Json<'a>>, JsonError>
     ensures ok { IfOk result
         (λ v. converted of_items (items (value depth) (length reader.old) reader.old)
         ≡ Some (items_data v.items, reader.new)) }
     ensures shorter { OnOk result (length reader.new < length reader.old) }
-    ensures invalid { result ≡ Err Unread.Invalid
+    ensures invalid { result ≡ Err JsonError.Invalid
         → converted of_items (items (value depth) (length reader.old) reader.old) ≡ None }
 {
     let mut found = Vec::new(alloc);
@@ -88,11 +88,11 @@ fn member_at<'a>(
     found: &mut Attributes<'a>,
     reader: &mut Reader<'a>,
     depth: usize,
-) -> Result<(), Unread>
+) -> Result<(), JsonError>
     ensures ok { OnOk result ((d : Data) × (converted of_json (value depth reader.old) ≡ Some (d, reader.new))
         × (members_data found.new ≡ put key.now d (members_data found.old))) }
     ensures shorter { OnOk result (length reader.new < length reader.old) }
-    ensures invalid { result ≡ Err Unread.Invalid
+    ensures invalid { result ≡ Err JsonError.Invalid
         → converted of_json (value depth reader.old) ≡ None }
 {
     if is_reserved(key) {
@@ -100,7 +100,7 @@ fn member_at<'a>(
         put_reserved(found, key, member)?;
         return Ok(());
     }
-    let member = kept_value(alloc, reader, depth)?;
+    let member = owned_value_at(alloc, reader, depth)?;
     put_other(alloc, found, key, member)?;
     Ok(())
 }
@@ -111,13 +111,13 @@ fn members_at<'a>(
     alloc: Global,
     reader: &mut Reader<'a>,
     depth: usize,
-) -> Result<Attributes<'a>, Unread>
+) -> Result<Attributes<'a>, JsonError>
     ensures ok { IfOk result
         (λ m. converted (λ ms. of_members ms no_members)
         (members (value depth) (length reader.old) reader.old)
         ≡ Some (members_data m, reader.new)) }
     ensures shorter { OnOk result (length reader.new < length reader.old) }
-    ensures invalid { result ≡ Err Unread.Invalid
+    ensures invalid { result ≡ Err JsonError.Invalid
         → converted (λ ms. of_members ms no_members)
         (members (value depth) (length reader.old) reader.old) ≡ None }
 {

@@ -7,10 +7,10 @@ ghost use Rattle.avro_nodes.specs.Limits.{max_nesting, max_text};
 ghost use Rattle.avro_schema.specs.Attributes.{text_in, array_in};
 ghost use Rattle.avro_schema.specs.Inside.Reserved.{is_reserved_name};
 ghost use Rattle.avro_schema.specs.Inside.Borrowed.{value_data, items_data, members_data};
-ghost use Rattle.avro_schema.specs.Inside.Weight.{if_any, items_weight, full_in, alias_weight, space_in, names_weight, definition_weight, field_weight, record_weight, object_weight, weight};
+ghost use Rattle.avro_schema.specs.Inside.Weight.{if_any, items_weight, full_name_in, alias_weight, namespace_in, names_weight, definition_weight, field_weight, record_weight, object_weight, weight};
 
 use crate::borrowed::{Attributes, Json, array_of, find, object_of, text_of};
-use crate::words::{Word, word_of};
+use crate::keywords::{TypeName, type_name_of};
 use avro_nodes::{MAX_NESTING, MAX_TEXT, has_dot, namespace_of};
 
 /// The attribute of this name, if it is a string.
@@ -40,11 +40,11 @@ fn items_at<'t, 'a>(members: &'t Attributes<'a>, key: &str) -> Option<&'t Vec<Js
 
 /// What is left of a number of bytes after the full name that the name has in the namespace. As
 /// everywhere here, nothing is left where the bytes do not suffice.
-#[tactic(auto, unfolding(crate::specs::Inside::Weight::full_in, crate::specs::Names::joined))]
-fn after_name(left: usize, name: &str, space: &str) -> usize
-    ensures { result ≡ left - length (full_in space.now name.now) }
+#[tactic(auto, unfolding(crate::specs::Inside::Weight::full_name_in, crate::specs::Names::qualified))]
+fn after_name(budget: usize, name: &str, space: &str) -> usize
+    ensures { result ≡ budget - length (full_name_in space.now name.now) }
 {
-    let rest = left.saturating_sub(name.len());
+    let rest = budget.saturating_sub(name.len());
     if has_dot(name) || space.is_empty() {
         rest
     } else {
@@ -53,19 +53,19 @@ fn after_name(left: usize, name: &str, space: &str) -> usize
 }
 
 /// What is left after an alias of a type in the namespace.
-fn after_alias(left: usize, alias: &Json<'_>, space: &str) -> usize
-    ensures { result ≡ left - alias_weight space.now (value_data alias.now) }
+fn after_alias(budget: usize, alias: &Json<'_>, space: &str) -> usize
+    ensures { result ≡ budget - alias_weight space.now (value_data alias.now) }
 {
     match text_of(alias) {
-        Some(name) => after_name(left, name, space),
-        None => left,
+        Some(name) => after_name(budget, name, space),
+        None => budget,
     }
 }
 
-fn after_aliases(left: usize, aliases: &Vec<Json<'_>>, space: &str) -> usize
-    ensures { result ≡ left - items_weight (alias_weight space.now) (items_data aliases.now.items) }
+fn after_aliases(budget: usize, aliases: &Vec<Json<'_>>, space: &str) -> usize
+    ensures { result ≡ budget - items_weight (alias_weight space.now) (items_data aliases.now.items) }
 {
-    let mut rest = left;
+    let mut rest = budget;
     for alias in aliases {
         rest = after_alias(rest, alias, space);
     }
@@ -73,9 +73,13 @@ fn after_aliases(left: usize, aliases: &Vec<Json<'_>>, space: &str) -> usize
 }
 
 /// The namespace of a definition of this name, inside an enclosing one.
-#[tactic(auto, unfolding(crate::specs::Inside::Weight::space_in))]
-fn space_of<'a>(members: &'a Attributes<'_>, name: &'a str, enclosing: &'a str) -> &'a str
-    ensures { result.now ≡ space_in enclosing.now name.now (members_data members.now) }
+#[tactic(auto, unfolding(crate::specs::Inside::Weight::namespace_in))]
+fn definition_namespace<'a>(
+    members: &'a Attributes<'_>,
+    name: &'a str,
+    enclosing: &'a str,
+) -> &'a str
+    ensures { result.now ≡ namespace_in enclosing.now name.now (members_data members.now) }
 {
     if has_dot(name) {
         return namespace_of(name);
@@ -88,10 +92,10 @@ fn space_of<'a>(members: &'a Attributes<'_>, name: &'a str, enclosing: &'a str) 
 
 /// What is left after the name and the aliases of a definition in the namespace.
 #[tactic(auto, unfolding(crate::specs::Inside::Weight::names_weight))]
-fn after_names(left: usize, members: &Attributes<'_>, name: &str, space: &str) -> usize
-    ensures { result ≡ left - names_weight space.now name.now (members_data members.now) }
+fn after_names(budget: usize, members: &Attributes<'_>, name: &str, space: &str) -> usize
+    ensures { result ≡ budget - names_weight space.now name.now (members_data members.now) }
 {
-    let rest = after_name(left, name, space);
+    let rest = after_name(budget, name, space);
     match items_at(members, "aliases") {
         Some(aliases) => after_aliases(rest, aliases, space),
         None => rest,
@@ -100,46 +104,51 @@ fn after_names(left: usize, members: &Attributes<'_>, name: &str, space: &str) -
 
 /// What is left after a definition that has no types inside.
 #[tactic(auto, unfolding(crate::specs::Inside::Weight::definition_weight))]
-fn after_definition(left: usize, members: &Attributes<'_>, enclosing: &str) -> usize
-    ensures { result ≡ left - definition_weight enclosing.now (members_data members.now) }
+fn after_definition(budget: usize, members: &Attributes<'_>, enclosing: &str) -> usize
+    ensures { result ≡ budget - definition_weight enclosing.now (members_data members.now) }
 {
     match text_at(members, "name") {
-        Some(name) => after_names(left, members, name, space_of(&*members, name, enclosing)),
-        None => left,
+        Some(name) => after_names(
+            budget,
+            members,
+            name,
+            definition_namespace(&*members, name, enclosing),
+        ),
+        None => budget,
     }
 }
 
 /// What is left after the definitions of a type, nested no deeper than the number.
 #[cycle(weigh)]
 #[tactic(auto, unfolding(crate::specs::Inside::Weight::weight))]
-fn after_type(left: usize, value: &Json<'_>, space: &str, depth: u32) -> usize
-    ensures { result ≡ left - weight depth space.now (value_data value.now) }
+fn after_type(budget: usize, value: &Json<'_>, space: &str, depth: u32) -> usize
+    ensures { result ≡ budget - weight depth space.now (value_data value.now) }
 {
     if depth == 0 {
-        return left;
+        return budget;
     }
     match value {
-        Json::Array(items) => after_branches(left, items, space, depth - 1),
-        Json::Object(members) => after_object(left, members, space, depth - 1),
-        Json::Null | Json::Bool(_) | Json::Number(_) | Json::Text(_) => left,
+        Json::Array(items) => after_branches(budget, items, space, depth - 1),
+        Json::Object(members) => after_object(budget, members, space, depth - 1),
+        Json::Null | Json::Bool(_) | Json::Number(_) | Json::Text(_) => budget,
     }
 }
 
 #[cycle(weigh)]
-fn after_type_if_any(left: usize, value: Option<&Json<'_>>, space: &str, depth: u32) -> usize
-    ensures { result ≡ left - if_any (weight depth space.now) (option_map (λ v. value_data v.now) value.entry) }
+fn after_type_if_any(budget: usize, value: Option<&Json<'_>>, space: &str, depth: u32) -> usize
+    ensures { result ≡ budget - if_any (weight depth space.now) (option_map (λ v. value_data v.now) value.entry) }
 {
     match value {
-        Some(value) => after_type(left, value, space, depth),
-        None => left,
+        Some(value) => after_type(budget, value, space, depth),
+        None => budget,
     }
 }
 
 #[cycle(weigh)]
-fn after_branches(left: usize, items: &Vec<Json<'_>>, space: &str, depth: u32) -> usize
-    ensures { result ≡ left - items_weight (weight depth space.now) (items_data items.now.items) }
+fn after_branches(budget: usize, items: &Vec<Json<'_>>, space: &str, depth: u32) -> usize
+    ensures { result ≡ budget - items_weight (weight depth space.now) (items_data items.now.items) }
 {
-    let mut rest = left;
+    let mut rest = budget;
     for item in items {
         rest = after_type(rest, item, space, depth);
     }
@@ -148,31 +157,31 @@ fn after_branches(left: usize, items: &Vec<Json<'_>>, space: &str, depth: u32) -
 
 #[cycle(weigh)]
 #[tactic(auto, unfolding(crate::specs::Inside::Weight::object_weight))]
-fn after_object(left: usize, members: &Attributes<'_>, space: &str, depth: u32) -> usize
-    ensures { result ≡ left - object_weight (weight depth) space.now (members_data members.now) }
+fn after_object(budget: usize, members: &Attributes<'_>, space: &str, depth: u32) -> usize
+    ensures { result ≡ budget - object_weight (weight depth) space.now (members_data members.now) }
 {
     let Some(name) = text_at(members, "type") else {
-        return left;
+        return budget;
     };
-    match word_of(name) {
-        Word::Primitive(_) | Word::Reference => left,
-        Word::Array => after_type_if_any(left, find(members, "items"), space, depth),
-        Word::Map => after_type_if_any(left, find(members, "values"), space, depth),
-        Word::Fixed | Word::Enum => after_definition(left, members, space),
-        Word::Record => after_record(left, members, space, depth),
+    match type_name_of(name) {
+        TypeName::Primitive(_) | TypeName::Reference => budget,
+        TypeName::Array => after_type_if_any(budget, find(members, "items"), space, depth),
+        TypeName::Map => after_type_if_any(budget, find(members, "values"), space, depth),
+        TypeName::Fixed | TypeName::Enum => after_definition(budget, members, space),
+        TypeName::Record => after_record(budget, members, space, depth),
     }
 }
 
 #[cycle(weigh)]
 #[tactic(auto, unfolding(crate::specs::Inside::Weight::record_weight))]
-fn after_record(left: usize, members: &Attributes<'_>, enclosing: &str, depth: u32) -> usize
-    ensures { result ≡ left - record_weight (weight depth) enclosing.now (members_data members.now) }
+fn after_record(budget: usize, members: &Attributes<'_>, enclosing: &str, depth: u32) -> usize
+    ensures { result ≡ budget - record_weight (weight depth) enclosing.now (members_data members.now) }
 {
     let Some(name) = text_at(members, "name") else {
-        return left;
+        return budget;
     };
-    let space = space_of(&*members, name, enclosing);
-    let rest = after_names(left, members, name, space);
+    let space = definition_namespace(&*members, name, enclosing);
+    let rest = after_names(budget, members, name, space);
     match items_at(members, "fields") {
         Some(fields) => after_fields(rest, fields, space, depth),
         None => rest,
@@ -180,10 +189,10 @@ fn after_record(left: usize, members: &Attributes<'_>, enclosing: &str, depth: u
 }
 
 #[cycle(weigh)]
-fn after_fields(left: usize, fields: &Vec<Json<'_>>, space: &str, depth: u32) -> usize
-    ensures { result ≡ left - items_weight (field_weight (weight depth space.now)) (items_data fields.now.items) }
+fn after_fields(budget: usize, fields: &Vec<Json<'_>>, space: &str, depth: u32) -> usize
+    ensures { result ≡ budget - items_weight (field_weight (weight depth space.now)) (items_data fields.now.items) }
 {
-    let mut rest = left;
+    let mut rest = budget;
     for field in fields {
         rest = after_field(rest, field, space, depth);
     }
@@ -191,12 +200,12 @@ fn after_fields(left: usize, fields: &Vec<Json<'_>>, space: &str, depth: u32) ->
 }
 
 #[cycle(weigh)]
-fn after_field(left: usize, field: &Json<'_>, space: &str, depth: u32) -> usize
-    ensures { result ≡ left - field_weight (weight depth space.now) (value_data field.now) }
+fn after_field(budget: usize, field: &Json<'_>, space: &str, depth: u32) -> usize
+    ensures { result ≡ budget - field_weight (weight depth space.now) (value_data field.now) }
 {
     match object_of(field) {
-        Some(members) => after_type_if_any(left, find(members, "type"), space, depth),
-        None => left,
+        Some(members) => after_type_if_any(budget, find(members, "type"), space, depth),
+        None => budget,
     }
 }
 

@@ -7,4 +7,4 @@ mod random;
 mod text;
 
 pub use random::random_text;
-pub use text::{Text, text_of};
+pub use text::{Template, expand};

@@ -1,7 +1,7 @@
 //! Pairs of schemas made at random: both draw the same words, and each differs here and there.
 //! All kinds of types occur, alone and in arrays, maps and unions, and refer to records around them.
 
-use crate::text::{Marks, push_template};
+use crate::text::{Placeholders, push_template};
 use rand_pcg::Pcg32;
 use rand_pcg::rand_core::Rng;
 use std::alloc::{AllocError, Global};
@@ -51,7 +51,7 @@ struct Draft {
 
 /// A field by its record's level and its number there, and the words drawn for its type.
 #[derive(Clone, Copy)]
-struct Drawn {
+struct FieldDraw {
     level: u32,
     index: u32,
     shared: u32,
@@ -68,7 +68,7 @@ fn name_of(names: &[String], word: u32) -> &str {
 }
 
 /// The name of a field's enum or fixed type: now and then it is another one, which has aliases.
-fn push_name(text: &mut String, letter: &str, drawn: Drawn) -> Result<(), AllocError> {
+fn push_name(text: &mut String, letter: &str, drawn: FieldDraw) -> Result<(), AllocError> {
     let (level, index) = (drawn.level, drawn.index);
     if drawn.own % 32 == 2 {
         return write!(
@@ -80,7 +80,7 @@ fn push_name(text: &mut String, letter: &str, drawn: Drawn) -> Result<(), AllocE
 }
 
 /// An enum: now and then it has other symbols, or a default.
-fn push_enum(text: &mut String, drawn: Drawn) -> Result<(), AllocError> {
+fn push_enum(text: &mut String, drawn: FieldDraw) -> Result<(), AllocError> {
     let other = u32::from(drawn.own % 16 == 0);
     let symbols = SYMBOLS[((drawn.shared % 4 + other) % 4) as usize];
     text.push_str(r#"{"type":"enum","#)?;
@@ -93,7 +93,7 @@ fn push_enum(text: &mut String, drawn: Drawn) -> Result<(), AllocError> {
 }
 
 /// A fixed type, whose default is returned: now and then it has another size.
-fn push_fixed(text: &mut String, drawn: Drawn) -> Result<&'static str, AllocError> {
+fn push_fixed(text: &mut String, drawn: FieldDraw) -> Result<&'static str, AllocError> {
     let other = u32::from(drawn.own % 32 == 0);
     let size = (drawn.shared % 4 + other) % 4;
     text.push_str(r#"{"type":"fixed","#)?;
@@ -106,9 +106,9 @@ fn push_fixed(text: &mut String, drawn: Drawn) -> Result<&'static str, AllocErro
 fn push_inner(
     text: &mut String,
     names: &[String],
-    drawn: Drawn,
+    drawn: FieldDraw,
 ) -> Result<&'static str, AllocError> {
-    let rest = Drawn {
+    let rest = FieldDraw {
         shared: drawn.shared / 4,
         ..drawn
     };
@@ -131,15 +131,19 @@ fn push_inner(
 }
 
 /// A type, whose default is returned.
-fn push_type(alloc: Global, draft: &mut Draft, drawn: Drawn) -> Result<&'static str, AllocError> {
+fn push_type(
+    alloc: Global,
+    draft: &mut Draft,
+    drawn: FieldDraw,
+) -> Result<&'static str, AllocError> {
     let (around, own_default) = TYPES[(drawn.shared % 8) as usize];
-    let rest = Drawn {
+    let rest = FieldDraw {
         shared: drawn.shared / 8,
         ..drawn
     };
     let mut inner = String::new(alloc);
     let default = push_inner(&mut inner, draft.names.as_slice(), rest)?;
-    let marks = Marks {
+    let marks = Placeholders {
         number: 0,
         is_first: false,
         inner: inner.as_str(),
@@ -164,7 +168,7 @@ fn push_field(alloc: Global, draft: &mut Draft, level: u32, index: u32) -> Resul
         )?,
         _ => write!(draft.text, r#",{{"name":"f{level}x{index}","type":"#)?,
     }
-    let drawn = Drawn {
+    let drawn = FieldDraw {
         level,
         index,
         shared: if own % 64 == 2 { own / 64 } else { shared },
@@ -221,7 +225,7 @@ pub fn random_text(alloc: Global, pair: u64, stream: u64) -> Result<String, Allo
         push_fields(alloc, &mut draft, level, 0)?;
         write!(draft.text, r#",{{"name":"next","type":"#)?;
     }
-    let last = Drawn {
+    let last = FieldDraw {
         level: levels,
         index: 0,
         shared: draft.shared.next_u32(),

@@ -1,7 +1,7 @@
 //! Texts that are described by their parts.
 //!
 //! Each line of a description is a part: for which numbers it is written, and behind a space its template, in which marks
-//! stand for numbers and for other texts (`Marks`). The numbers are
+//! stand for numbers and for other texts (`Placeholders`). The numbers are
 //!
 //! - `once`: one;
 //! - `each`: from 0 up to the count;
@@ -14,7 +14,7 @@ use std::alloc::{AllocError, Global};
 
 /// A text by its parts.
 #[derive(Clone, Copy)]
-pub struct Text {
+pub struct Template {
     /// what the mark of a word stands for
     pub word: &'static str,
     pub parts: &'static str,
@@ -27,11 +27,11 @@ const MAX_TEXT: u32 = 1_048_576;
 const AROUND: u32 = 200;
 
 /// The most letters of a symbol.
-const MOST_LETTERS: u32 = 4;
+const MAX_LETTERS: u32 = 4;
 
 /// What the marks of a template stand for.
 #[derive(Clone, Copy)]
-pub struct Marks<'a> {
+pub struct Placeholders<'a> {
     /// `#`; `<` is the number before it and `>` the one behind, `~` its symbol
     pub number: u32,
     /// whether `;` is no comma
@@ -55,7 +55,7 @@ fn letter(index: u32) -> char {
 /// A symbol: of one letter for the first 52, and of more for later ones.
 fn push_symbol(text: &mut String, number: u32) -> Result<(), AllocError> {
     let mut rest = number;
-    for _letter in 0..MOST_LETTERS {
+    for _letter in 0..MAX_LETTERS {
         text.push(letter(rest % 52))?;
         rest /= 52;
         if rest == 0 {
@@ -66,7 +66,7 @@ fn push_symbol(text: &mut String, number: u32) -> Result<(), AllocError> {
 }
 
 /// Adds what a mark stands for, or the letter that is none.
-fn push_mark(text: &mut String, mark: char, marks: &Marks) -> Result<(), AllocError> {
+fn push_placeholder(text: &mut String, mark: char, marks: &Placeholders) -> Result<(), AllocError> {
     let number = marks.number;
     match mark {
         '#' => write!(text, "{number}"),
@@ -82,9 +82,13 @@ fn push_mark(text: &mut String, mark: char, marks: &Marks) -> Result<(), AllocEr
 }
 
 /// Adds a template, with what its marks stand for.
-pub fn push_template(text: &mut String, template: &str, marks: &Marks) -> Result<(), AllocError> {
+pub fn push_template(
+    text: &mut String,
+    template: &str,
+    marks: &Placeholders,
+) -> Result<(), AllocError> {
     for mark in template.chars() {
-        push_mark(text, mark, marks)?;
+        push_placeholder(text, mark, marks)?;
     }
     Ok(())
 }
@@ -131,7 +135,7 @@ fn push_part(
     };
     let (from, to, is_down) = bounds(numbers, count);
     for at in from..to {
-        let marks = Marks {
+        let marks = Placeholders {
             number: if is_down { from + (to - 1 - at) } else { at },
             is_first: at == from,
             inner,
@@ -147,9 +151,9 @@ fn push_part(
 /// # Errors
 ///
 /// `AllocError` where memory for it is refused.
-pub fn text_of(
+pub fn expand(
     alloc: Global,
-    described: Text,
+    described: Template,
     inner: &str,
     count: u32,
 ) -> Result<String, AllocError> {

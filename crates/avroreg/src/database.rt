@@ -19,7 +19,7 @@ const DATABASE_FRONT: &[u8; 16] = b"SQLite format 3\0";
 
 /// What is found at the name of a database file, before anything is opened.
 #[derive(Clone, Copy)]
-enum Found {
+enum FileState {
     /// No file.
     Missing,
     /// A file without a byte.
@@ -44,42 +44,42 @@ fn begins_as_database(rt: &HostRuntime, file: &str) -> io::Result<bool> {
 }
 
 /// What a file with bytes is.
-fn found_with_bytes(rt: &HostRuntime, file: &str) -> io::Result<Found> {
+fn state_with_bytes(rt: &HostRuntime, file: &str) -> io::Result<FileState> {
     if is_unfinished(rt, file)? {
-        return Ok(Found::Unfinished);
+        return Ok(FileState::Unfinished);
     }
     if begins_as_database(rt, file)? || has_log(rt, file)? {
-        Ok(Found::Database)
+        Ok(FileState::Database)
     } else {
-        Ok(Found::Other)
+        Ok(FileState::Other)
     }
 }
 
 /// What a file is that is missing or has no byte, `found` if no log with frames lies next to it. A new database
 /// has its first page before its log has a frame, so next to such a log a database was lost.
-fn found_without_bytes(rt: &HostRuntime, file: &str, found: Found) -> io::Result<Found> {
+fn state_without_bytes(rt: &HostRuntime, file: &str, found: FileState) -> io::Result<FileState> {
     if has_frames(rt, file)? {
-        Ok(Found::OrphanedLog)
+        Ok(FileState::OrphanedLog)
     } else {
         Ok(found)
     }
 }
 
 /// What is found at the name of a database file.
-fn found_at(rt: &HostRuntime, file: &str) -> io::Result<Found> {
+fn state_of_file(rt: &HostRuntime, file: &str) -> io::Result<FileState> {
     match fs::metadata(rt, file) {
-        Ok(found) if !found.is_file() => Ok(Found::Other),
-        Ok(found) if found.len() > 0 => found_with_bytes(rt, file),
-        Ok(_) => found_without_bytes(rt, file, Found::Empty),
+        Ok(found) if !found.is_file() => Ok(FileState::Other),
+        Ok(found) if found.len() > 0 => state_with_bytes(rt, file),
+        Ok(_) => state_without_bytes(rt, file, FileState::Empty),
         Err(error) if error.kind() == io::ErrorKind::NotFound => {
-            found_without_bytes(rt, file, Found::Missing)
+            state_without_bytes(rt, file, FileState::Missing)
         }
         Err(error) => Err(error),
     }
 }
 
 /// Whether a database lists nothing.
-fn lists_nothing(connection: &mut Connection<FileDatabase>) -> Result<bool, Error> {
+fn has_empty_schema(connection: &mut Connection<FileDatabase>) -> Result<bool, Error> {
     let count: i64 = connection
         .query_row("SELECT count(*) FROM sqlite_schema", &[])?
         .get(0)?;
@@ -88,13 +88,13 @@ fn lists_nothing(connection: &mut Connection<FileDatabase>) -> Result<bool, Erro
 
 /// Whether a database has no registry yet: the database is new, or the run that made it ended before it had made
 /// the tables.
-fn is_unmade(
+fn has_no_registry(
     rt: &HostRuntime,
     file: &str,
     was_unfinished: bool,
     connection: &mut Connection<FileDatabase>,
 ) -> Result<bool, Error> {
-    if !lists_nothing(connection)? {
+    if !has_empty_schema(connection)? {
         return Ok(false);
     }
     match has_first_log(rt, file) {
@@ -128,7 +128,7 @@ fn unexamined(error: io::Error) -> Result<Opened<FileDatabase>, OutOfMemory>
 }
 
 /// Opens the database in a file. If the file is missing, empty or unfinished, it makes the database.
-fn open_or_make(
+fn open_or_create(
     rt: &HostRuntime,
     file: &str,
     was_unfinished: bool,
@@ -139,7 +139,7 @@ fn open_or_make(
         Ok(connection) => connection,
         Err((error, _)) => return failed(error),
     };
-    match is_unmade(rt, file, was_unfinished, &mut connection) {
+    match has_no_registry(rt, file, was_unfinished, &mut connection) {
         Ok(true) => Ok(Opened::Fresh(connection)),
         Ok(false) => Ok(Opened::Database(connection)),
         Err(error) => failed(error),
@@ -152,14 +152,19 @@ fn open_or_make(
 /// # Errors
 ///
 /// `OutOfMemory` if memory is refused. Every other failure is `Opened::Failed`.
-pub fn opened_database(rt: &HostRuntime, file: &str) -> Result<Opened<FileDatabase>, OutOfMemory>
+pub fn open_database_to_run(
+    rt: &HostRuntime,
+    file: &str,
+) -> Result<Opened<FileDatabase>, OutOfMemory>
     ensures { IfOk result OpensToRun }
 {
-    match found_at(rt, file) {
-        Ok(Found::Missing | Found::Empty | Found::Database) => open_or_make(rt, file, false),
-        Ok(Found::Unfinished) => open_or_make(rt, file, true),
-        Ok(Found::OrphanedLog) => Ok(Opened::OrphanedLog),
-        Ok(Found::Other) => Ok(Opened::Failed),
+    match state_of_file(rt, file) {
+        Ok(FileState::Missing | FileState::Empty | FileState::Database) => open_or_create(
+            rt, file, false,
+        ),
+        Ok(FileState::Unfinished) => open_or_create(rt, file, true),
+        Ok(FileState::OrphanedLog) => Ok(Opened::OrphanedLog),
+        Ok(FileState::Other) => Ok(Opened::Failed),
         Err(error) => unexamined(error),
     }
 }
@@ -168,7 +173,7 @@ pub fn opened_database(rt: &HostRuntime, file: &str) -> Result<Opened<FileDataba
 fn open_to_list(rt: &HostRuntime, file: &str) -> Result<Opened<FileDatabase>, OutOfMemory>
     ensures { IfOk result OpensToList }
 {
-    match open_or_make(rt, file, false)? {
+    match open_or_create(rt, file, false)? {
         Opened::Fresh(connection) => Ok(Opened::Database(connection)),
         opened => Ok(opened),
     }
@@ -180,14 +185,17 @@ fn open_to_list(rt: &HostRuntime, file: &str) -> Result<Opened<FileDatabase>, Ou
 /// # Errors
 ///
 /// `OutOfMemory` if memory is refused. Every other failure is `Opened::Failed`.
-pub fn found_database(rt: &HostRuntime, file: &str) -> Result<Opened<FileDatabase>, OutOfMemory>
+pub fn open_database_to_list(
+    rt: &HostRuntime,
+    file: &str,
+) -> Result<Opened<FileDatabase>, OutOfMemory>
     ensures { IfOk result OpensToList }
 {
-    match found_at(rt, file) {
-        Ok(Found::Database) => open_to_list(rt, file),
-        Ok(Found::Empty | Found::Unfinished) => Ok(Opened::Empty),
-        Ok(Found::OrphanedLog) => Ok(Opened::OrphanedLog),
-        Ok(Found::Missing | Found::Other) => Ok(Opened::Failed),
+    match state_of_file(rt, file) {
+        Ok(FileState::Database) => open_to_list(rt, file),
+        Ok(FileState::Empty | FileState::Unfinished) => Ok(Opened::Empty),
+        Ok(FileState::OrphanedLog) => Ok(Opened::OrphanedLog),
+        Ok(FileState::Missing | FileState::Other) => Ok(Opened::Failed),
         Err(error) => unexamined(error),
     }
 }
@@ -195,7 +203,7 @@ pub fn found_database(rt: &HostRuntime, file: &str) -> Result<Opened<FileDatabas
 /// Closes a database F: copies its log into F, and removes the log. If the copy fails, F and F-wal together hold
 /// the committed state. If there is no registry yet, both files stay, so that the next start can tell.
 pub fn close(rt: &HostRuntime, file: &str, mut connection: Connection<FileDatabase>) {
-    if let Ok(false) = is_unmade(rt, file, false, &mut connection)
+    if let Ok(false) = has_no_registry(rt, file, false, &mut connection)
         && let Ok(files) = connection.close_files()
     {
         let _ = remove_log(rt, file);

@@ -12,7 +12,7 @@ const FRAMELESS: u64 = 56;
 
 /// The number of checkpoints in the header of a log, at bytes 12 to 15, if `sqlite` made the log together with its
 /// database. A checkpoint writes another number, and so does an open that finds no log.
-const UNCOPIED: &[u8; 4] = b"\xff\xff\xff\xff";
+const UNCHECKPOINTED: &[u8; 4] = b"\xff\xff\xff\xff";
 
 /// The name of the log of a file. `sqlite` keeps the log next to the file that a symbolic link leads to. If the
 /// file is missing, there is nothing to follow.
@@ -51,11 +51,11 @@ fn is_first(rt: &HostRuntime, log: &str) -> io::Result<bool> {
     let mut opened = fs::OpenOptions::new().read(true).open(rt, log)?;
     let mut front = [0u8; 16];
     let read = opened.read(&mut front)?;
-    Ok(read == 16 && front[12..] == UNCOPIED[..])
+    Ok(read == 16 && front[12..] == UNCHECKPOINTED[..])
 }
 
 /// The length of the log next to a file, if it was made together with its database.
-fn length_of_first(rt: &HostRuntime, file: &str) -> io::Result<Option<u64>> {
+fn length_of_first_log(rt: &HostRuntime, file: &str) -> io::Result<Option<u64>> {
     let log = log_of(rt, file)?;
     let found = fs::metadata(rt, log.as_str())?;
     if found.is_file() && is_first(rt, log.as_str())? {
@@ -67,7 +67,7 @@ fn length_of_first(rt: &HostRuntime, file: &str) -> io::Result<Option<u64>> {
 
 /// The same, and `None` also if there is no log.
 fn first_log(rt: &HostRuntime, file: &str) -> io::Result<Option<u64>> {
-    match length_of_first(rt, file) {
+    match length_of_first_log(rt, file) {
         Err(error) if error.kind() == io::ErrorKind::NotFound => Ok(None),
         found => found,
     }

@@ -19,50 +19,50 @@ use std::rt::Env;
 
 /// Why nothing is begun.
 #[derive(Drop)]
-pub enum Unbegun {
+pub enum StartError {
     /// The words ask for nothing that the program does, or for help. The text says so.
     Usage(String),
     /// Memory for the words or for the files was refused.
     OutOfMemory,
 }
 
-impl From<LineFault> for Unbegun {
-    fn from(fault: LineFault) -> Unbegun {
+impl From<LineFault> for StartError {
+    fn from(fault: LineFault) -> StartError {
         match fault {
-            LineFault::Usage(text) => Unbegun::Usage(text),
-            LineFault::OutOfMemory => Unbegun::OutOfMemory,
+            LineFault::Usage(text) => StartError::Usage(text),
+            LineFault::OutOfMemory => StartError::OutOfMemory,
         }
     }
 }
 
-impl From<AllocError> for Unbegun {
-    fn from(_error: AllocError) -> Unbegun {
-        Unbegun::OutOfMemory
+impl From<AllocError> for StartError {
+    fn from(_error: AllocError) -> StartError {
+        StartError::OutOfMemory
     }
 }
 
-impl From<OutOfMemory> for Unbegun {
-    fn from(_error: OutOfMemory) -> Unbegun {
-        Unbegun::OutOfMemory
+impl From<OutOfMemory> for StartError {
+    fn from(_error: OutOfMemory) -> StartError {
+        StartError::OutOfMemory
     }
 }
 
-impl<T: Drop> From<AllocFailed<T>> for Unbegun {
-    fn from(_error: AllocFailed<T>) -> Unbegun {
-        Unbegun::OutOfMemory
+impl<T: Drop> From<AllocFailed<T>> for StartError {
+    fn from(_error: AllocFailed<T>) -> StartError {
+        StartError::OutOfMemory
     }
 }
 
 /// What is printed where a word isn't UTF-8.
-const NO_TEXT: &str = "error: a word is not UTF-8\n\nFor more information, try '--help'.\n";
+const NOT_UTF8: &str = "error: a word is not UTF-8\n\nFor more information, try '--help'.\n";
 
 /// The words after the program's name. One that isn't UTF-8 asks for nothing.
-fn words_of<R: Env + AllocGlobal>(rt: &R) -> Result<Vec<String>, Unbegun> {
+fn arguments_of<R: Env + AllocGlobal>(rt: &R) -> Result<Vec<String>, StartError> {
     match std::env::args(rt) {
         Ok(words) => Ok(words.skip(1).collect(rt.alloc())?),
         Err(error) => match error.kind() {
-            io::ErrorKind::OutOfMemory => Err(Unbegun::OutOfMemory),
-            _ => Err(Unbegun::Usage(String::from_str(rt.alloc(), NO_TEXT)?)),
+            io::ErrorKind::OutOfMemory => Err(StartError::OutOfMemory),
+            _ => Err(StartError::Usage(String::from_str(rt.alloc(), NOT_UTF8)?)),
         },
     }
 }
@@ -97,8 +97,8 @@ fn do_and_close(rt: &HostRuntime, job: &Job, opened: Opened<FileDatabase>) -> u8
 }
 
 /// Does what the words ask for, and answers the program's status.
-fn status_of_words(rt: &HostRuntime) -> Result<u8, Unbegun> {
-    let words = words_of(rt)?;
+fn run_arguments(rt: &HostRuntime) -> Result<u8, StartError> {
+    let words = arguments_of(rt)?;
     match task_of(rt.alloc(), words.as_slice())? {
         Task::Job(job) => {
             let opened = open_for(rt.alloc(), &HostFiles { rt }, &job)?;
@@ -119,13 +119,13 @@ fn keep_memory(alloc: Global) {
 
 fn main(rt: HostRuntime) -> ExitCode {
     keep_memory(rt.alloc());
-    let status = match status_of_words(&rt) {
+    let status = match run_arguments(&rt) {
         Ok(status) => status,
-        Err(Unbegun::Usage(text)) => {
+        Err(StartError::Usage(text)) => {
             let _ = eprint!(rt; "{text}");
             64
         }
-        Err(Unbegun::OutOfMemory) => {
+        Err(StartError::OutOfMemory) => {
             let _ = eprintln!(rt; "avroreg: out of memory");
             2
         }

@@ -1,6 +1,6 @@
 //! The files that jobs name, opened.
 
-use crate::database::{FileDatabase, found_database, opened_database};
+use crate::database::{FileDatabase, open_database_to_list, open_database_to_run};
 use avro_nodes::{MAX_TEXT, OutOfMemory};
 use reg_jobs::{Opened, Opener};
 use std::io::Read;
@@ -18,11 +18,11 @@ pub struct HostFiles<'a> {
 
 impl Opener<FileDatabase> for HostFiles<'_> {
     fn open_to_run(&self, file: &str) -> Result<Opened<FileDatabase>, OutOfMemory> {
-        opened_database(self.rt, file)
+        open_database_to_run(self.rt, file)
     }
 
     fn open_to_list(&self, file: &str) -> Result<Opened<FileDatabase>, OutOfMemory> {
-        found_database(self.rt, file)
+        open_database_to_list(self.rt, file)
     }
 
     /// The bytes of a file, if it can be read. More than a schema may have are cut behind the byte by

@@ -1,8 +1,8 @@
 //! A registry on a port of 127.0.0.1.
 
-use crate::Unbegun;
-use crate::database::{FileDatabase, close, opened_database};
-use reg_jobs::{Errors, Outcome, Server, report, serve_with_clock, store_in};
+use crate::StartError;
+use crate::database::{FileDatabase, close, open_database_to_run};
+use reg_jobs::{Errors, Outcome, Server, open_store, report, serve_with_clock};
 use reg_service::Service;
 use reg_store::Store;
 use sqlite::Connection;
@@ -40,11 +40,11 @@ fn listen(
 /// # Errors
 ///
 /// `OutOfMemory` where memory to open the file is refused. Nothing was served then.
-pub fn serve(rt: &HostRuntime, server: &Server) -> Result<u8, Unbegun> {
+pub fn serve(rt: &HostRuntime, server: &Server) -> Result<u8, StartError> {
     let file = server.database.as_str();
-    let opened = opened_database(rt, file)?;
+    let opened = open_database_to_run(rt, file)?;
     let mut errors = Errors::to(rt.stderr());
-    let (fault, connection) = match store_in(rt.alloc(), opened) {
+    let (fault, connection) = match open_store(rt.alloc(), opened) {
         Ok(store) => {
             let (fault, connection) = listen(rt, server, store, &mut errors);
             (fault, Some(connection))

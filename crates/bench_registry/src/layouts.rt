@@ -64,7 +64,7 @@ fn add_part<S: Alter>(
 }
 
 /// Makes a registry of layout 1 in an empty database, which keeps as many replies as it has versions.
-pub fn make_first<S: Alter + Drop>(
+pub fn create_layout1<S: Alter + Drop>(
     alloc: Global,
     connection: Connection<S>,
     size: Size,
@@ -80,7 +80,7 @@ pub fn make_first<S: Alter + Drop>(
 
 /// Tests the tables as those of layout 1, as a start tested them before there was layout 2, moves
 /// the registry, and prints how long each took.
-pub fn move_on<S: Alter + Drop>(
+pub fn migrate_on<S: Alter + Drop>(
     rt: &HostRuntime,
     connection: Connection<S>,
 ) -> Result<Connection<S>> {

@@ -13,7 +13,7 @@ mod request;
 use anyhow::{Context, Result, bail, ensure};
 use audits::{audit, resolve_pairs};
 use kind::series_of;
-use layouts::{make_first, move_on};
+use layouts::{create_layout1, migrate_on};
 use measure::{Task, measure_all, print_memory};
 use reg_service::Service;
 use reg_store::Store;
@@ -132,8 +132,8 @@ fn done<S: Alter + Drop>(
 ) -> Result<Connection<S>> {
     match doing {
         Doing::Measure => measured(rt, connection, task),
-        Doing::MakeFirst => make_first(rt.alloc(), connection, task.size),
-        Doing::Move => move_on(rt, connection),
+        Doing::MakeFirst => create_layout1(rt.alloc(), connection, task.size),
+        Doing::Move => migrate_on(rt, connection),
         Doing::Audit => audited(rt, connection, task),
     }
 }

@@ -4,7 +4,7 @@ use crate::kind::{Kind, Which};
 use anyhow::{Result, bail};
 use httparse::spans::EMPTY_HEADER_SPAN;
 use reg_core::{Command, Delivery, Key};
-use reg_messages::{Look, Request, look_at};
+use reg_messages::{ParseOutcome, Request, parse_front};
 use reg_routes::{Routes, command_of};
 use std::alloc::{AllocError, Global};
 
@@ -129,7 +129,7 @@ pub fn keys(
 /// What the bytes of a request ask for.
 fn command(alloc: Global, routes: &Routes, bytes: &[u8]) -> Result<Command> {
     let mut headers = vec![in alloc; EMPTY_HEADER_SPAN; FIELDS]?;
-    let Look::Whole(whole) = look_at(bytes, headers.as_mut_slice()) else {
+    let ParseOutcome::Whole(whole) = parse_front(bytes, headers.as_mut_slice()) else {
         bail!("no whole message");
     };
     let request = Request::of(bytes, headers.as_slice(), whole);

@@ -2,7 +2,7 @@
 
 use crate::resolution::{CYCLE, ENUMS, ONE_NAME};
 use crate::shape::{HOLES, Shape, TWO_HOLES};
-use avro_testing::Text;
+use avro_testing::Template;
 
 /// Records with a field of one record, which has an int, and unions of these records.
 const WRITTEN: &str =
@@ -23,9 +23,9 @@ static HOSTILE: [Shape; 9] = [
     Shape {
         name: "rescans",
         counts: &[70, 700],
-        behind: 0,
+        after_cycle: 0,
         inner: r##"52..3052 ;"~""##,
-        writer: Text {
+        writer: Template {
             word: "",
             parts: r##"once {"type":"record","name":"T","fields":[{"name":"written","default":null,"type":["null",{"type":"fixed","name":"z.I","size":1}
 0..14 ,{"type":"fixed","name":"y#.Y","size":1},{"type":"record","name":"y#.V","fields":[{"name":"u","type":"y#.Y"}]},{"type":"record","name":"w#.W","fields":[{"name":"x","type":"y#.V"},{"name":"z","type":"z.I"}]}
@@ -33,7 +33,7 @@ once ]},{"name":"f","type":[
 0..14 ;"w#.W"
 once ]}]}"##,
         },
-        reader: Text {
+        reader: Template {
             word: "",
             parts: r##"once {"type":"record","name":"T","fields":[{"name":"read","default":null,"type":["null",{"type":"fixed","name":"z.Y","size":1},{"type":"fixed","name":"z.S","size":1},{"type":"fixed","name":"z.I","size":1}
 52..3052 ,{"type":"fixed","name":"~","size":1}
@@ -50,13 +50,13 @@ once ,"d.W"]}]}"##,
     Shape {
         name: "repeated-alias",
         counts: &[400, 4000],
-        behind: 2900,
+        after_cycle: 2900,
         inner: "",
-        writer: Text {
+        writer: Template {
             word: r#""int""#,
             parts: ONE_NAME,
         },
-        reader: Text {
+        reader: Template {
             word: "",
             parts: r##"once {"type":"record","name":"r.A","fields":[{"name":"g","type":"A","aliases":[
 0..230000 ;"f"
@@ -67,13 +67,13 @@ once ]}]}"##,
     Shape {
         name: "distinct-aliases",
         counts: &[400, 4000],
-        behind: 2900,
+        after_cycle: 2900,
         inner: "",
-        writer: Text {
+        writer: Template {
             word: r#""int""#,
             parts: ONE_NAME,
         },
-        reader: Text {
+        reader: Template {
             word: "",
             parts: r##"once {"type":"record","name":"r.A","fields":[{"name":"f","type":"A","default":{}},{"name":"g","type":"A","default":{},"aliases":[
 52..140000 ;"~"
@@ -84,13 +84,13 @@ once ]}]}"##,
     Shape {
         name: "holes",
         counts: &[330, 3300],
-        behind: 2900,
+        after_cycle: 2900,
         inner: HOLES,
-        writer: Text {
+        writer: Template {
             word: "",
             parts: WRITTEN,
         },
-        reader: Text {
+        reader: Template {
             word: "",
             parts: READ,
         },
@@ -99,13 +99,13 @@ once ]}]}"##,
     Shape {
         name: "shared",
         counts: &[330, 3300],
-        behind: 2900,
+        after_cycle: 2900,
         inner: HOLES,
-        writer: Text {
+        writer: Template {
             word: "",
             parts: WRITTEN,
         },
-        reader: Text {
+        reader: Template {
             word: r#","e.A""#,
             parts: READ,
         },
@@ -114,13 +114,13 @@ once ]}]}"##,
     Shape {
         name: "subsets",
         counts: &[330, 3300],
-        behind: 2900,
+        after_cycle: 2900,
         inner: TWO_HOLES,
-        writer: Text {
+        writer: Template {
             word: "",
             parts: WRITTEN,
         },
-        reader: Text {
+        reader: Template {
             word: "",
             parts: READ,
         },
@@ -129,13 +129,13 @@ once ]}]}"##,
     Shape {
         name: "more-symbols",
         counts: &[400, 3900],
-        behind: 2900,
+        after_cycle: 2900,
         inner: r##"1..46 "~","##,
-        writer: Text {
+        writer: Template {
             word: "a",
             parts: ENUMS,
         },
-        reader: Text {
+        reader: Template {
             word: "a",
             parts: r##"once [
 each ;{"type":"enum","name":"n#.A","symbols":["Z",@"$"]}
@@ -146,15 +146,15 @@ once ]"##,
     Shape {
         name: "ten-aliases",
         counts: &[300, 3200],
-        behind: 2900,
+        after_cycle: 2900,
         inner: r##"0..9 ;{"name":"A#","type":"n.Z","aliases":["a","b","c","d","e","f","g","h","i","j"]}"##,
-        writer: Text {
+        writer: Template {
             word: "",
             parts: r##"once [{"type":"record","name":"n.Z","fields":[{"name":"f","type":"int"}]}
 each ,{"type":"record","name":"n#.A","fields":[{"name":"a","type":"n.Z"},{"name":"b","type":"n.Z"},{"name":"c","type":"n.Z"},{"name":"d","type":"n.Z"},{"name":"e","type":"n.Z"},{"name":"f","type":"n.Z"},{"name":"g","type":"n.Z"},{"name":"h","type":"n.Z"},{"name":"i","type":"n.Z"},{"name":"j","type":"n.Z"}]}
 once ]"##,
         },
-        reader: Text {
+        reader: Template {
             word: "",
             parts: r##"once [{"type":"record","name":"n.Z","fields":[{"name":"f","type":"string"}]}
 0..1000 ,{"type":"record","name":"n#.A","fields":[@]}
@@ -166,13 +166,13 @@ once ]"##,
     Shape {
         name: "deep",
         counts: &[100, 998],
-        behind: 0,
+        after_cycle: 0,
         inner: "",
-        writer: Text {
+        writer: Template {
             word: r#""int""#,
             parts: CYCLE,
         },
-        reader: Text {
+        reader: Template {
             word: "",
             parts: r##"once {"type":"record","name":"A","fields":[{"name":"f","type":"A"},{"name":"Z","type":{"type":"record","name":"Z","fields":[]}}
 52..26000 ,{"name":"~","type":"Z","default":{}}

@@ -27,18 +27,18 @@ use avro_testing::random_text;
 use hostile::hostile;
 use reading::reading;
 use resolution::resolution;
-use shape::{Shape, behind_cycle, shape_text};
+use shape::{Shape, put_after_cycle, shape_text};
 use std::alloc::{AllocError, Global};
 use std::{env, fs};
-use times::{Least, Work, times};
+use times::{Timing, Work, times};
 
 /// What is measured.
 #[derive(Clone, Copy)]
-enum Measured {
+enum Measurement {
     Reading,
     Resolution,
     /// of texts behind a cycle
-    Behind,
+    AfterCycle,
 }
 
 /// No shapes.
@@ -76,7 +76,7 @@ fn read(rt: &HostRuntime, shape: &Shape, count: u32) -> Result<()> {
 }
 
 /// Prints how long a way to resolve took, in microseconds.
-fn print_time(rt: &HostRuntime, way: &str, least: Least) -> Result<()> {
+fn print_time(rt: &HostRuntime, way: &str, least: Timing) -> Result<()> {
     let (whole, tenths) = (least.nanos / 1000, least.nanos / 100 % 10);
     println!(rt; "  {way} in {whole}.{tenths} us")?;
     Ok(())
@@ -87,15 +87,15 @@ fn pair_of(
     alloc: Global,
     shape: &Shape,
     count: u32,
-    is_behind: bool,
+    is_after_cycle: bool,
 ) -> Result<(String, String), AllocError> {
     let writer = shape_text(alloc, shape, shape.writer, count)?;
     let reader = shape_text(alloc, shape, shape.reader, count)?;
-    if !is_behind {
+    if !is_after_cycle {
         return Ok((writer, reader));
     }
-    let writer = behind_cycle(alloc, writer.as_str(), "written")?;
-    let reader = behind_cycle(alloc, reader.as_str(), "read")?;
+    let writer = put_after_cycle(alloc, writer.as_str(), "written")?;
+    let reader = put_after_cycle(alloc, reader.as_str(), "read")?;
     Ok((writer, reader))
 }
 
@@ -103,33 +103,33 @@ fn pair_of(
 fn compare(rt: &HostRuntime, title: &str, writer: &str, reader: &str) -> Result<()> {
     let writer = Schema::read(rt.alloc(), writer)?;
     let reader = Schema::read(rt.alloc(), reader)?;
-    let (opening, striking) = times(
+    let (recursion, elimination) = times(
         rt,
-        Work::Opening(&writer, &reader),
-        Work::Striking(&writer, &reader),
+        Work::Recursion(&writer, &reader),
+        Work::Elimination(&writer, &reader),
     )?;
     let (rows, columns) = (writer.places(), reader.places());
     println!(rt; "{title}: {rows} and {columns} places")?;
     println!(rt;
         "  resolves: {} with {} visits",
-        opening.told.yes, opening.told.visits
+        recursion.told.yes, recursion.told.visits
     )?;
-    print_time(rt, "resolves", opening)?;
-    println!(rt; "  resolves_plain: {}", striking.told.yes)?;
-    print_time(rt, "resolves_plain", striking)?;
+    print_time(rt, "resolves", recursion)?;
+    println!(rt; "  resolves_plain: {}", elimination.told.yes)?;
+    print_time(rt, "resolves_plain", elimination)?;
     print_memory(rt)
 }
 
 /// Measures how long the pair of a shape takes to resolve.
-fn resolve(rt: &HostRuntime, shape: &Shape, count: u32, is_behind: bool) -> Result<()> {
-    let (writer, reader) = pair_of(rt.alloc(), shape, count, is_behind)?;
+fn resolve(rt: &HostRuntime, shape: &Shape, count: u32, is_after_cycle: bool) -> Result<()> {
+    let (writer, reader) = pair_of(rt.alloc(), shape, count, is_after_cycle)?;
     let title = format!(in rt.alloc(); "{} {count}", shape.name)?;
     compare(rt, title.as_str(), writer.as_str(), reader.as_str())
 }
 
 /// Measures how long the texts of two files take to resolve.
-fn compare_files(rt: &HostRuntime, words: &[String]) -> Result<()> {
-    let (writer, reader) = (words.get(1), words.get(2));
+fn compare_files(rt: &HostRuntime, arguments: &[String]) -> Result<()> {
+    let (writer, reader) = (arguments.get(1), arguments.get(2));
     let writer = writer.context("the writer's file is wanted")?;
     let reader = reader.context("the reader's file is wanted")?;
     let written = fs::read_to_string(rt, writer.as_str())?;
@@ -138,7 +138,7 @@ fn compare_files(rt: &HostRuntime, words: &[String]) -> Result<()> {
 }
 
 /// Whether both ways say yes to a random pair; they answer alike, or it is an error.
-fn answer_alike(alloc: Global, pair: u64) -> Result<bool> {
+fn both_agree(alloc: Global, pair: u64) -> Result<bool> {
     let writer = random_text(alloc, pair, 1)?;
     let reader = random_text(alloc, pair, 2)?;
     let writer = Schema::read(alloc, writer.as_str())?;
@@ -151,10 +151,10 @@ fn answer_alike(alloc: Global, pair: u64) -> Result<bool> {
 }
 
 /// Has both ways answer all random pairs.
-fn answer_random(rt: &HostRuntime) -> Result<()> {
+fn resolve_random(rt: &HostRuntime) -> Result<()> {
     let mut yes = 0u64;
     for pair in 0..RANDOM_PAIRS {
-        if answer_alike(rt.alloc(), pair)? {
+        if both_agree(rt.alloc(), pair)? {
             yes = yes.saturating_add(1);
         }
     }
@@ -163,25 +163,25 @@ fn answer_random(rt: &HostRuntime) -> Result<()> {
 }
 
 /// Measures a shape with a count.
-fn measure(rt: &HostRuntime, measured: Measured, shape: &Shape, count: u32) -> Result<()> {
+fn measure(rt: &HostRuntime, measured: Measurement, shape: &Shape, count: u32) -> Result<()> {
     match measured {
-        Measured::Reading => read(rt, shape, count),
-        Measured::Resolution => resolve(rt, shape, count, false),
-        Measured::Behind => resolve(rt, shape, count, true),
+        Measurement::Reading => read(rt, shape, count),
+        Measurement::Resolution => resolve(rt, shape, count, false),
+        Measurement::AfterCycle => resolve(rt, shape, count, true),
     }
 }
 
 /// Measures a shape with this count, or with each of its own.
 fn measure_shape(
     rt: &HostRuntime,
-    measured: Measured,
+    measured: Measurement,
     shape: &Shape,
     count: Option<u32>,
 ) -> Result<()> {
     if let Some(count) = count {
         return measure(rt, measured, shape, count);
     }
-    if let Measured::Behind = measured {
+    if let Measurement::AfterCycle = measured {
         if shape.behind > 0 {
             measure(rt, measured, shape, shape.behind)?;
         }
@@ -194,10 +194,15 @@ fn measure_shape(
 }
 
 /// Measures the shapes of this name.
-fn measure_all(rt: &HostRuntime, measured: Measured, name: &str, count: Option<u32>) -> Result<()> {
+fn measure_all(
+    rt: &HostRuntime,
+    measured: Measurement,
+    name: &str,
+    count: Option<u32>,
+) -> Result<()> {
     let (shapes, more) = match measured {
-        Measured::Reading => (reading(), NONE),
-        Measured::Resolution | Measured::Behind => (resolution(), hostile()),
+        Measurement::Reading => (reading(), NONE),
+        Measurement::Resolution | Measurement::AfterCycle => (resolution(), hostile()),
     };
     let mut found = false;
     for shape in shapes.iter().chain(more) {
@@ -219,28 +224,28 @@ fn count_of(word: Option<&String>) -> Result<Option<u32>> {
 }
 
 /// Measures what the words ask for.
-fn measure_by(rt: &HostRuntime, words: &[String]) -> Result<()> {
-    let Some(word) = words.first() else {
+fn run_command(rt: &HostRuntime, arguments: &[String]) -> Result<()> {
+    let Some(word) = arguments.first() else {
         return Ok(());
     };
     let word = word.as_str();
     if word == "random" {
-        return answer_random(rt);
+        return resolve_random(rt);
     }
     if word == "files" {
-        return compare_files(rt, words);
+        return compare_files(rt, arguments);
     }
     let measured = match word {
-        "read" => Measured::Reading,
-        "resolve" => Measured::Resolution,
-        "behind" => Measured::Behind,
+        "read" => Measurement::Reading,
+        "resolve" => Measurement::Resolution,
+        "behind" => Measurement::AfterCycle,
         _ => bail!("no measurement is named {word}"),
     };
-    let name = words.get(1).context("the name of a shape is wanted")?;
-    measure_all(rt, measured, name.as_str(), count_of(words.get(2))?)
+    let name = arguments.get(1).context("the name of a shape is wanted")?;
+    measure_all(rt, measured, name.as_str(), count_of(arguments.get(2))?)
 }
 
 fn main(rt: HostRuntime) -> Result<()> {
-    let words: Vec<String> = env::args(&rt)?.skip(1).collect(rt.alloc())?;
-    measure_by(&rt, words.as_slice())
+    let arguments: Vec<String> = env::args(&rt)?.skip(1).collect(rt.alloc())?;
+    run_command(&rt, arguments.as_slice())
 }

@@ -1,7 +1,7 @@
 //! The texts that are read.
 
 use crate::shape::{NO_TEXT, Shape};
-use avro_testing::Text;
+use avro_testing::Template;
 
 /// What is measured by reading.
 static READING: [Shape; 13] = [
@@ -9,9 +9,9 @@ static READING: [Shape; 13] = [
     Shape {
         name: "fields",
         counts: &[1, 3, 33, 333, 1333],
-        behind: 0,
+        after_cycle: 0,
         inner: "",
-        writer: Text {
+        writer: Template {
             word: "",
             parts: r##"once {"type":"record","name":"Root","fields":[
 each ;{"name":"first_#","type":"int","default":#},{"name":"second_#","type":"int"},{"name":"third_#","type":"int"}
@@ -23,12 +23,12 @@ once ]}"##,
     Shape {
         name: "documented",
         counts: &[1, 10, 100, 1000],
-        behind: 0,
+        after_cycle: 0,
         inner: "",
-        writer: Text {
+        writer: Template {
             word: "",
             parts: r##"once {"type":"record","name":"Order","namespace":"shop.orders","doc":"An order of a shop.","fields":[
-each ;{"name":"field_#","type":"string","doc":"What field # of an order holds, in a few words."}
+each ;{"name":"field_#","type":"string","doc":"What field # of an order holds, in a few arguments."}
 once ]}"##,
         },
         reader: NO_TEXT,
@@ -37,9 +37,9 @@ once ]}"##,
     Shape {
         name: "tree",
         counts: &[1, 10, 30],
-        behind: 0,
+        after_cycle: 0,
         inner: r##"0..10 ,{"name":"leaf_#","type":{"type":"record","name":"Leaf_#","doc":"Leaf # of a branch.","fields":[{"name":"id","type":"long","doc":"Which one it is."},{"name":"text","type":"string","doc":"What it says."},{"name":"note","type":["null","string"],"doc":"What else it says.","default":null}]}}"##,
-        writer: Text {
+        writer: Template {
             word: "",
             parts: r##"once {"type":"record","name":"Tree","namespace":"shop.trees","doc":"The root.","fields":[
 each ;{"name":"branch_#","type":{"type":"record","name":"branch_#.Branch","doc":"Branch # of the tree.","fields":[{"name":"id","type":"long","doc":"Which one it is."}@]}}
@@ -51,9 +51,9 @@ once ]}"##,
     Shape {
         name: "nested",
         counts: &[1, 10, 100],
-        behind: 0,
+        after_cycle: 0,
         inner: r##"1..20 {"type":"record","name":"Nested_#","fields":[{"name":"inner","type":"##,
-        writer: Text {
+        writer: Template {
             word: "",
             parts: r##"once {"type":"record","name":"Root","fields":[
 each ;{"name":"field_#","type":{"type":"record","name":"space_#.Nested_0","fields":[{"name":"inner","type":@"int"}]}}]}}]}}]}}]}}]}}]}}]}}]}}]}}]}}]}}]}}]}}]}}]}}]}}]}}]}}]}}
@@ -65,9 +65,9 @@ once ]}"##,
     Shape {
         name: "aliased",
         counts: &[1, 10, 100, 1000],
-        behind: 0,
+        after_cycle: 0,
         inner: "",
-        writer: Text {
+        writer: Template {
             word: "",
             parts: r##"once {"type":"record","name":"Root","namespace":"bench.aliased","aliases":["Old","other.Old"],"fields":[
 each ;{"name":"field_#","aliases":["first_#","second_#"],"type":{"type":"record","name":"Inner_#","aliases":["Old_#","other.Old_#"],"fields":[{"name":"value","type":"int","aliases":["number"]}]}}
@@ -79,9 +79,9 @@ once ]}"##,
     Shape {
         name: "union",
         counts: &[1, 3, 33, 333],
-        behind: 0,
+        after_cycle: 0,
         inner: "",
-        writer: Text {
+        writer: Template {
             word: "",
             parts: r##"once [
 each ;{"type":"record","name":"Record_#","fields":[]},{"type":"enum","name":"Enum_#","symbols":["A","B"]},{"type":"fixed","name":"Fixed_#","size":16}
@@ -93,9 +93,9 @@ once ]"##,
     Shape {
         name: "defaults",
         counts: &[3, 10, 100, 1000],
-        behind: 0,
+        after_cycle: 0,
         inner: "",
-        writer: Text {
+        writer: Template {
             word: "",
             parts: r##"once {"type":"record","name":"Root","fields":[{"name":"items","type":{"type":"array","items":{"type":"record","name":"Item","fields":[
 each ;{"name":"field_#","type":"int","default":#}
@@ -109,9 +109,9 @@ once ]}]}"##,
     Shape {
         name: "symbols",
         counts: &[10, 1000, 60000],
-        behind: 0,
+        after_cycle: 0,
         inner: "",
-        writer: Text {
+        writer: Template {
             word: "",
             parts: r##"once {"type":"enum","name":"Root","symbols":[
 each ;"SYMBOL_#"
@@ -123,9 +123,9 @@ once ]}"##,
     Shape {
         name: "parts",
         counts: &[10, 1000, 500000],
-        behind: 0,
+        after_cycle: 0,
         inner: "",
-        writer: Text {
+        writer: Template {
             word: "",
             parts: r##"once {"type":"fixed","size":1,"name":"a
 each .a
@@ -137,9 +137,9 @@ once "}"##,
     Shape {
         name: "references",
         counts: &[1000, 4000, 15000, 25000],
-        behind: 0,
+        after_cycle: 0,
         inner: "",
-        writer: Text {
+        writer: Template {
             word: "",
             parts: r##"once [{"type":"fixed","name":"A","size":1},{"type":"record","name":"Root","namespace":"a
 30 a
@@ -154,9 +154,9 @@ once ]}]"##,
     Shape {
         name: "branches",
         counts: &[100, 1000, 10000, 100000, 187000],
-        behind: 0,
+        after_cycle: 0,
         inner: "",
-        writer: Text {
+        writer: Template {
             word: "",
             parts: r##"once {"type":"record","name":"A","namespace":"a
 4 a
@@ -170,9 +170,9 @@ once ]}]}"##,
     Shape {
         name: "objects",
         counts: &[10, 1000, 140000],
-        behind: 0,
+        after_cycle: 0,
         inner: "",
-        writer: Text {
+        writer: Template {
             word: "",
             parts: r##"once {"type":"int","doc":[
 each ;{"":0}
@@ -184,9 +184,9 @@ once ]}"##,
     Shape {
         name: "chains",
         counts: &[1, 100, 9000],
-        behind: 0,
+        after_cycle: 0,
         inner: "",
-        writer: Text {
+        writer: Template {
             word: "",
             parts: r##"once {"type":"int","doc":[
 each ;{"":{"":{"":{"":{"":{"":{"":{"":{"":{"":{"":{"":{"":{"":{"":{"":{"":{"":{"":{"":0}}}}}}}}}}}}}}}}}}}}

@@ -1,7 +1,7 @@
 //! The pairs of texts that are resolved.
 
 use crate::shape::Shape;
-use avro_testing::Text;
+use avro_testing::Template;
 
 /// A record of fields of one type.
 const FIELDS: &str = r##"once {"type":"record","name":"R","fields":[
@@ -70,7 +70,7 @@ each ,{"type":"record","name":"n#.A","fields":[{"name":"e","type":"E"},{"name":"
 once ]"##;
 
 /// A chain beside an enum of 5000 symbols.
-const BESIDE: &str = r##"once [{"type":"enum","name":"E","symbols":[
+const CHAIN_AND_ENUM: &str = r##"once [{"type":"enum","name":"E","symbols":[
 1..5000 "~",
 once "a"]},{"type":"record","name":"n.A0","fields":[{"name":"f","type":$}]}
 later ,{"type":"record","name":"n.A#","fields":[{"name":"f","type":"n.A<"}]}
@@ -113,13 +113,13 @@ static RESOLUTION: [Shape; 26] = [
     Shape {
         name: "fields",
         counts: &[10, 100, 1000, 4095],
-        behind: 3040,
+        after_cycle: 3040,
         inner: "",
-        writer: Text {
+        writer: Template {
             word: r#""int""#,
             parts: FIELDS,
         },
-        reader: Text {
+        reader: Template {
             word: r#""int""#,
             parts: FIELDS,
         },
@@ -128,13 +128,13 @@ static RESOLUTION: [Shape; 26] = [
     Shape {
         name: "reversed",
         counts: &[10, 100, 1000, 4095],
-        behind: 3040,
+        after_cycle: 3040,
         inner: "",
-        writer: Text {
+        writer: Template {
             word: r#""int""#,
             parts: FIELDS,
         },
-        reader: Text {
+        reader: Template {
             word: r#""int""#,
             parts: r##"once {"type":"record","name":"R","fields":[
 down {"name":"f#","type":$},
@@ -145,13 +145,13 @@ once {"name":"f0","type":$}]}"##,
     Shape {
         name: "other-types",
         counts: &[10, 100, 1000, 4095],
-        behind: 3040,
+        after_cycle: 3040,
         inner: "",
-        writer: Text {
+        writer: Template {
             word: r#""int""#,
             parts: FIELDS,
         },
-        reader: Text {
+        reader: Template {
             word: r#""string""#,
             parts: FIELDS,
         },
@@ -160,13 +160,13 @@ once {"name":"f0","type":$}]}"##,
     Shape {
         name: "nested",
         counts: &[1, 10, 100],
-        behind: 100,
+        after_cycle: 100,
         inner: r##"each {"name":"f#","type":"int"},"##,
-        writer: Text {
+        writer: Template {
             word: "",
             parts: NESTED,
         },
-        reader: Text {
+        reader: Template {
             word: "",
             parts: NESTED,
         },
@@ -175,13 +175,13 @@ once {"name":"f0","type":$}]}"##,
     Shape {
         name: "tree",
         counts: &[1, 100],
-        behind: 100,
+        after_cycle: 100,
         inner: "",
-        writer: Text {
+        writer: Template {
             word: "",
             parts: TREE,
         },
-        reader: Text {
+        reader: Template {
             word: "",
             parts: TREE,
         },
@@ -190,13 +190,13 @@ once {"name":"f0","type":$}]}"##,
     Shape {
         name: "union",
         counts: &[100, 680, 2000],
-        behind: 1500,
+        after_cycle: 1500,
         inner: "",
-        writer: Text {
+        writer: Template {
             word: "",
             parts: UNION,
         },
-        reader: Text {
+        reader: Template {
             word: "",
             parts: UNION,
         },
@@ -205,13 +205,13 @@ once {"name":"f0","type":$}]}"##,
     Shape {
         name: "enum",
         counts: &[100, 1000, 10000, 110000, 140000],
-        behind: 130000,
+        after_cycle: 130000,
         inner: "",
-        writer: Text {
+        writer: Template {
             word: "",
             parts: ENUM,
         },
-        reader: Text {
+        reader: Template {
             word: "",
             parts: ENUM,
         },
@@ -220,13 +220,13 @@ once {"name":"f0","type":$}]}"##,
     Shape {
         name: "enums",
         counts: &[100, 1000, 3500],
-        behind: 3000,
+        after_cycle: 3000,
         inner: r##"1..60 "~","##,
-        writer: Text {
+        writer: Template {
             word: "a",
             parts: ENUMS,
         },
-        reader: Text {
+        reader: Template {
             word: "a",
             parts: ENUMS,
         },
@@ -236,13 +236,13 @@ once {"name":"f0","type":$}]}"##,
     Shape {
         name: "last-symbols",
         counts: &[100, 499],
-        behind: 460,
+        after_cycle: 460,
         inner: r##"1..340 "~","##,
-        writer: Text {
+        writer: Template {
             word: "Guh",
             parts: ENUMS,
         },
-        reader: Text {
+        reader: Template {
             word: "Huh",
             parts: r##"once [
 each ;{"type":"enum","name":"n#.A","symbols":[@"$"]}
@@ -253,13 +253,13 @@ once ,{"type":"enum","name":"z.A","symbols":["other"],"default":"other"}]"##,
     Shape {
         name: "chain",
         counts: &[100, 1000, 4000],
-        behind: 3000,
+        after_cycle: 3000,
         inner: "",
-        writer: Text {
+        writer: Template {
             word: r#""int""#,
             parts: CHAIN,
         },
-        reader: Text {
+        reader: Template {
             word: r#""int""#,
             parts: CHAIN,
         },
@@ -268,13 +268,13 @@ once ,{"type":"enum","name":"z.A","symbols":["other"],"default":"other"}]"##,
     Shape {
         name: "broken-chain",
         counts: &[100, 1000, 4000],
-        behind: 3000,
+        after_cycle: 3000,
         inner: "",
-        writer: Text {
+        writer: Template {
             word: r#""int""#,
             parts: CHAIN,
         },
-        reader: Text {
+        reader: Template {
             word: r#""string""#,
             parts: CHAIN,
         },
@@ -283,13 +283,13 @@ once ,{"type":"enum","name":"z.A","symbols":["other"],"default":"other"}]"##,
     Shape {
         name: "one-name",
         counts: &[100, 1000, 4000],
-        behind: 3000,
+        after_cycle: 3000,
         inner: "",
-        writer: Text {
+        writer: Template {
             word: r#""int""#,
             parts: ONE_NAME,
         },
-        reader: Text {
+        reader: Template {
             word: r#""string""#,
             parts: ONE_NAME,
         },
@@ -298,13 +298,13 @@ once ,{"type":"enum","name":"z.A","symbols":["other"],"default":"other"}]"##,
     Shape {
         name: "fan",
         counts: &[100, 1000, 4000],
-        behind: 3000,
+        after_cycle: 3000,
         inner: "",
-        writer: Text {
+        writer: Template {
             word: r#""int""#,
             parts: FAN,
         },
-        reader: Text {
+        reader: Template {
             word: r#""string""#,
             parts: FAN,
         },
@@ -313,13 +313,13 @@ once ,{"type":"enum","name":"z.A","symbols":["other"],"default":"other"}]"##,
     Shape {
         name: "cycles",
         counts: &[40, 400, 4000],
-        behind: 3000,
+        after_cycle: 3000,
         inner: "",
-        writer: Text {
+        writer: Template {
             word: r#""c.A""#,
             parts: CYCLE,
         },
-        reader: Text {
+        reader: Template {
             word: r#""n.A""#,
             parts: r##"once {"type":"record","name":"c.A","fields":[{"name":"d","type":["null",{"type":"record","name":"n.A","fields":[{"name":"f","type":"c.A"}]}
 last ,{"type":"record","name":"n#.A","fields":[{"name":"f","type":$}]}
@@ -332,13 +332,13 @@ once ],"default":null},{"name":"f","type":"n1.A"}]}"##,
     Shape {
         name: "open-cycles",
         counts: &[400, 4000],
-        behind: 3000,
+        after_cycle: 3000,
         inner: "",
-        writer: Text {
+        writer: Template {
             word: r#""int""#,
             parts: CYCLE,
         },
-        reader: Text {
+        reader: Template {
             word: r#""string""#,
             parts: CYCLE,
         },
@@ -348,13 +348,13 @@ once ],"default":null},{"name":"f","type":"n1.A"}]}"##,
     Shape {
         name: "references",
         counts: &[200, 2000],
-        behind: 1500,
+        after_cycle: 1500,
         inner: "",
-        writer: Text {
+        writer: Template {
             word: "",
             parts: REFERENCES,
         },
-        reader: Text {
+        reader: Template {
             word: "",
             parts: REFERENCES,
         },
@@ -364,13 +364,13 @@ once ],"default":null},{"name":"f","type":"n1.A"}]}"##,
     Shape {
         name: "retaken",
         counts: &[200, 2000],
-        behind: 1500,
+        after_cycle: 1500,
         inner: "",
-        writer: Text {
+        writer: Template {
             word: r#""int""#,
             parts: RETAKEN,
         },
-        reader: Text {
+        reader: Template {
             word: r#""string""#,
             parts: RETAKEN,
         },
@@ -379,16 +379,16 @@ once ],"default":null},{"name":"f","type":"n1.A"}]}"##,
     Shape {
         name: "ladder",
         counts: &[30, 300],
-        behind: 200,
+        after_cycle: 200,
         inner: "",
-        writer: Text {
+        writer: Template {
             word: r#""int""#,
             parts: r##"once {"type":"record","name":"T","fields":[{"name":"d","type":["null"
 last ,{"type":"record","name":"w.A#","fields":[{"name":"f","type":$}]}
 down ,{"type":"record","name":"w.A#","fields":[{"name":"f","type":["w.A>"]}]}
 once ],"default":null},{"name":"f","type":["w.A1"]}]}"##,
         },
-        reader: Text {
+        reader: Template {
             word: r#""string""#,
             parts: r##"once {"type":"record","name":"T","fields":[{"name":"d","type":["null"
 last ,{"type":"record","name":"x.A#","fields":[{"name":"f","type":$}]},{"type":"record","name":"y.A#","fields":[{"name":"f","type":$}]}
@@ -400,15 +400,15 @@ once ],"default":null},{"name":"f","type":["x.A1","y.A1"]}]}"##,
     Shape {
         name: "beside",
         counts: &[200],
-        behind: 200,
+        after_cycle: 200,
         inner: "",
-        writer: Text {
+        writer: Template {
             word: r#""int""#,
-            parts: BESIDE,
+            parts: CHAIN_AND_ENUM,
         },
-        reader: Text {
+        reader: Template {
             word: r#""string""#,
-            parts: BESIDE,
+            parts: CHAIN_AND_ENUM,
         },
     },
     // eleven unions of the same records of one last name, which have an int, and the reader's a
@@ -416,13 +416,13 @@ once ],"default":null},{"name":"f","type":["x.A1","y.A1"]}]}"##,
     Shape {
         name: "unions",
         counts: &[200, 2000],
-        behind: 1500,
+        after_cycle: 1500,
         inner: r##"each ;"n#.A""##,
-        writer: Text {
+        writer: Template {
             word: r#""int""#,
             parts: UNIONS,
         },
-        reader: Text {
+        reader: Template {
             word: r#""string""#,
             parts: UNIONS,
         },
@@ -432,13 +432,13 @@ once ],"default":null},{"name":"f","type":["x.A1","y.A1"]}]}"##,
     Shape {
         name: "wide",
         counts: &[200, 2000],
-        behind: 1500,
+        after_cycle: 1500,
         inner: r##"each ;{"name":"g#","type":"n#.A"}"##,
-        writer: Text {
+        writer: Template {
             word: "",
             parts: WIDE,
         },
-        reader: Text {
+        reader: Template {
             word: "",
             parts: WIDE,
         },
@@ -447,13 +447,13 @@ once ],"default":null},{"name":"f","type":["x.A1","y.A1"]}]}"##,
     Shape {
         name: "aliases",
         counts: &[200, 2000],
-        behind: 1400,
+        after_cycle: 1400,
         inner: "",
-        writer: Text {
+        writer: Template {
             word: "",
             parts: UNION,
         },
-        reader: Text {
+        reader: Template {
             word: "",
             parts: r##"once [{"type":"record","name":"Other","aliases":[
 52..100052 ;"~"
@@ -466,15 +466,15 @@ once ]"##,
     Shape {
         name: "field-aliases",
         counts: &[200, 2000],
-        behind: 1500,
+        after_cycle: 1500,
         inner: "",
-        writer: Text {
+        writer: Template {
             word: "",
             parts: r##"once [
 each ;{"type":"record","name":"n#.A","fields":[{"name":"f","type":"int"}]}
 once ]"##,
         },
-        reader: Text {
+        reader: Template {
             word: "",
             parts: r##"once {"type":"record","name":"r.A","fields":[{"name":"g","type":"int","default":0,"aliases":[
 52..100052 ;"~"
@@ -486,13 +486,13 @@ once ]}]}"##,
     Shape {
         name: "many-unions",
         counts: &[2000, 3900],
-        behind: 3000,
+        after_cycle: 3000,
         inner: r##"each ;"n#.A""##,
-        writer: Text {
+        writer: Template {
             word: r#""int""#,
             parts: MANY_UNIONS,
         },
-        reader: Text {
+        reader: Template {
             word: r#""string""#,
             parts: MANY_UNIONS,
         },
@@ -503,13 +503,13 @@ once ]}]}"##,
     Shape {
         name: "crowd",
         counts: &[400, 1500, 3100],
-        behind: 2900,
+        after_cycle: 2900,
         inner: r##"52..89 "~","##,
-        writer: Text {
+        writer: Template {
             word: "",
             parts: CROWD,
         },
-        reader: Text {
+        reader: Template {
             word: "",
             parts: r##"once [{"type":"record","name":"p.P","fields":[{"name":"f","type":"string"}]}
 each ,{"type":"record","name":"n#.A","fields":[{"name":"z","type":"p.P","default":{"f":""},"aliases":[@"x3","x0","x1","x2","x4","x5","x6","x7"]}]}
@@ -521,15 +521,15 @@ once ]"##,
     Shape {
         name: "aliased",
         counts: &[400, 4090],
-        behind: 3000,
+        after_cycle: 3000,
         inner: r##"0..20 ;{"name":"~","type":"A","aliases":["x"]}"##,
-        writer: Text {
+        writer: Template {
             word: "",
             parts: r##"once [
 each ;{"type":"record","name":"n#.A","fields":[{"name":"x","type":"A"}]}
 once ]"##,
         },
-        reader: Text {
+        reader: Template {
             word: "",
             parts: r##"once [
 0..1000 ;{"type":"record","name":"n#.A","fields":[@]}

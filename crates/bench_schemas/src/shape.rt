@@ -1,6 +1,6 @@
 //! What is measured: texts by their parts.
 
-use avro_testing::{Text, text_of};
+use avro_testing::{Template, expand};
 use std::alloc::{AllocError, Global};
 
 /// Texts of one form, from a small one on, which shows how its time grows.
@@ -9,16 +9,16 @@ pub struct Shape {
     pub name: &'static str,
     pub counts: &'static [u32],
     /// a large count that has room behind a cycle, or 0 if none has
-    pub behind: u32,
+    pub after_cycle: u32,
     /// the parts that the mark of an inner text stands for, or `HOLES` or `TWO_HOLES`
     pub inner: &'static str,
     /// the text that is read, or the writer's
-    pub writer: Text,
-    pub reader: Text,
+    pub writer: Template,
+    pub reader: Template,
 }
 
 /// No text.
-pub const NO_TEXT: Text = Text {
+pub const NO_TEXT: Template = Template {
     word: "",
     parts: "",
 };
@@ -28,7 +28,7 @@ pub const NO_TEXT: Text = Text {
 const LINKS: &str =
     r##"once {"type":"record","name":"Link0","fields":[{"name":"$","default":null,"type":["null",{"type":"record","name":"Link1049","fields":[{"name":"next","type":"Link0"}]}
 1048..0 ,{"type":"record","name":"Link#","fields":[{"name":"next","type":"Link>"}]}
-once ]},{"name":"next","type":"Link1"},{"name":"behind","type":@}]}"##;
+once ]},{"name":"next","type":"Link1"},{"name":"after_cycle","type":@}]}"##;
 
 /// The inner text is fields of unions of the records n0.A, n1.A and so on. Each union leaves out one
 /// record of each 24, and ends with the word.
@@ -61,23 +61,27 @@ fn unions(alloc: Global, count: u32, has_two: bool, word: &str) -> Result<String
 pub fn shape_text(
     alloc: Global,
     shape: &Shape,
-    made: Text,
+    made: Template,
     count: u32,
 ) -> Result<String, AllocError> {
     let inner = if shape.inner == HOLES || shape.inner == TWO_HOLES {
         unions(alloc, count, shape.inner == TWO_HOLES, made.word)?
     } else {
-        let repeated = Text {
+        let repeated = Template {
             word: "",
             parts: shape.inner,
         };
-        text_of(alloc, repeated, "", count)?
+        expand(alloc, repeated, "", count)?
     };
-    text_of(alloc, made, inner.as_str(), count)
+    expand(alloc, made, inner.as_str(), count)
 }
 
 /// A text behind a cycle. The word is another one for the reader's.
-pub fn behind_cycle(alloc: Global, text: &str, word: &'static str) -> Result<String, AllocError> {
-    let links = Text { word, parts: LINKS };
-    text_of(alloc, links, text, 0)
+pub fn put_after_cycle(
+    alloc: Global,
+    text: &str,
+    word: &'static str,
+) -> Result<String, AllocError> {
+    let links = Template { word, parts: LINKS };
+    expand(alloc, links, text, 0)
 }

@@ -28,15 +28,15 @@ pub enum Work<'a> {
     /// `Value::from_str` of `serde_json`
     Json(&'a str),
     /// `resolves`
-    Opening(&'a Schema, &'a Schema),
+    Recursion(&'a Schema, &'a Schema),
     /// `resolves_plain`, which counts no visits
-    Striking(&'a Schema, &'a Schema),
+    Elimination(&'a Schema, &'a Schema),
 }
 
 /// What a work answers, and what it takes.
 #[derive(Clone, Copy)]
-pub struct Least {
-    pub told: Verdict,
+pub struct Timing {
+    pub verdict: Verdict,
     /// the nanoseconds of the shortest call
     pub nanos: u64,
     /// the nanoseconds of all calls
@@ -44,8 +44,8 @@ pub struct Least {
 }
 
 /// What is known before the first run.
-const NOTHING: Least = Least {
-    told: Verdict {
+const NOT_RUN: Timing = Timing {
+    verdict: Verdict {
         yes: false,
         visits: 0,
     },
@@ -54,25 +54,25 @@ const NOTHING: Least = Least {
 };
 
 /// Does the work once. A text that is read is none or one, and counts no visits.
-fn answer(alloc: Global, work: Work) -> Result<Verdict> {
+fn run_once(alloc: Global, work: Work) -> Result<Verdict> {
     let yes = match work {
         Work::Schema(text) => Schema::read(alloc, text).is_ok(),
         Work::Json(text) => Value::from_str(alloc, text).is_ok(),
-        Work::Opening(writer, reader) => return Ok(resolves(alloc, writer, reader)?),
-        Work::Striking(writer, reader) => resolves_plain(alloc, writer, reader)?,
+        Work::Recursion(writer, reader) => return Ok(resolves(alloc, writer, reader)?),
+        Work::Elimination(writer, reader) => resolves_plain(alloc, writer, reader)?,
     };
     Ok(Verdict { yes, visits: 0 })
 }
 
 /// Does the work in a run more, where it has not had enough of them.
-fn run(rt: &(impl Clock + AllocGlobal), work: Work, least: &mut Least) -> Result<()> {
+fn run(rt: &(impl Clock + AllocGlobal), work: Work, least: &mut Timing) -> Result<()> {
     if least.spent > ENOUGH {
         return Ok(());
     }
     let calls = if least.nanos < SHORT { CALLS } else { 1 };
     let start = Instant::now(rt)?;
     for _call in 0..calls {
-        least.told = answer(rt.alloc(), work)?;
+        least.verdict = run_once(rt.alloc(), work)?;
     }
     let took = u64::try_from(start.elapsed(rt)?.as_nanos()).unwrap_or(u64::MAX);
     least.spent = least.spent.saturating_add(took);
@@ -81,9 +81,9 @@ fn run(rt: &(impl Clock + AllocGlobal), work: Work, least: &mut Least) -> Result
 }
 
 /// Does two works in turn, so that what else the machine does weighs on both.
-pub fn times(rt: &(impl Clock + AllocGlobal), one: Work, other: Work) -> Result<(Least, Least)> {
-    let mut first = NOTHING;
-    let mut second = NOTHING;
+pub fn times(rt: &(impl Clock + AllocGlobal), one: Work, other: Work) -> Result<(Timing, Timing)> {
+    let mut first = NOT_RUN;
+    let mut second = NOT_RUN;
     for _run in 0..RUNS {
         run(rt, one, &mut first)?;
         run(rt, other, &mut second)?;

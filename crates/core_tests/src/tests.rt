@@ -1,6 +1,6 @@
 //! That with ample memory each call does its work, and that the definitions mean what was meant.
 
-mod memory;
+mod cache;
 mod nodes;
 mod registry;
 mod requests;

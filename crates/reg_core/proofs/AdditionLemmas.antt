@@ -14,17 +14,17 @@ use Rattle.reg_core.specs.Levels.{level_of}
 use Rattle.reg_core.specs.Modes.{mode_of}
 use Rattle.reg_core.specs.Registry.{Registry, Schemas, Row, RowKey, IsRow, IsRegistry, schema_at}
 use Rattle.reg_core.specs.Registry as registry
-use Rattle.reg_core.specs.Numbers.{choice_in}
+use Rattle.reg_core.specs.Numbers.{parse_choice}
 use Rattle.reg_core.specs.Rows.{rows_of, live_rows, next_number, schemas_of}
 use Rattle.reg_core.specs.Settings.{Setting, level_setting, mode_setting, set, with_level, with_mode}
-use Rattle.reg_core.specs.RegisterCommands.{schema_in, id_for, with_version, registered, register, is_admitted_after, level_in}
-use Rattle.reg_core.specs.Machine.{carried_out}
-use Rattle.reg_core.specs.Additions.{WasAdmitted, WasThere, IsAddition, Adds, AddsAdmitted}
+use Rattle.reg_core.specs.RegisterCommands.{supported_schema, id_for, with_version, registered, register, is_admitted_after, level_in}
+use Rattle.reg_core.specs.Machine.{permitted_step}
+use Rattle.reg_core.specs.Additions.{WasAdmitted, IsRetained, IsAddition, OnlyAdditions, AddsAdmitted}
 use Rattle.reg_core.proofs.DeletionLemmas.{itself, delete_version-were, delete_subject-were}
 use Rattle.reg_core.proofs.ModeLemmas.{step-either}
 use Rattle.reg_core.proofs.VerdictLemmas.{admits_decided}
 use Rattle.reg_core.proofs.RowLemmas.{row_schema, rows_of-IsRow, All-live_rows, get_inserted, next_number-absent}
-use Rattle.reg_core.proofs.RegistryLemmas.{schema_in-denotes, with_version-has_schema}
+use Rattle.reg_core.proofs.RegistryLemmas.{supported_schema-denotes, with_version-has_schema}
 
 one_more : (schemas : Schemas) (row : Row) (rows : List Row) (live : List (List NodeView)) (o : Option (List NodeView)) (nodes : List NodeView) → schema_at schemas row.1.id ≡ Some nodes → o ≡ Some nodes
     → AllZip (λ (r : Row) found. schema_at schemas r.1.id ≡ Some found) rows live → AllZip (λ (r : Row) found. schema_at schemas r.1.id ≡ Some found) (row ∷ rows) (cons_option o live)
@@ -44,7 +44,7 @@ pub live_schemas-each : (g : Registry) → IsRegistry g → (subject : List ℕ)
 live_schemas-each g ok subject = schemas_of-each g.schemas (live_rows (rows_of g subject)) (All-live_rows (λ (row : Row). IsRow g.schemas row.0 row.1) (rows_of g subject) (rows_of-IsRow g ok subject))
 
 -- a registry that stays as it is adds none
-itself_adds : (g : Registry) (c : Command) → Adds g c g
+itself_adds : (g : Registry) (c : Command) → OnlyAdditions g c g
 itself_adds g c key version e = inl (itself g.rows key version e)
 
 -- a schema that the level's test passes is admitted
@@ -55,7 +55,7 @@ was_admitted g ok subject text new denotes passed =
 
 -- what registering adds is the subject's next version, with the schema that was admitted
 registered_adds : (g : Registry) → IsRegistry g → (subject text : List ℕ) (supported : Bool) (new : List NodeView) → TextDenotes text new → (is_there admitted left : Bool)
-    → is_admitted_after g.schemas (level_in g subject) (live_rows (rows_of g subject)) new ≡ admitted → Adds g (Register subject text supported) (registered g subject new is_there admitted left).0
+    → is_admitted_after g.schemas (level_in g subject) (live_rows (rows_of g subject)) new ≡ admitted → OnlyAdditions g (Register subject text supported) (registered g subject new is_there admitted left).0
 unfolding was_admitted
 registered_adds g ok subject text supported new denotes true admitted left e = itself_adds g (Register subject text supported)
 registered_adds g ok subject text supported new denotes false false left e = itself_adds g (Register subject text supported)
@@ -64,7 +64,7 @@ registered_adds g ok subject text supported new denotes false true true e =
     let after = with_version g subject new in
     let key : RowKey = (subject, next_number (rows_of g subject)) in
     let added : registry.Version = record { id = id_for g.schemas new; deleted = false } in
-    get_inserted g.rows key added (λ k v. WasThere g.rows k v ⊎ IsAddition g (Register subject text supported) after k v)
+    get_inserted g.rows key added (λ k v. IsRetained g.rows k v ⊎ IsAddition g (Register subject text supported) after k v)
     (inr (record {
       subject = subject;
       text = text;
@@ -78,9 +78,9 @@ registered_adds g ok subject text supported new denotes false true true e =
     }))
     (λ k v there. inl (itself g.rows k v there))
 
-register_adds : (g : Registry) → IsRegistry g → (subject text : List ℕ) (supported : Bool) (schema : Option (List NodeView)) → schema_in text supported ≡ schema → Adds g (Register subject text supported) (register g subject schema).0
+register_adds : (g : Registry) → IsRegistry g → (subject text : List ℕ) (supported : Bool) (schema : Option (List NodeView)) → supported_schema text supported ≡ schema → OnlyAdditions g (Register subject text supported) (register g subject schema).0
 register_adds g ok subject text supported None e = itself_adds g (Register subject text supported)
-register_adds g ok subject text supported (Some new) e = registered_adds g ok subject text supported new (schema_in-denotes text supported new e) _ _ _ refl
+register_adds g ok subject text supported (Some new) e = registered_adds g ok subject text supported new (supported_schema-denotes text supported new e) _ _ _ refl
 
 set_adds_none : {A : Type 0} (s : Setting A) (g : Registry) (subject : Option (List ℕ)) → ((value : A) → (s.put g subject value).rows ≡ g.rows) → (o : Option A) → (set s g subject o).0.rows ≡ g.rows
 set_adds_none s g subject puts None = refl
@@ -95,34 +95,34 @@ with_mode_rows g None mode = refl
 with_mode_rows g (Some subject) mode = refl
 
 set_leaves : {A : Type 0} (s : Setting A) (g : Registry) (subject : Option (List ℕ)) → ((value : A) → (s.put g subject value).rows ≡ g.rows) → (o : Option A) (key : RowKey) (version : registry.Version) → get (set s g subject o).0.rows key ≡ Some version
-    → WasThere g.rows key version
+    → IsRetained g.rows key version
 set_leaves s g subject puts o key version e = itself g.rows key version (ap (λ (rows : registry.Rows). get rows key) (sym (set_adds_none s g subject puts o)) ∙ e)
 
 -- each version that stands after a command that is carried out stood before, or was added by registering a schema that the level admits
-pub carried_out_adds : (g : Registry) (c : Command) → IsRegistry g → Adds g c (carried_out g c).0
-unfolding carried_out
-carried_out_adds g (SetGlobal text) ok = λ key version e. inl (set_leaves level_setting g None (with_level_rows g None) (level_of text) key version e)
-carried_out_adds g (SetLevel subject text) ok = λ key version e. inl (set_leaves level_setting g (Some subject) (with_level_rows g (Some subject)) (level_of text) key version e)
-carried_out_adds g (Register subject text supported) ok = register_adds g ok subject text supported (schema_in text supported) refl
-carried_out_adds g (DeleteVersion subject version permanent) ok = λ key row e. inl (delete_version-were g subject (choice_in version) permanent key row e)
-carried_out_adds g (DeleteSubject subject permanent) ok = λ key row e. inl (delete_subject-were g subject permanent key row e)
-carried_out_adds g Global ok = itself_adds g Global
-carried_out_adds g (LevelOf subject default) ok = itself_adds g (LevelOf subject default)
-carried_out_adds g (Lookup subject text supported deleted) ok = itself_adds g (Lookup subject text supported deleted)
-carried_out_adds g (Subjects deleted) ok = itself_adds g (Subjects deleted)
-carried_out_adds g (Versions subject deleted) ok = itself_adds g (Versions subject deleted)
-carried_out_adds g (Version subject version deleted) ok = itself_adds g (Version subject version deleted)
-carried_out_adds g (Text subject version deleted) ok = itself_adds g (Text subject version deleted)
-carried_out_adds g (ById id) ok = itself_adds g (ById id)
-carried_out_adds g (VersionsOfId id deleted) ok = itself_adds g (VersionsOfId id deleted)
-carried_out_adds g Types ok = itself_adds g Types
-carried_out_adds g (Check subject version text supported) ok = itself_adds g (Check subject version text supported)
-carried_out_adds g (CheckAll subject text supported) ok = itself_adds g (CheckAll subject text supported)
-carried_out_adds g (SetGlobalMode text) ok = λ key version e. inl (set_leaves mode_setting g None (with_mode_rows g None) (mode_of text) key version e)
-carried_out_adds g (SetMode subject text) ok = λ key version e. inl (set_leaves mode_setting g (Some subject) (with_mode_rows g (Some subject)) (mode_of text) key version e)
-carried_out_adds g GlobalMode ok = itself_adds g GlobalMode
-carried_out_adds g (ModeOf subject default) ok = itself_adds g (ModeOf subject default)
+pub permitted_step_adds : (g : Registry) (c : Command) → IsRegistry g → OnlyAdditions g c (permitted_step g c).0
+unfolding permitted_step
+permitted_step_adds g (SetGlobal text) ok = λ key version e. inl (set_leaves level_setting g None (with_level_rows g None) (level_of text) key version e)
+permitted_step_adds g (SetLevel subject text) ok = λ key version e. inl (set_leaves level_setting g (Some subject) (with_level_rows g (Some subject)) (level_of text) key version e)
+permitted_step_adds g (Register subject text supported) ok = register_adds g ok subject text supported (supported_schema text supported) refl
+permitted_step_adds g (DeleteVersion subject version permanent) ok = λ key row e. inl (delete_version-were g subject (parse_choice version) permanent key row e)
+permitted_step_adds g (DeleteSubject subject permanent) ok = λ key row e. inl (delete_subject-were g subject permanent key row e)
+permitted_step_adds g Global ok = itself_adds g Global
+permitted_step_adds g (LevelOf subject default) ok = itself_adds g (LevelOf subject default)
+permitted_step_adds g (Lookup subject text supported deleted) ok = itself_adds g (Lookup subject text supported deleted)
+permitted_step_adds g (Subjects deleted) ok = itself_adds g (Subjects deleted)
+permitted_step_adds g (Versions subject deleted) ok = itself_adds g (Versions subject deleted)
+permitted_step_adds g (Version subject version deleted) ok = itself_adds g (Version subject version deleted)
+permitted_step_adds g (Text subject version deleted) ok = itself_adds g (Text subject version deleted)
+permitted_step_adds g (ById id) ok = itself_adds g (ById id)
+permitted_step_adds g (VersionsOfId id deleted) ok = itself_adds g (VersionsOfId id deleted)
+permitted_step_adds g Types ok = itself_adds g Types
+permitted_step_adds g (Check subject version text supported) ok = itself_adds g (Check subject version text supported)
+permitted_step_adds g (CheckAll subject text supported) ok = itself_adds g (CheckAll subject text supported)
+permitted_step_adds g (SetGlobalMode text) ok = λ key version e. inl (set_leaves mode_setting g None (with_mode_rows g None) (mode_of text) key version e)
+permitted_step_adds g (SetMode subject text) ok = λ key version e. inl (set_leaves mode_setting g (Some subject) (with_mode_rows g (Some subject)) (mode_of text) key version e)
+permitted_step_adds g GlobalMode ok = itself_adds g GlobalMode
+permitted_step_adds g (ModeOf subject default) ok = itself_adds g (ModeOf subject default)
 
 -- so does each that stands after a command
 pub step_adds_admitted : (g : Registry) (c : Command) → IsRegistry g → AddsAdmitted g c
-step_adds_admitted g c ok = step-either (λ after. Adds g c after.0) g c (itself_adds g c) (carried_out_adds g c ok)
+step_adds_admitted g c ok = step-either (λ after. OnlyAdditions g c after.0) g c (itself_adds g c) (permitted_step_adds g c ok)

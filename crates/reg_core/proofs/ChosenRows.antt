@@ -8,8 +8,8 @@ use Rattle.std.proofs.lemmas.Bool.{cases_Bool, eq-eqb}
 use Rattle.std.proofs.lemmas.List.Elements.{All-nil, All-cons, All-head, All-tail, All-filter, filter_passes}
 use Rattle.std.proofs.lemmas.Option.{none-some, same_Some}
 use Rattle.reg_core.specs.declared.code.Code.TheVariants.{VersionNotFound}
-use Rattle.reg_core.specs.declared.number.Choice.{Choice}
-use Rattle.reg_core.specs.declared.number.Choice.TheVariants.{Latest, Numbered}
+use Rattle.reg_core.specs.declared.number.VersionChoice.{VersionChoice}
+use Rattle.reg_core.specs.declared.number.VersionChoice.TheVariants.{Latest, Numbered}
 use Rattle.reg_core.specs.Compatibility.{latest}
 use Rattle.reg_core.specs.Registry.{Registry, Row, Version}
 use Rattle.reg_core.specs.Rows.{rows_of, shown_rows, chosen_row}
@@ -31,7 +31,7 @@ All-find P p (y ∷ ys) x h e = by (p y) e (All-find P p ys x (All-tail P y ys h
     by true f rest = subst P (same_Some y x f) (All-head P y ys h)
     by false f rest = rest f
 
-All-chosen : (P : Row → Type 0) (choice : Choice) (rows : List Row) (row : Row) → All P rows → chosen_row choice rows ≡ Some row → P row
+All-chosen : (P : Row → Type 0) (choice : VersionChoice) (rows : List Row) (row : Row) → All P rows → chosen_row choice rows ≡ Some row → P row
 All-chosen P Latest rows row h e = All-head P row [] (subst (λ (o : Option Row). All P (option_to_list o)) e (All-latest P rows h))
 All-chosen P (Numbered number) rows row h e = All-find P (λ (r : Row). r.0.1 == number) rows row h e
 
@@ -40,7 +40,7 @@ ok_of None code row e = absurd cc
 ok_of (Some other) code row e = cc
 
 -- what holds of each version holds of the one that is found
-pub All-found : (P : Row → Type 0) (choice : Choice) (rows : List Row) (row : Row) → All P rows → found_row (Some choice) rows ≡ Ok row → P row
+pub All-found : (P : Row → Type 0) (choice : VersionChoice) (rows : List Row) (row : Row) → All P rows → found_row (Some choice) rows ≡ Ok row → P row
 All-found P choice [] row h e = absurd cc
 All-found P choice (r ∷ rows) row h e = All-chosen P choice (r ∷ rows) row h (ok_of (chosen_row choice (r ∷ rows)) VersionNotFound row e)
 

@@ -54,9 +54,9 @@ altered_at rows key change q = altered_by rows key change q (get rows key) refl
 -- ---- several versions
 
 -- one after the other
-abbrev pub all_deleted : Rows → List RowKey → Rows
-all_deleted rows [] = rows
-all_deleted rows (key ∷ keys) = all_deleted (altered rows key as_deleted) keys
+abbrev pub delete_all : Rows → List RowKey → Rows
+delete_all rows [] = rows
+delete_all rows (key ∷ keys) = delete_all (altered rows key as_deleted) keys
 
 abbrev pub all_removed : Rows → List RowKey → Rows
 all_removed rows [] = rows
@@ -75,7 +75,7 @@ deleted_once true true o = twice o
 deleted_once true false o = refl
 deleted_once false rest o = refl
 
-pub all_deleted_at : (keys : List RowKey) (rows : Rows) (q : RowKey) → get (all_deleted rows keys) q ≡ cond (is_one_of keys q) (option_map as_deleted (get rows q)) (get rows q)
+pub all_deleted_at : (keys : List RowKey) (rows : Rows) (q : RowKey) → get (delete_all rows keys) q ≡ cond (is_one_of keys q) (option_map as_deleted (get rows q)) (get rows q)
 all_deleted_at [] rows q = refl
 all_deleted_at (key ∷ keys) rows q =
     all_deleted_at keys (altered rows key as_deleted) q

@@ -6,13 +6,13 @@ use Rattle.std.specs.List.{Contains}
 use Rattle.std.proofs.lemmas.List.Elements.{All-nil, All-cons, All-contains}
 use Rattle.std.proofs.lemmas.Slice.Eq.{bytes_eq-Decides}
 use Rattle.reg_core.specs.declared.decision.Change.{Change}
-use Rattle.reg_core.specs.Inside.Deleting.{version_change, own_dropped}
-use Rattle.reg_core.specs.Inside.Evidence.{AddNone}
+use Rattle.reg_core.specs.Inside.Deleting.{version_change, own_settings_dropped}
+use Rattle.reg_core.specs.Inside.Evidence.{AddNoVersion}
 use Rattle.reg_core.specs.DeletionCommands.{as_deleted, with_deleted, without_row, deleted_of, with_subject_deleted, without_subject}
 use Rattle.reg_core.specs.Registry.{Registry, Row, RowKey, Rows, Version, own_without}
 use Rattle.reg_core.specs.Rows.{rows_of, live_rows}
 use Rattle.reg_core.specs.Views.{altered, after_changes, ChangesFit}
-use Rattle.reg_core.proofs.DeletedRows.{same_key, key_is, key_ties, put_back, all_deleted, all_removed, is_one_of, all_deleted_at, all_removed_at, deleted_at, subject_deleted_at, subject_removed_at}
+use Rattle.reg_core.proofs.DeletedRows.{same_key, key_is, key_ties, put_back, delete_all, all_removed, is_one_of, all_deleted_at, all_removed_at, deleted_at, subject_deleted_at, subject_removed_at}
 use Rattle.reg_core.proofs.RowLemmas.{row_order, row_keys_apart, got-rows_of, filter_keeps}
 
 -- ---- one version
@@ -37,20 +37,20 @@ abbrev pub changes_of : Bool → List ℕ → List Row → List Change
 changes_of permanent subject rows = map (λ (row : Row). version_change permanent subject row.0.1) rows
 
 -- a registry can have each of them, at its turn
-pub changes_of-fit : (permanent : Bool) (subject : List ℕ) (rows : List Row) (g : Registry) → ChangesFit (changes_of permanent subject rows ++ own_dropped permanent subject) g
+pub changes_of-fit : (permanent : Bool) (subject : List ℕ) (rows : List Row) (g : Registry) → ChangesFit (changes_of permanent subject rows ++ own_settings_dropped permanent subject) g
 changes_of-fit false subject [] g = (tt, tt)
 changes_of-fit true subject [] g = (tt, (tt, tt))
 changes_of-fit false subject (row ∷ rows) g = (tt, changes_of-fit false subject rows _)
 changes_of-fit true subject (row ∷ rows) g = (tt, changes_of-fit true subject rows _)
 
 -- and they add no version
-pub changes_of-add_none : (permanent : Bool) (subject : List ℕ) (rows : List Row) → AddNone (changes_of permanent subject rows ++ own_dropped permanent subject)
+pub changes_of-add_none : (permanent : Bool) (subject : List ℕ) (rows : List Row) → AddNoVersion (changes_of permanent subject rows ++ own_settings_dropped permanent subject)
 changes_of-add_none false subject [] = (tt, tt)
 changes_of-add_none true subject [] = (tt, (tt, tt))
 changes_of-add_none false subject (row ∷ rows) = (tt, changes_of-add_none false subject rows)
 changes_of-add_none true subject (row ∷ rows) = (tt, changes_of-add_none true subject rows)
 
-changes_deleted : (g : Registry) (subject : List ℕ) (rows : List Row) (rest : List Change) → after_changes (changes_of false subject rows ++ rest) g ≡ after_changes rest (record g { rows = all_deleted g.rows (keys_of subject rows) })
+changes_deleted : (g : Registry) (subject : List ℕ) (rows : List Row) (rest : List Change) → after_changes (changes_of false subject rows ++ rest) g ≡ after_changes rest (record g { rows = delete_all g.rows (keys_of subject rows) })
 changes_deleted g subject [] rest = refl
 changes_deleted g subject (row ∷ rows) rest = changes_deleted (record g { rows = altered g.rows (subject, row.0.1) as_deleted }) subject rows rest
 
@@ -115,11 +115,11 @@ module _ (g : Registry) (subject : List ℕ) where
           already false e = absurd (true≢false (sym (live_among q version ((bytes_eq-Decides q.0 subject).0 same) there e) ∙ is))
 
   -- its live versions deleted one after the other, and its level dropped
-  pub subject_deleted_as : after_changes (changes_of false subject live ++ own_dropped false subject) g ≡ with_subject_deleted g subject
+  pub subject_deleted_as : after_changes (changes_of false subject live ++ own_settings_dropped false subject) g ≡ with_subject_deleted g subject
   subject_deleted_as =
-      changes_deleted g subject live (own_dropped false subject)
+      changes_deleted g subject live (own_settings_dropped false subject)
       ∙ ap (λ (rows : Rows). record g { rows = rows; own = own_without g.own subject })
-      (same_map row_order row_keys_apart (all_deleted g.rows (keys_of subject live)) (from_entries (map (deleted_of subject) (entries g.rows)))
+      (same_map row_order row_keys_apart (delete_all g.rows (keys_of subject live)) (from_entries (map (deleted_of subject) (entries g.rows)))
       (λ q. all_deleted_at (keys_of subject live) g.rows q ∙ agrees q ∙ sym (subject_deleted_at g.rows subject q)))
 
 -- ---- a subject, for good
@@ -145,9 +145,9 @@ module _ (g : Registry) (subject : List ℕ) where
       by false is true same (Some version) there = absurd (true≢false (sym (all_among q version ((bytes_eq-Decides q.0 subject).0 same) there) ∙ is))
 
   -- its versions removed one after the other, and its level dropped
-  pub subject_removed_as : after_changes (changes_of true subject all ++ own_dropped true subject) g ≡ without_subject g subject
+  pub subject_removed_as : after_changes (changes_of true subject all ++ own_settings_dropped true subject) g ≡ without_subject g subject
   subject_removed_as =
-      changes_removed g subject all (own_dropped true subject)
+      changes_removed g subject all (own_settings_dropped true subject)
       ∙ ap (λ (rows : Rows). record g { rows = rows; own = own_without g.own subject; own_modes = own_without g.own_modes subject })
       (same_map row_order row_keys_apart (all_removed g.rows (keys_of subject all)) (retain_keys g.rows (λ (key : RowKey). not (bytes_eq key.0 subject)))
       (λ q. all_removed_at (keys_of subject all) g.rows q ∙ leaves q ∙ sym (subject_removed_at g.rows subject q)))

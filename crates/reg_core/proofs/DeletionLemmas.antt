@@ -8,10 +8,10 @@ use Rattle.std.proofs.lemmas.List.Elements.{All-head}
 use Rattle.std.proofs.lemmas.Option.{none-some, same_Some}
 use Rattle.reg_core.specs.declared.code.Code.{Code}
 use Rattle.reg_core.specs.declared.code.Code.TheVariants.{SubjectSoftDeleted, VersionNotFound, VersionSoftDeleted, VersionNotSoftDeleted}
-use Rattle.reg_core.specs.declared.number.Choice.{Choice}
-use Rattle.reg_core.specs.declared.number.Choice.TheVariants.{Latest, Numbered}
-use Rattle.reg_core.specs.Additions.{WasThere}
-use Rattle.reg_core.specs.DeletionCommands.{if_live, if_deleted, found_and, row_to_mark, row_to_remove, as_deleted, with_deleted, without_row, version_deleted, delete_version, deleted_of, soft_delete, remove_subject, delete_subject}
+use Rattle.reg_core.specs.declared.number.VersionChoice.{VersionChoice}
+use Rattle.reg_core.specs.declared.number.VersionChoice.TheVariants.{Latest, Numbered}
+use Rattle.reg_core.specs.Additions.{IsRetained}
+use Rattle.reg_core.specs.DeletionCommands.{require_live, require_deleted, found_and, row_to_soft_delete, row_to_remove, as_deleted, with_deleted, without_row, version_deleted, delete_version, deleted_of, soft_delete, remove_subject, delete_subject}
 use Rattle.reg_core.specs.ReadCommands.{found_row}
 use Rattle.reg_core.specs.Registry.{Registry, Row, RowKey, Rows, Version, row_cmp}
 use Rattle.reg_core.specs.Rows.{rows_of, live_rows, chosen_row}
@@ -22,25 +22,25 @@ use Rattle.reg_core.proofs.RowLemmas.{row_order, get_inserted, rows_of-got, All-
 
 -- ---- a version that is there was there
 
-pub itself : (rows : Rows) (key : RowKey) (version : Version) → get rows key ≡ Some version → WasThere rows key version
+pub itself : (rows : Rows) (key : RowKey) (version : Version) → get rows key ≡ Some version → IsRetained rows key version
 itself rows key version there = record { old = version; there = there; same = refl; stays_deleted = λ d. d }
 
 -- soft-deleted where a test says so, it was there too
-deleted_was : (rows : Rows) (key : RowKey) (b : Bool) (found : Option Version) (version : Version) → get rows key ≡ found → cond b (option_map as_deleted found) found ≡ Some version → WasThere rows key version
+deleted_was : (rows : Rows) (key : RowKey) (b : Bool) (found : Option Version) (version : Version) → get rows key ≡ found → cond b (option_map as_deleted found) found ≡ Some version → IsRetained rows key version
 deleted_was rows key true None version there e = absurd (none-some version e)
 deleted_was rows key true (Some old) version there e =
     let is : as_deleted old ≡ version = same_Some (as_deleted old) version e in
     record { old = old; there = there; same = ap (λ (v : Version). v.id) (sym is); stays_deleted = λ d. ap (λ (v : Version). v.deleted) (sym is) }
 deleted_was rows key false found version there e = itself rows key version (there ∙ e)
 
-pub altered_was : (rows : Rows) (key : RowKey) (q : RowKey) (version : Version) → get (altered rows key as_deleted) q ≡ Some version → WasThere rows q version
+pub altered_was : (rows : Rows) (key : RowKey) (q : RowKey) (version : Version) → get (altered rows key as_deleted) q ≡ Some version → IsRetained rows q version
 altered_was rows key q version e = deleted_was rows q (same_key q key) (get rows q) version refl (sym (altered_at rows key as_deleted q) ∙ e)
 
 left_was : (b : Bool) (found : Option Version) (version : Version) → cond b None found ≡ Some version → found ≡ Some version
 left_was true found version e = absurd (none-some version e)
 left_was false found version e = e
 
-pub removed_was : (rows : Rows) (key : RowKey) (q : RowKey) (version : Version) → get (remove rows key) q ≡ Some version → WasThere rows q version
+pub removed_was : (rows : Rows) (key : RowKey) (q : RowKey) (version : Version) → get (remove rows key) q ≡ Some version → IsRetained rows q version
 removed_was rows key q version e = itself rows q version (left_was (same_key q key) (get rows q) version (sym (get-remove row_order rows key q) ∙ e))
 
 -- ---- which version is deleted
@@ -49,14 +49,14 @@ found_ok : (test : Row → Result Row Code) (found : Result Row Code) (row : Row
 found_ok test (Err code) row same e = e
 found_ok test (Ok r) row same e = ap Ok (same r e)
 
-live_same : (r row : Row) → if_live r ≡ Ok row → r ≡ row
+live_same : (r row : Row) → require_live r ≡ Ok row → r ≡ row
 live_same r row e = by r.1.deleted e
   where
     by : (b : Bool) → (if b then Err VersionSoftDeleted else Ok r) ≡ Ok row → r ≡ row
     by true h = absurd cc
     by false h = cc
 
-deleted_same : (r row : Row) → if_deleted r ≡ Ok row → r ≡ row
+deleted_same : (r row : Row) → require_deleted r ≡ Ok row → r ≡ row
 deleted_same r row e = by r.1.deleted e
   where
     by : (b : Bool) → (if b then Ok r else Err VersionNotSoftDeleted) ≡ Ok row → r ≡ row
@@ -73,29 +73,29 @@ All-last P rows row h e = by (last_or None rows) refl e
         subst P same (All-head P r [] (subst (λ (o : Option Row). All P (option_to_list o)) is (All-latest P rows h)))
 
 -- what holds of each version holds of the one that is soft-deleted
-pub All-row_to_mark : (P : Row → Type 0) (choice : Option Choice) (rows : List Row) (row : Row) → All P rows → row_to_mark choice rows ≡ Ok row → P row
-All-row_to_mark P None rows row h e = absurd cc
-All-row_to_mark P (Some choice) [] row h e = absurd cc
-All-row_to_mark P (Some Latest) (r ∷ rows) row h e = All-last P (live_rows (r ∷ rows)) row (All-live_rows P (r ∷ rows) h) e
-All-row_to_mark P (Some (Numbered number)) (r ∷ rows) row h e =
-    All-found P (Numbered number) (r ∷ rows) row h (found_ok if_live (ok_or (chosen_row (Numbered number) (r ∷ rows)) VersionNotFound) row (λ x. live_same x row) e)
+pub All-row_to_soft_delete : (P : Row → Type 0) (choice : Option VersionChoice) (rows : List Row) (row : Row) → All P rows → row_to_soft_delete choice rows ≡ Ok row → P row
+All-row_to_soft_delete P None rows row h e = absurd cc
+All-row_to_soft_delete P (Some choice) [] row h e = absurd cc
+All-row_to_soft_delete P (Some Latest) (r ∷ rows) row h e = All-last P (live_rows (r ∷ rows)) row (All-live_rows P (r ∷ rows) h) e
+All-row_to_soft_delete P (Some (Numbered number)) (r ∷ rows) row h e =
+    All-found P (Numbered number) (r ∷ rows) row h (found_ok require_live (ok_or (chosen_row (Numbered number) (r ∷ rows)) VersionNotFound) row (λ x. live_same x row) e)
 
 -- and of the one that is removed
-pub All-row_to_remove : (P : Row → Type 0) (choice : Option Choice) (rows : List Row) (row : Row) → All P rows → row_to_remove choice rows ≡ Ok row → P row
+pub All-row_to_remove : (P : Row → Type 0) (choice : Option VersionChoice) (rows : List Row) (row : Row) → All P rows → row_to_remove choice rows ≡ Ok row → P row
 All-row_to_remove P None rows row h e = absurd cc
-All-row_to_remove P (Some choice) rows row h e = All-found P choice rows row h (found_ok if_deleted (found_row (Some choice) rows) row (λ x. deleted_same x row) e)
+All-row_to_remove P (Some choice) rows row h e = All-found P choice rows row h (found_ok require_deleted (found_row (Some choice) rows) row (λ x. deleted_same x row) e)
 
 -- ---- after a deletion
 
 abbrev WereThere : Registry → Rows → Type 0
-WereThere g rows = (key : RowKey) (version : Version) → get rows key ≡ Some version → WasThere g.rows key version
+WereThere g rows = (key : RowKey) (version : Version) → get rows key ≡ Some version → IsRetained g.rows key version
 
 all_were : (g : Registry) → WereThere g g.rows
 all_were g key version e = itself g.rows key version e
 
 pub deleted_were : (g : Registry) (row : Row) → get g.rows row.0 ≡ Some row.1 → WereThere g (with_deleted g row).rows
 deleted_were g row there key version e =
-    get_inserted g.rows row.0 (as_deleted row.1) (WasThere g.rows) (record { old = row.1; there = there; same = refl; stays_deleted = λ _. refl }) (itself g.rows) key version e
+    get_inserted g.rows row.0 (as_deleted row.1) (IsRetained g.rows) (record { old = row.1; there = there; same = refl; stays_deleted = λ _. refl }) (itself g.rows) key version e
 
 marked_were : (g : Registry) (found : Result Row Code) → ((row : Row) → found ≡ Ok row → get g.rows row.0 ≡ Some row.1) → WereThere g (version_deleted with_deleted g found).0.rows
 marked_were g (Err code) got = all_were g
@@ -106,17 +106,17 @@ removed_were g (Err code) = all_were g
 removed_were g (Ok row) = λ key version e. removed_was g.rows row.0 key version e
 
 -- the version that is found stands at its key
-pub row_to_mark-got : (g : Registry) (subject : List ℕ) (choice : Option Choice) (row : Row) → row_to_mark choice (rows_of g subject) ≡ Ok row → get g.rows row.0 ≡ Some row.1
-row_to_mark-got g subject choice row e = All-row_to_mark (λ (r : Row). get g.rows r.0 ≡ Some r.1) choice (rows_of g subject) row (rows_of-got g subject) e
+pub row_to_soft_delete-got : (g : Registry) (subject : List ℕ) (choice : Option VersionChoice) (row : Row) → row_to_soft_delete choice (rows_of g subject) ≡ Ok row → get g.rows row.0 ≡ Some row.1
+row_to_soft_delete-got g subject choice row e = All-row_to_soft_delete (λ (r : Row). get g.rows r.0 ≡ Some r.1) choice (rows_of g subject) row (rows_of-got g subject) e
 
-pub delete_version-were : (g : Registry) (subject : List ℕ) (choice : Option Choice) (permanent : Bool) → WereThere g (delete_version g subject choice permanent).0.rows
-delete_version-were g subject choice false = marked_were g (row_to_mark choice (rows_of g subject)) (row_to_mark-got g subject choice)
+pub delete_version-were : (g : Registry) (subject : List ℕ) (choice : Option VersionChoice) (permanent : Bool) → WereThere g (delete_version g subject choice permanent).0.rows
+delete_version-were g subject choice false = marked_were g (row_to_soft_delete choice (rows_of g subject)) (row_to_soft_delete-got g subject choice)
 delete_version-were g subject choice true = removed_were g (row_to_remove choice (rows_of g subject))
 
-pub subject_deleted_was : (rows : Rows) (subject : List ℕ) (key : RowKey) (version : Version) → get (from_entries {R = row_cmp} (map (deleted_of subject) (entries rows))) key ≡ Some version → WasThere rows key version
+pub subject_deleted_was : (rows : Rows) (subject : List ℕ) (key : RowKey) (version : Version) → get (from_entries {R = row_cmp} (map (deleted_of subject) (entries rows))) key ≡ Some version → IsRetained rows key version
 subject_deleted_was rows subject key version e = by (bytes_eq key.0 subject) (get rows key) refl (sym (subject_deleted_at rows subject key) ∙ e)
   where
-    by : (b : Bool) (found : Option Version) → get rows key ≡ found → option_map (λ (v : Version). if b then as_deleted v else v) found ≡ Some version → WasThere rows key version
+    by : (b : Bool) (found : Option Version) → get rows key ≡ found → option_map (λ (v : Version). if b then as_deleted v else v) found ≡ Some version → IsRetained rows key version
     by b None there h = absurd (none-some version h)
     by true (Some old) there h = deleted_was rows key true (Some old) version there h
     by false (Some old) there h = deleted_was rows key false (Some old) version there h

@@ -7,17 +7,17 @@ use Rattle.reg_core.specs.declared.code.Code.{Code}
 use Rattle.reg_core.specs.declared.code.Code.TheVariants.{SubjectNotFound, SubjectSoftDeleted, SubjectNotSoftDeleted}
 use Rattle.reg_core.specs.declared.command.Command.TheVariants.{DeleteVersion, DeleteSubject}
 use Rattle.reg_core.specs.declared.decision.View.{View}
-use Rattle.reg_core.specs.Inside.Deleting.{version_change, own_dropped, subject_refusal}
+use Rattle.reg_core.specs.Inside.Deleting.{version_change, own_settings_dropped, subject_refusal}
 use Rattle.reg_core.specs.DeletionCommands.{row_to_delete, with_deleted, without_row, version_deleted, delete_version, with_subject_deleted, without_subject, numbers_reply, soft_delete, remove_subject, delete_subject}
 use Rattle.reg_core.specs.Bodies.{number_body}
-use Rattle.reg_core.specs.Machine.{carried_out}
-use Rattle.reg_core.specs.Numbers.{choice_in}
-use Rattle.reg_core.specs.Replies.{Told, answer, fault}
+use Rattle.reg_core.specs.Machine.{permitted_step}
+use Rattle.reg_core.specs.Numbers.{parse_choice}
+use Rattle.reg_core.specs.Replies.{ReplyView, answer, fault}
 use Rattle.reg_core.specs.Registry.{Registry, Row}
 use Rattle.reg_core.specs.Rows.{rows_of, shown_rows, live_rows}
-use Rattle.reg_core.specs.Views.{after_changes, IsGround}
+use Rattle.reg_core.specs.Views.{after_changes, IsDecisionInput}
 use Rattle.reg_core.proofs.ChosenRows.{filter_all}
-use Rattle.reg_core.proofs.DeletionLemmas.{All-row_to_mark, All-row_to_remove, row_to_mark-got}
+use Rattle.reg_core.proofs.DeletionLemmas.{All-row_to_soft_delete, All-row_to_remove, row_to_soft_delete-got}
 use Rattle.reg_core.proofs.RowLemmas.{rows_of-subject}
 use Rattle.reg_core.proofs.DeletionChanges.{deleted_as, removed_as, changes_of, subject_deleted_as, subject_removed_as}
 
@@ -25,41 +25,41 @@ use Rattle.reg_core.proofs.DeletionChanges.{deleted_as, removed_as, changes_of, 
 pub all_shown : (rows : List Row) → shown_rows true rows ≡ rows
 all_shown rows = filter_all (λ (row : Row). true || not row.1.deleted) rows (λ k d lt. refl)
 
-module _ (g : Registry) (subject version : List ℕ) (permanent : Bool) (view : View) (schema : Option (List NodeView)) (ground : IsGround g (DeleteVersion subject version permanent) schema view) where
+module _ (g : Registry) (subject version : List ℕ) (permanent : Bool) (view : View) (schema : Option (List NodeView)) (input : IsDecisionInput g (DeleteVersion subject version permanent) schema view) where
   -- a version that can't be deleted is refused
-  pub deletion_refused : (code : Code) → Err code ≡ row_to_delete permanent (choice_in version) view.rows.items → carried_out g (DeleteVersion subject version permanent) ≡ (g, fault code)
-  unfolding carried_out
-  deletion_refused code is = by permanent (is ∙ ground.shows.rows)
+  pub deletion_refused : (code : Code) → Err code ≡ row_to_delete permanent (parse_choice version) view.rows.items → permitted_step g (DeleteVersion subject version permanent) ≡ (g, fault code)
+  unfolding permitted_step
+  deletion_refused code is = by permanent (is ∙ input.shows.rows)
     where
-      by : (b : Bool) → Err code ≡ row_to_delete b (choice_in version) (rows_of g subject) → delete_version g subject (choice_in version) b ≡ (g, fault code)
+      by : (b : Bool) → Err code ≡ row_to_delete b (parse_choice version) (rows_of g subject) → delete_version g subject (parse_choice version) b ≡ (g, fault code)
       by false e = ap (version_deleted with_deleted g) (sym e)
       by true e = ap (version_deleted without_row g) (sym e)
 
   -- and one that can is deleted by its one change, and its number is answered
-  pub version_gone : (row : Row) → Ok row ≡ row_to_delete permanent (choice_in version) view.rows.items
-      → carried_out g (DeleteVersion subject version permanent) ≡ (after_changes (version_change permanent subject row.0.1 ∷ []) g, answer (number_body row.0.1))
-  unfolding carried_out
-  version_gone row is = by permanent (is ∙ ground.shows.rows)
+  pub version_gone : (row : Row) → Ok row ≡ row_to_delete permanent (parse_choice version) view.rows.items
+      → permitted_step g (DeleteVersion subject version permanent) ≡ (after_changes (version_change permanent subject row.0.1 ∷ []) g, answer (number_body row.0.1))
+  unfolding permitted_step
+  version_gone row is = by permanent (is ∙ input.shows.rows)
     where
-      by : (b : Bool) → Ok row ≡ row_to_delete b (choice_in version) (rows_of g subject) → delete_version g subject (choice_in version) b ≡ (after_changes (version_change b subject row.0.1 ∷ []) g, answer (number_body row.0.1))
+      by : (b : Bool) → Ok row ≡ row_to_delete b (parse_choice version) (rows_of g subject) → delete_version g subject (parse_choice version) b ≡ (after_changes (version_change b subject row.0.1 ∷ []) g, answer (number_body row.0.1))
       by false e =
-          let its = All-row_to_mark (λ (r : Row). r.0.0 ≡ subject) (choice_in version) (rows_of g subject) row (rows_of-subject g subject) (sym e) in
-          ap (version_deleted with_deleted g) (sym e) ∙ ap (λ (after : Registry). (after, answer (number_body row.0.1))) (sym (deleted_as g subject row its (row_to_mark-got g subject (choice_in version) row (sym e))))
+          let its = All-row_to_soft_delete (λ (r : Row). r.0.0 ≡ subject) (parse_choice version) (rows_of g subject) row (rows_of-subject g subject) (sym e) in
+          ap (version_deleted with_deleted g) (sym e) ∙ ap (λ (after : Registry). (after, answer (number_body row.0.1))) (sym (deleted_as g subject row its (row_to_soft_delete-got g subject (parse_choice version) row (sym e))))
       by true e =
-          let its = All-row_to_remove (λ (r : Row). r.0.0 ≡ subject) (choice_in version) (rows_of g subject) row (rows_of-subject g subject) (sym e) in
+          let its = All-row_to_remove (λ (r : Row). r.0.0 ≡ subject) (parse_choice version) (rows_of g subject) row (rows_of-subject g subject) (sym e) in
           ap (version_deleted without_row g) (sym e) ∙ ap (λ (after : Registry). (after, answer (number_body row.0.1))) (sym (removed_as g subject row its))
 
-module _ (g : Registry) (subject : List ℕ) (permanent : Bool) (view : View) (schema : Option (List NodeView)) (ground : IsGround g (DeleteSubject subject permanent) schema view) where
-  abbrev goes : Bool → List Row → List Row → Registry × Told
+module _ (g : Registry) (subject : List ℕ) (permanent : Bool) (view : View) (schema : Option (List NodeView)) (input : IsDecisionInput g (DeleteSubject subject permanent) schema view) where
+  abbrev goes : Bool → List Row → List Row → Registry × ReplyView
   goes false rows live = soft_delete g subject rows live
   goes true rows live = remove_subject g subject rows live
 
   -- a subject that can't be deleted is refused
-  pub subject_refused : (code : Code) → Some code ≡ subject_refusal permanent view.rows.items (live_rows view.rows.items) → carried_out g (DeleteSubject subject permanent) ≡ (g, fault code)
-  unfolding carried_out
-  subject_refused code is = start permanent (is ∙ ap (λ (rows : List Row). subject_refusal permanent rows (live_rows rows)) ground.shows.rows)
+  pub subject_refused : (code : Code) → Some code ≡ subject_refusal permanent view.rows.items (live_rows view.rows.items) → permitted_step g (DeleteSubject subject permanent) ≡ (g, fault code)
+  unfolding permitted_step
+  subject_refused code is = start permanent (is ∙ ap (λ (rows : List Row). subject_refusal permanent rows (live_rows rows)) input.shows.rows)
     where
-      told : Code → Registry × Told
+      told : Code → Registry × ReplyView
       told why = (g, fault why)
 
       refused : (why : Code) → Some code ≡ Some why → told why ≡ told code
@@ -79,26 +79,26 @@ module _ (g : Registry) (subject : List ℕ) (permanent : Bool) (view : View) (s
 
 -- and one that can is deleted by these changes, and the numbers are answered
 module _ (g : Registry) (subject : List ℕ) (view : View) (schema : Option (List NodeView)) where
-  pub subject_gone : IsGround g (DeleteSubject subject false) schema view → None ≡ subject_refusal false view.rows.items (live_rows view.rows.items)
-      → carried_out g (DeleteSubject subject false) ≡ (after_changes (changes_of false subject (live_rows view.rows.items) ++ own_dropped false subject) g, numbers_reply (live_rows view.rows.items))
-  unfolding carried_out
-  subject_gone ground is =
-      by (rows_of g subject) (live_rows (rows_of g subject)) (is ∙ ap (λ (rows : List Row). subject_refusal false rows (live_rows rows)) ground.shows.rows)
+  pub subject_gone : IsDecisionInput g (DeleteSubject subject false) schema view → None ≡ subject_refusal false view.rows.items (live_rows view.rows.items)
+      → permitted_step g (DeleteSubject subject false) ≡ (after_changes (changes_of false subject (live_rows view.rows.items) ++ own_settings_dropped false subject) g, numbers_reply (live_rows view.rows.items))
+  unfolding permitted_step
+  subject_gone input is =
+      by (rows_of g subject) (live_rows (rows_of g subject)) (is ∙ ap (λ (rows : List Row). subject_refusal false rows (live_rows rows)) input.shows.rows)
       ∙ ap (λ (after : Registry). (after, numbers_reply (live_rows (rows_of g subject)))) (sym (subject_deleted_as g subject))
-      ∙ ap (λ (rows : List Row). (after_changes (changes_of false subject (live_rows rows) ++ own_dropped false subject) g, numbers_reply (live_rows rows))) (sym ground.shows.rows)
+      ∙ ap (λ (rows : List Row). (after_changes (changes_of false subject (live_rows rows) ++ own_settings_dropped false subject) g, numbers_reply (live_rows rows))) (sym input.shows.rows)
     where
       by : (rows live : List Row) → None ≡ subject_refusal false rows live → soft_delete g subject rows live ≡ (with_subject_deleted g subject, numbers_reply live)
       by [] live e = absurd (none-some SubjectNotFound e)
       by (row ∷ rows) [] e = absurd (none-some SubjectSoftDeleted e)
       by (row ∷ rows) (one ∷ live) e = refl
 
-  pub subject_removed : IsGround g (DeleteSubject subject true) schema view → None ≡ subject_refusal true view.rows.items (live_rows view.rows.items)
-      → carried_out g (DeleteSubject subject true) ≡ (after_changes (changes_of true subject view.rows.items ++ own_dropped true subject) g, numbers_reply view.rows.items)
-  unfolding carried_out
-  subject_removed ground is =
-      by (rows_of g subject) (live_rows (rows_of g subject)) (is ∙ ap (λ (rows : List Row). subject_refusal true rows (live_rows rows)) ground.shows.rows)
+  pub subject_removed : IsDecisionInput g (DeleteSubject subject true) schema view → None ≡ subject_refusal true view.rows.items (live_rows view.rows.items)
+      → permitted_step g (DeleteSubject subject true) ≡ (after_changes (changes_of true subject view.rows.items ++ own_settings_dropped true subject) g, numbers_reply view.rows.items)
+  unfolding permitted_step
+  subject_removed input is =
+      by (rows_of g subject) (live_rows (rows_of g subject)) (is ∙ ap (λ (rows : List Row). subject_refusal true rows (live_rows rows)) input.shows.rows)
       ∙ ap (λ (after : Registry). (after, numbers_reply (rows_of g subject))) (sym (subject_removed_as g subject))
-      ∙ ap (λ (rows : List Row). (after_changes (changes_of true subject rows ++ own_dropped true subject) g, numbers_reply rows)) (sym ground.shows.rows)
+      ∙ ap (λ (rows : List Row). (after_changes (changes_of true subject rows ++ own_settings_dropped true subject) g, numbers_reply rows)) (sym input.shows.rows)
     where
       by : (rows live : List Row) → None ≡ subject_refusal true rows live → remove_subject g subject rows live ≡ (without_subject g subject, numbers_reply rows)
       by [] live e = absurd (none-some SubjectNotFound e)

@@ -12,8 +12,8 @@ use Rattle.reg_core.specs.declared.decision.Change.{Change}
 use Rattle.reg_core.specs.declared.decision.Change.TheVariants as change
 use Rattle.reg_core.specs.Compatibility.{Admits, Compatible, named_versions}
 use Rattle.reg_core.specs.DeletionCommands.{as_deleted}
-use Rattle.reg_core.specs.Evidence.{Evidence, EvidenceOf, IsOfVersions, GoesWith, IsTrueOf, evidence_in, kept_or_new, Becomes}
-use Rattle.reg_core.specs.Inside.Evidence.{AddsNone, AddNone, TellEvidence}
+use Rattle.reg_core.specs.Evidence.{Evidence, EvidenceMap, HasOnlyVersions, IsCompatibleWith, IsTrueForSchema, next_evidence, kept_or_new, IsEvidenceUpdate}
+use Rattle.reg_core.specs.Inside.Evidence.{AddsNoVersion, AddNoVersion, UpdateEvidence}
 use Rattle.reg_core.specs.Registry.{Registry, IsRegistry, Row, RowKey, Schemas, Version, schema_at}
 use Rattle.reg_core.specs.RegisterCommands.{level_in, schemas_with, id_for}
 use Rattle.reg_core.specs.Rows.{rows_of, live_rows, schemas_of, id_of}
@@ -47,7 +47,7 @@ is_some-altered true (Some version) = refl
 is_some-altered false o = refl
 
 -- what one change leaves
-stays : (c : Change) → AddsNone c → (g : Registry) (had : EvidenceOf) (key : RowKey) → Stays (get g.rows key) (get (after_change c g).rows key) (get had key) (get (evidence_after_change c had) key)
+stays : (c : Change) → AddsNoVersion c → (g : Registry) (had : EvidenceMap) (key : RowKey) → Stays (get g.rows key) (get (after_change c g).rows key) (get had key) (get (evidence_after_change c had) key)
 unfolding Stays
 stays (change.SetGlobal level) none g had key = inl (refl, refl)
 stays (change.SetLevel subject level) none g had key = inl (refl, refl)
@@ -67,7 +67,7 @@ stays (change.SetMode subject mode) none g had key = inl (refl, refl)
 stays (change.DropMode subject) none g had key = inl (refl, refl)
 
 -- and several, one after the other
-all_stay : (cs : List Change) → AddNone cs → (g : Registry) (had : EvidenceOf) (key : RowKey) → Stays (get g.rows key) (get (after_changes cs g).rows key) (get had key) (get (evidence_after_changes cs had) key)
+all_stay : (cs : List Change) → AddNoVersion cs → (g : Registry) (had : EvidenceMap) (key : RowKey) → Stays (get g.rows key) (get (after_changes cs g).rows key) (get had key) (get (evidence_after_changes cs had) key)
 unfolding Stays
 all_stay [] none g had key = inl (refl, refl)
 all_stay (c ∷ cs) none g had key =
@@ -81,50 +81,50 @@ kept None (Some after) had own same none = absurd (true≢false same)
 kept (Some version) (Some after) had own same none = refl
 
 -- changes that add no version tell what becomes of the evidence
-pub add_none-tell : (cs : List Change) → AddNone cs → (g : Registry) → TellEvidence cs g
+pub add_none-tell : (cs : List Change) → AddNoVersion cs → (g : Registry) → UpdateEvidence cs g
 unfolding Stays
 add_none-tell cs none g had ok key = by (get (after_changes cs g).rows key) (all_stay cs none g had key)
   where
     by : (after : Option Version) → Stays (get g.rows key) after (get had key) (get (evidence_after_changes cs had) key)
-        → get (evidence_after_changes cs had) key ≡ kept_or_new (get g.rows key) after (get had key) (evidence_in g key.0)
-    by after (inl same) = same.1 ∙ kept (get g.rows key) after (get had key) (evidence_in g key.0) same.0 (ok key)
-    by after (inr gone) = gone.1 ∙ sym (ap (λ (o : Option Version). kept_or_new (get g.rows key) o (get had key) (evidence_in g key.0)) gone.0)
+        → get (evidence_after_changes cs had) key ≡ kept_or_new (get g.rows key) after (get had key) (next_evidence g key.0)
+    by after (inl same) = same.1 ∙ kept (get g.rows key) after (get had key) (next_evidence g key.0) same.0 (ok key)
+    by after (inr gone) = gone.1 ∙ sym (ap (λ (o : Option Version). kept_or_new (get g.rows key) o (get had key) (next_evidence g key.0)) gone.0)
 
 -- ---- a version that is added
 
 -- a new version has what the registry names
-pub added_becomes : (g : Registry) (row : Row) (evidence : Evidence) → get g.rows row.0 ≡ None → evidence ≡ evidence_in g row.0.0 → (had : EvidenceOf) → IsOfVersions g had
-    → Becomes g (record g { rows = insert g.rows row.0 row.1 }) had (insert had row.0 evidence)
+pub added_becomes : (g : Registry) (row : Row) (evidence : Evidence) → get g.rows row.0 ≡ None → evidence ≡ next_evidence g row.0.0 → (had : EvidenceMap) → HasOnlyVersions g had
+    → IsEvidenceUpdate g (record g { rows = insert g.rows row.0 row.1 }) had (insert had row.0 evidence)
 added_becomes g row evidence absent named had ok key =
     get-insert row_order had row.0 evidence key
     ∙ (by (same_key key row.0) refl
-    ∙ sym (ap (λ (o : Option Version). kept_or_new (get g.rows key) o (get had key) (evidence_in g key.0)) (get-insert row_order g.rows row.0 row.1 key)))
+    ∙ sym (ap (λ (o : Option Version). kept_or_new (get g.rows key) o (get had key) (next_evidence g key.0)) (get-insert row_order g.rows row.0 row.1 key)))
   where
-    by : (b : Bool) → same_key key row.0 ≡ b → cond b (Some evidence) (get had key) ≡ kept_or_new (get g.rows key) (cond b (Some row.1) (get g.rows key)) (get had key) (evidence_in g key.0)
+    by : (b : Bool) → same_key key row.0 ≡ b → cond b (Some evidence) (get had key) ≡ kept_or_new (get g.rows key) (cond b (Some row.1) (get g.rows key)) (get had key) (next_evidence g key.0)
     by true same =
         let is = key_is key row.0 same in
-        let own : evidence ≡ evidence_in g key.0 = named ∙ ap (λ (k : RowKey). evidence_in g k.0) (sym is) in
-        ap Some own ∙ sym (ap (λ (o : Option Version). kept_or_new o (Some row.1) (get had key) (evidence_in g key.0)) (ap (get g.rows) is ∙ absent))
-    by false same = kept (get g.rows key) (get g.rows key) (get had key) (evidence_in g key.0) refl (ok key)
+        let own : evidence ≡ next_evidence g key.0 = named ∙ ap (λ (k : RowKey). next_evidence g k.0) (sym is) in
+        ap Some own ∙ sym (ap (λ (o : Option Version). kept_or_new o (Some row.1) (get had key) (next_evidence g key.0)) (ap (get g.rows) is ∙ absent))
+    by false same = kept (get g.rows key) (get g.rows key) (get had key) (next_evidence g key.0) refl (ok key)
 
 -- ---- true evidence
 
 -- what is true stays so where there are more schemas
-pub true-more : (schemas more : Schemas) (new : List NodeView) (evidence : Evidence) → IsTrueOf schemas new evidence → IsTrueOf (schemas ++ more) new evidence
+pub true-more : (schemas more : Schemas) (new : List NodeView) (evidence : Evidence) → IsTrueForSchema schemas new evidence → IsTrueForSchema (schemas ++ more) new evidence
 true-more schemas more new evidence holds = λ k d l. let (earlier, there, goes) = holds k d l in (earlier, schema_more schemas more _ earlier there, goes)
 
-pub true-with : (schemas : Schemas) (new : List NodeView) (evidence : Evidence) → IsTrueOf schemas new evidence → IsTrueOf (schemas_with schemas new) new evidence
+pub true-with : (schemas : Schemas) (new : List NodeView) (evidence : Evidence) → IsTrueForSchema schemas new evidence → IsTrueForSchema (schemas_with schemas new) new evidence
 true-with schemas new evidence holds = by (is_some (id_of schemas (identity new)))
   where
-    by : (b : Bool) → IsTrueOf (cond b schemas (schemas ++ new ∷ [])) new evidence
+    by : (b : Bool) → IsTrueForSchema (cond b schemas (schemas ++ new ∷ [])) new evidence
     by true = holds
     by false = true-more schemas (new ∷ []) new evidence holds
 
-goes_with : (schemas : Schemas) (level : Level) (new : List NodeView) (row : Row) → HasSchema schemas row → Compatible level (schema_or schemas row) new → GoesWith schemas level new row.1.id
-goes_with schemas level new row (nodes, e) goes = (nodes, e, subst (λ (x : List NodeView). Compatible level x new) (schema_or-is schemas row nodes e) goes)
+is_compatible_with : (schemas : Schemas) (level : Level) (new : List NodeView) (row : Row) → HasSchema schemas row → Compatible level (schema_or schemas row) new → IsCompatibleWith schemas level new row.1.id
+is_compatible_with schemas level new row (nodes, e) goes = (nodes, e, subst (λ (x : List NodeView). Compatible level x new) (schema_or-is schemas row nodes e) goes)
 
 -- what the level admits after the live versions goes with those that it names
-pub admitted-true : (g : Registry) → IsRegistry g → (subject : List ℕ) (new : List NodeView) → Admits (level_in g subject) (schemas_of g.schemas (live_rows (rows_of g subject))) new → IsTrueOf g.schemas new (evidence_in g subject)
+pub admitted-true : (g : Registry) → IsRegistry g → (subject : List ℕ) (new : List NodeView) → Admits (level_in g subject) (schemas_of g.schemas (live_rows (rows_of g subject))) new → IsTrueForSchema g.schemas new (next_evidence g subject)
 admitted-true g ok subject new admits =
     let level = level_in g subject in
     let rows = live_rows (rows_of g subject) in
@@ -134,7 +134,7 @@ admitted-true g ok subject new admits =
     subst (All goes) (ap (named_versions level) (schemas_mapped g.schemas rows has) ∙ named-map (schema_or g.schemas) level rows) admits in
     let each = All-mapped goes (schema_or g.schemas) (named_versions level rows) mapped in
     let there = All-named (HasSchema g.schemas) level rows has in
-    All-map (GoesWith g.schemas level new) (λ (row : Row). row.1.id) (named_versions level rows) (λ k d l. goes_with g.schemas level new _ (there k d l) (each k d l))
+    All-map (IsCompatibleWith g.schemas level new) (λ (row : Row). row.1.id) (named_versions level rows) (λ k d l. is_compatible_with g.schemas level new _ (there k d l) (each k d l))
 
 -- the schema that a new version has is the one that was sent
 pub new_is : (g : Registry) (subject : List ℕ) (new nodes : List NodeView) → IsRegistry g → IsSchema new → schema_at (schemas_with g.schemas new) (id_for g.schemas new) ≡ Some nodes → new ≡ nodes

@@ -11,7 +11,7 @@ use Rattle.reg_core.specs.Levels.{level_of}
 use Rattle.reg_core.specs.Codes.{status_of, fault_body}
 use Rattle.reg_core.specs.Replies.{answer, fault}
 use Rattle.reg_core.specs.Registry.{Registry, new_registry}
-use Rattle.reg_core.specs.Machine.{step, carried_out, run_commands}
+use Rattle.reg_core.specs.Machine.{step, permitted_step, run_commands}
 use Rattle.reg_core.specs.CommandTexts.{command_text}
 use Rattle.reg_core.specs.Subjects.{is_subject}
 
@@ -33,19 +33,19 @@ unfolding fault_body digits
 key_reused_length = refl
 
 full_is_set : step new_registry (SetGlobal (codes "FULL")) ≡ (record new_registry { global = Full }, answer (codes "{\"compatibility\":\"FULL\"}"))
-unfolding step carried_out serde_json_on_literals
+unfolding step permitted_step serde_json_on_literals
 full_is_set = refl
 
 other_text_is_refused : step new_registry (SetGlobal (codes "Full")) ≡ (new_registry, fault InvalidLevel)
-unfolding step carried_out
+unfolding step permitted_step
 other_text_is_refused = refl
 
 new_level : (step new_registry Global).1 ≡ answer (codes "{\"compatibilityLevel\":\"BACKWARD\"}")
-unfolding step carried_out serde_json_on_literals
+unfolding step permitted_step serde_json_on_literals
 new_level = refl
 
 last_level_stays : run_commands new_registry (SetGlobal (codes "FULL") ∷ SetGlobal (codes "x") ∷ Global ∷ []) ≡ record new_registry { global = Full }
-unfolding step carried_out
+unfolding step permitted_step
 last_level_stays = refl
 
 set_global_text : command_text (SetGlobal (codes "FULL")) ≡ codes "[\"set-global\",\"FULL\"]"
@@ -56,23 +56,23 @@ forward_of_s : Registry
 forward_of_s = (step new_registry (SetLevel (codes "s") (codes "FORWARD"))).0
 
 own_level_is_answered : (step new_registry (SetLevel (codes "s") (codes "FORWARD"))).1 ≡ answer (codes "{\"compatibility\":\"FORWARD\"}")
-unfolding step carried_out serde_json_on_literals
+unfolding step permitted_step serde_json_on_literals
 own_level_is_answered = refl
 
 own_level_is_shown : (step forward_of_s (LevelOf (codes "s") false)).1 ≡ answer (codes "{\"compatibilityLevel\":\"FORWARD\"}")
-unfolding forward_of_s step carried_out serde_json_on_literals
+unfolding forward_of_s step permitted_step serde_json_on_literals
 own_level_is_shown = refl
 
 other_subject_has_none : (step forward_of_s (LevelOf (codes "t") false)).1 ≡ fault NoOwnLevel
-unfolding forward_of_s step carried_out
+unfolding forward_of_s step permitted_step
 other_subject_has_none = refl
 
 global_level_is_shown : (step forward_of_s (LevelOf (codes "t") true)).1 ≡ answer (codes "{\"compatibilityLevel\":\"BACKWARD\"}")
-unfolding forward_of_s step carried_out serde_json_on_literals
+unfolding forward_of_s step permitted_step serde_json_on_literals
 global_level_is_shown = refl
 
 own_level_is_no_global_one : (step forward_of_s Global).1 ≡ answer (codes "{\"compatibilityLevel\":\"BACKWARD\"}")
-unfolding forward_of_s step carried_out serde_json_on_literals
+unfolding forward_of_s step permitted_step serde_json_on_literals
 own_level_is_no_global_one = refl
 
 set_level_text : command_text (SetLevel (codes "a/b") (codes "FULL")) ≡ codes "[\"set-level\",\"a/b\",\"FULL\"]"

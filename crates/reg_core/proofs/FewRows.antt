@@ -9,17 +9,17 @@ use Rattle.std.proofs.lemmas.Option.{none-some}
 use Rattle.reg_core.specs.declared.level.Level.{Level}
 use Rattle.reg_core.specs.declared.level.Level.TheVariants.{Backward, BackwardTransitive, Forward, ForwardTransitive, Full, FullTransitive, Off}
 use Rattle.reg_core.specs.declared.code.Code.TheVariants.{SchemaNotFound, SubjectSoftDeleted}
-use Rattle.reg_core.specs.declared.number.Choice.{Choice}
-use Rattle.reg_core.specs.declared.number.Choice.TheVariants.{Latest, Numbered}
-use Rattle.reg_core.specs.Compatibility.{latest, named_versions, names_all}
-use Rattle.reg_core.specs.DeletionCommands.{if_live, if_deleted, found_and, row_to_mark, row_to_delete}
-use Rattle.reg_core.specs.ReadCommands.{found_row, looked_up, rows_with_id}
+use Rattle.reg_core.specs.declared.number.VersionChoice.{VersionChoice}
+use Rattle.reg_core.specs.declared.number.VersionChoice.TheVariants.{Latest, Numbered}
+use Rattle.reg_core.specs.Compatibility.{latest, named_versions, is_transitive}
+use Rattle.reg_core.specs.DeletionCommands.{require_live, require_deleted, found_and, row_to_soft_delete, row_to_delete}
+use Rattle.reg_core.specs.ReadCommands.{found_row, lookup_row, rows_with_id}
 use Rattle.reg_core.specs.RegisterCommands.{is_among}
 use Rattle.reg_core.specs.Registry.{Row}
 use Rattle.reg_core.specs.Rows.{rows_with, live_rows, shown_rows, next_number}
 use Rattle.reg_core.specs.declared.needs.SubjectRows.{SubjectRows}
 use Rattle.reg_core.specs.declared.needs.SubjectRows.TheVariants.{Every, ToChoose, ToDelete, ToLookUp, ToCompare, ToRegister}
-use Rattle.reg_core.specs.Needs.{RegistersAs, TellAs}
+use Rattle.reg_core.specs.Needs.{SufficeToRegister, SufficeForSubject}
 use Rattle.reg_core.proofs.ChosenRows.{All-latest, filter_all, last_is_shown, some_last}
 use Rattle.reg_core.proofs.DeletionSteps.{all_shown}
 use Rattle.reg_core.proofs.LastRows.{Rising, last_passes, latest_again, next_onto, none_latest_of, up_to_last}
@@ -40,7 +40,7 @@ passes_none p (x ∷ xs) h = ap (λ b. if b then x ∷ filter p xs else filter p
 -- ---- the last of some
 
 -- another level names of the last alone what it names of all
-pub named_latest : (level : Level) (rows : List Row) → names_all level ≡ false → named_versions level (latest rows) ≡ named_versions level rows
+pub named_latest : (level : Level) (rows : List Row) → is_transitive level ≡ false → named_versions level (latest rows) ≡ named_versions level rows
 named_latest Backward rows e = latest_again rows
 named_latest BackwardTransitive rows e = absurd (true≢false e)
 named_latest Forward rows e = latest_again rows
@@ -82,7 +82,7 @@ none_latest (Some id) rows e = with_latest id rows e
 -- ---- Register
 
 -- a live version with the id tells that there is one
-pub registers_found : (level : Level) (id : ℕ) (row : Row) (all : List Row) → Contains (live_rows all) row → row.1.id ≡ id → row.1.deleted ≡ false → RegistersAs level (Some id) (row ∷ []) all
+pub registers_found : (level : Level) (id : ℕ) (row : Row) (all : List Row) → Contains (live_rows all) row → row.1.id ≡ id → row.1.deleted ≡ false → SufficeToRegister level (Some id) (row ∷ []) all
 registers_found level id row all there e alive =
     let here : Contains (live_rows (row ∷ [])) row = filter_keeps (λ (r : Row). not r.1.deleted) (row ∷ []) row (0, omega arith, refl) (ap not alive) in
     let among = among_of id row (live_rows all) there e in record {
@@ -92,8 +92,8 @@ registers_found level id row all there e alive =
     }
 
 -- where no live version has the id, the last live one and the next number tell the rest
-pub registers_few : (level : Level) (known : Option ℕ) (seen all : List Row) → names_all level ≡ false → is_among known (live_rows all) ≡ false
-    → next_number seen ≡ next_number all → live_rows seen ≡ latest (live_rows all) → RegistersAs level known seen all
+pub registers_few : (level : Level) (known : Option ℕ) (seen all : List Row) → is_transitive level ≡ false → is_among known (live_rows all) ≡ false
+    → next_number seen ≡ next_number all → live_rows seen ≡ latest (live_rows all) → SufficeToRegister level known seen all
 registers_few level known seen all few unknown next live =
     let none = none_latest known (live_rows all) (none_with known (live_rows all) unknown) in
     let unseen : is_among known (live_rows seen) ≡ false = ap (λ (rows : List Row). is_among known rows) live ∙ ap (λ (rows : List Row). nat_lt 0 (length rows)) none in record {
@@ -103,16 +103,16 @@ registers_few level known seen all few unknown next live =
     }
 
 -- the last one alone tells the next number and the last live one, where it is live
-pub registers_last : (level : Level) (known : Option ℕ) (last : Row) (all : List Row) → names_all level ≡ false → is_among known (live_rows all) ≡ false → Rising all → latest all ≡ last ∷ [] → last.1.deleted ≡ false
-    → RegistersAs level known (last ∷ []) all
+pub registers_last : (level : Level) (known : Option ℕ) (last : Row) (all : List Row) → is_transitive level ≡ false → is_among known (live_rows all) ≡ false → Rising all → latest all ≡ last ∷ [] → last.1.deleted ≡ false
+    → SufficeToRegister level known (last ∷ []) all
 registers_last level known last all few unknown rising e alive =
     registers_few level known (last ∷ []) all few unknown
     (next_onto [] all last rising e (All-nil (λ (r : Row). r.0.1 ≤ last.0.1)))
     (filter_all (λ (r : Row). not r.1.deleted) (last ∷ []) (All-cons (λ (r : Row). not r.1.deleted ≡ true) last [] (ap not alive) (All-nil (λ (r : Row). not r.1.deleted ≡ true))) ∙ sym (last_passes (λ (r : Row). not r.1.deleted) all last e (ap not alive)))
 
 -- and where it isn't, it and the last live one do, if there is one
-pub registers_ends : (level : Level) (known : Option ℕ) (last : Row) (all : List Row) → names_all level ≡ false → is_among known (live_rows all) ≡ false → Rising all → latest all ≡ last ∷ [] → last.1.deleted ≡ true
-    → RegistersAs level known (latest (live_rows all) ++ last ∷ []) all
+pub registers_ends : (level : Level) (known : Option ℕ) (last : Row) (all : List Row) → is_transitive level ≡ false → is_among known (live_rows all) ≡ false → Rising all → latest all ≡ last ∷ [] → last.1.deleted ≡ true
+    → SufficeToRegister level known (latest (live_rows all) ++ last ∷ []) all
 registers_ends level known last all few unknown rising e gone =
     let P = λ (r : Row). r.0.1 ≤ last.0.1 in
     let alone : live_rows (last ∷ []) ≡ [] = rw gone refl in
@@ -123,80 +123,80 @@ registers_ends level known last all few unknown rising e gone =
     ∙ (append-nil (live_rows (latest (live_rows all))) ∙ last_is_shown false all)))
 
 -- all do
-pub registers_all : (level : Level) (known : Option ℕ) (seen all : List Row) → seen ≡ all → RegistersAs level known seen all
-registers_all level known seen all is = subst (λ (rows : List Row). RegistersAs level known rows all) (sym is) (record { among = refl; next = λ _. refl; named = λ _. refl })
+pub registers_all : (level : Level) (known : Option ℕ) (seen all : List Row) → seen ≡ all → SufficeToRegister level known seen all
+registers_all level known seen all is = subst (λ (rows : List Row). SufficeToRegister level known rows all) (sym is) (record { among = refl; next = λ _. refl; named = λ _. refl })
 
-pub all_tell : (level : Level) (known : Option ℕ) (asked : SubjectRows) (seen all : List Row) → seen ≡ all → TellAs level known asked seen all
+pub all_tell : (level : Level) (known : Option ℕ) (asked : SubjectRows) (seen all : List Row) → seen ≡ all → SufficeForSubject level known asked seen all
 all_tell level known Every seen all is = is
 all_tell level known (ToChoose choice deleted) seen all is = ap (λ (rows : List Row). found_row choice (shown_rows deleted rows)) is
 all_tell level known (ToDelete choice permanent) seen all is = ap (row_to_delete permanent choice) is
-all_tell level known (ToLookUp deleted) seen all is = ap (λ (rows : List Row). looked_up known (shown_rows deleted rows)) is
+all_tell level known (ToLookUp deleted) seen all is = ap (λ (rows : List Row). lookup_row known (shown_rows deleted rows)) is
 all_tell level known ToCompare seen all is = ap (λ (rows : List Row). named_versions level (live_rows rows)) is
 all_tell level known ToRegister seen all is = registers_all level known seen all is
 
 -- a subject with no version needs none
-pub registers_none : (level : Level) (known : Option ℕ) (all : List Row) → latest all ≡ [] → RegistersAs level known [] all
+pub registers_none : (level : Level) (known : Option ℕ) (all : List Row) → latest all ≡ [] → SufficeToRegister level known [] all
 registers_none level known all e = registers_all level known [] all (sym (none_latest_of all e))
 
 -- ---- CheckAll
 
 -- the last live one tells what a level names that doesn't name all
-pub checks_last : (level : Level) (all : List Row) → names_all level ≡ false → named_versions level (live_rows (latest (live_rows all))) ≡ named_versions level (live_rows all)
+pub checks_last : (level : Level) (all : List Row) → is_transitive level ≡ false → named_versions level (live_rows (latest (live_rows all))) ≡ named_versions level (live_rows all)
 checks_last level all few = ap (named_versions level) (last_is_shown false all) ∙ named_latest level (live_rows all) few
 
 -- ---- Lookup
 
-looked_some : (known : Option ℕ) (rows : List Row) (row : Row) → last_or None (rows_with_id known rows) ≡ Some row → looked_up known rows ≡ Ok row
+looked_some : (known : Option ℕ) (rows : List Row) (row : Row) → last_or None (rows_with_id known rows) ≡ Some row → lookup_row known rows ≡ Ok row
 looked_some None rows row e = absurd (none-some row e)
 looked_some (Some id) [] row e = absurd (none-some row e)
 looked_some (Some id) (r ∷ rows) row e = ap (λ (o : Option Row). ok_or o SchemaNotFound) e
 
 -- the last of those that are shown and have the id tells that it is the one
 pub looks_up_found : (deleted : Bool) (id : ℕ) (row : Row) (all : List Row) → last_or None (rows_with id (shown_rows deleted all)) ≡ Some row → (deleted || not row.1.deleted) ≡ true → row.1.id ≡ id
-    → looked_up (Some id) (shown_rows deleted (row ∷ [])) ≡ looked_up (Some id) (shown_rows deleted all)
+    → lookup_row (Some id) (shown_rows deleted (row ∷ [])) ≡ lookup_row (Some id) (shown_rows deleted all)
 looks_up_found deleted id row all e shown has =
     let p = λ (r : Row). deleted || not r.1.deleted in
     let alone : shown_rows deleted (row ∷ []) ≡ row ∷ [] = filter_all p (row ∷ []) (All-cons (λ (r : Row). p r ≡ true) row [] shown (All-nil (λ (r : Row). p r ≡ true))) in
     let itself : last_or None (rows_with id (row ∷ [])) ≡ Some row = ap (λ (b : Bool). last_or None (if b then row ∷ [] else [])) (eq-eqb row.1.id id has) in
-    ap (looked_up (Some id)) alone ∙ looked_some (Some id) (row ∷ []) row itself ∙ sym (looked_some (Some id) (shown_rows deleted all) row e)
+    ap (lookup_row (Some id)) alone ∙ looked_some (Some id) (row ∷ []) row itself ∙ sym (looked_some (Some id) (shown_rows deleted all) row e)
 
 none_last_of : (xs : List Row) → last_or None xs ≡ None → xs ≡ []
 none_last_of [] e = refl
 none_last_of (x ∷ xs) e = absurd (some_last x xs (ap option_to_list e))
 
-looked_none : (known : Option ℕ) (row : Row) (rows : List Row) → rows_with_id known (row ∷ rows) ≡ [] → looked_up known (row ∷ rows) ≡ Err SchemaNotFound
+looked_none : (known : Option ℕ) (row : Row) (rows : List Row) → rows_with_id known (row ∷ rows) ≡ [] → lookup_row known (row ∷ rows) ≡ Err SchemaNotFound
 looked_none known row rows e = ap (λ (xs : List Row). ok_or (last_or None xs) SchemaNotFound) e
 
-looked_last : (known : Option ℕ) (rows : List Row) → rows_with_id known rows ≡ [] → looked_up known (latest rows) ≡ looked_up known rows
+looked_last : (known : Option ℕ) (rows : List Row) → rows_with_id known rows ≡ [] → lookup_row known (latest rows) ≡ lookup_row known rows
 looked_last known [] e = refl
 looked_last known (row ∷ rows) e = by (latest (row ∷ rows)) refl (none_latest known (row ∷ rows) e) ∙ sym (looked_none known row rows e)
   where
-    by : (last : List Row) → latest (row ∷ rows) ≡ last → rows_with_id known last ≡ [] → looked_up known last ≡ Err SchemaNotFound
+    by : (last : List Row) → latest (row ∷ rows) ≡ last → rows_with_id known last ≡ [] → lookup_row known last ≡ Err SchemaNotFound
     by [] is none = absurd (some_last row rows is)
     by (r ∷ rs) is none = looked_none known r rs none
 
 -- where none has it, the last one that is shown tells whether there is one
 pub looks_up_none : (deleted : Bool) (known : Option ℕ) (all : List Row) → last_or None (rows_with_id known (shown_rows deleted all)) ≡ None
-    → looked_up known (shown_rows deleted (latest (shown_rows deleted all))) ≡ looked_up known (shown_rows deleted all)
+    → lookup_row known (shown_rows deleted (latest (shown_rows deleted all))) ≡ lookup_row known (shown_rows deleted all)
 looks_up_none deleted known all e =
-    ap (looked_up known) (last_is_shown deleted all) ∙ looked_last known (shown_rows deleted all) (none_last_of (rows_with_id known (shown_rows deleted all)) e)
+    ap (lookup_row known) (last_is_shown deleted all) ∙ looked_last known (shown_rows deleted all) (none_last_of (rows_with_id known (shown_rows deleted all)) e)
 
 -- ---- DeleteVersion
 
 -- what tells which version is chosen among all tells which one is removed
-pub removes_as : (choice : Option Choice) (seen all : List Row) → found_row choice seen ≡ found_row choice all → row_to_delete true choice seen ≡ row_to_delete true choice all
-removes_as choice seen all e = ap (found_and if_deleted) e
+pub removes_as : (choice : Option VersionChoice) (seen all : List Row) → found_row choice seen ≡ found_row choice all → row_to_delete true choice seen ≡ row_to_delete true choice all
+removes_as choice seen all e = ap (found_and require_deleted) e
 
-mark_is : (number : ℕ) (rows : List Row) → row_to_mark (Some (Numbered number)) rows ≡ found_and if_live (found_row (Some (Numbered number)) rows)
+mark_is : (number : ℕ) (rows : List Row) → row_to_soft_delete (Some (Numbered number)) rows ≡ found_and require_live (found_row (Some (Numbered number)) rows)
 mark_is number [] = refl
 mark_is number (row ∷ rows) = refl
 
 -- and by a number which one is soft-deleted
 pub marks_as : (number : ℕ) (seen all : List Row) → found_row (Some (Numbered number)) seen ≡ found_row (Some (Numbered number)) all
     → row_to_delete false (Some (Numbered number)) seen ≡ row_to_delete false (Some (Numbered number)) all
-marks_as number seen all e = mark_is number seen ∙ (ap (found_and if_live) e ∙ sym (mark_is number all))
+marks_as number seen all e = mark_is number seen ∙ (ap (found_and require_live) e ∙ sym (mark_is number all))
 
-marked_last : (rows : List Row) (row : Row) → latest (live_rows rows) ≡ row ∷ [] → row_to_mark (Some Latest) rows ≡ Ok row
+marked_last : (rows : List Row) (row : Row) → latest (live_rows rows) ≡ row ∷ [] → row_to_soft_delete (Some Latest) rows ≡ Ok row
 marked_last [] row e = absurd cc
 marked_last (r ∷ rows) row e = by (last_or None (live_rows (r ∷ rows))) e
   where
@@ -204,7 +204,7 @@ marked_last (r ∷ rows) row e = by (last_or None (live_rows (r ∷ rows))) e
     by None h = absurd cc
     by (Some x) h = let same : x ≡ row = cc in ap Ok same
 
-marked_none : (row : Row) (rows : List Row) → live_rows (row ∷ rows) ≡ [] → row_to_mark (Some Latest) (row ∷ rows) ≡ Err SubjectSoftDeleted
+marked_none : (row : Row) (rows : List Row) → live_rows (row ∷ rows) ≡ [] → row_to_soft_delete (Some Latest) (row ∷ rows) ≡ Err SubjectSoftDeleted
 marked_none row rows e = ap (λ (xs : List Row). ok_or (last_or None xs) SubjectSoftDeleted) e
 
 -- and where there is none, the last of all tells whether there is a version
@@ -215,15 +215,15 @@ marks_none (row ∷ rows) e = by (latest (row ∷ rows)) refl dead ∙ sym (mark
     dead : All (λ (r : Row). not r.1.deleted ≡ false) (latest (row ∷ rows))
     dead = All-latest (λ (r : Row). not r.1.deleted ≡ false) (row ∷ rows) (none_pass (λ (r : Row). not r.1.deleted) (row ∷ rows) (none_latest_of (live_rows (row ∷ rows)) e))
 
-    by : (last : List Row) → latest (row ∷ rows) ≡ last → All (λ (r : Row). not r.1.deleted ≡ false) last → row_to_mark (Some Latest) last ≡ Err SubjectSoftDeleted
+    by : (last : List Row) → latest (row ∷ rows) ≡ last → All (λ (r : Row). not r.1.deleted ≡ false) last → row_to_soft_delete (Some Latest) last ≡ Err SubjectSoftDeleted
     by [] is h = absurd (some_last row rows is)
     by (r ∷ rs) is h = marked_none r rs (passes_none (λ (x : Row). not x.1.deleted) (r ∷ rs) h)
 
 -- the same, where it is told of those that are shown where deleted ones are
-found_shown : (choice : Option Choice) (seen all : List Row) → found_row choice (shown_rows true seen) ≡ found_row choice (shown_rows true all) → found_row choice seen ≡ found_row choice all
+found_shown : (choice : Option VersionChoice) (seen all : List Row) → found_row choice (shown_rows true seen) ≡ found_row choice (shown_rows true all) → found_row choice seen ≡ found_row choice all
 found_shown choice seen all e = ap (found_row choice) (sym (all_shown seen)) ∙ (e ∙ ap (found_row choice) (all_shown all))
 
-pub removes_shown : (choice : Option Choice) (seen all : List Row) → found_row choice (shown_rows true seen) ≡ found_row choice (shown_rows true all) → row_to_delete true choice seen ≡ row_to_delete true choice all
+pub removes_shown : (choice : Option VersionChoice) (seen all : List Row) → found_row choice (shown_rows true seen) ≡ found_row choice (shown_rows true all) → row_to_delete true choice seen ≡ row_to_delete true choice all
 removes_shown choice seen all e = removes_as choice seen all (found_shown choice seen all e)
 
 pub marks_shown : (number : ℕ) (seen all : List Row) → found_row (Some (Numbered number)) (shown_rows true seen) ≡ found_row (Some (Numbered number)) (shown_rows true all)

@@ -9,23 +9,23 @@ use Rattle.json.proofs.Printed.Strings.{escape_byte_plain}
 use Rattle.avro_nodes.proofs.Runs.{range_more, range_join}
 
 -- a quotation mark, a backslash or a control character
-abbrev pub is_mark : ℕ → Bool
-is_mark c = c == 34 || (c == 92 || nat_lt c 32)
+abbrev pub needs_escape : ℕ → Bool
+needs_escape c = c == 34 || (c == 92 || nat_lt c 32)
 
-pub plain_kept : (c : ℕ) → is_mark c ≡ false → escape_byte c ≡ c ∷ []
+pub plain_kept : (c : ℕ) → needs_escape c ≡ false → escape_byte c ≡ c ∷ []
 plain_kept c is =
     let one = or_parts (c == 34) (c == 92 || nat_lt c 32) is in
     let two = or_parts (c == 92) (nat_lt c 32) one.1 in
     escape_byte_plain c (eqb-false c 34 one.0) (eqb-false c 92 two.0) (ltb-false c 32 two.1)
 
-pub mark_small : (c : ℕ) → is_mark c ≡ true → c < 128
+pub mark_small : (c : ℕ) → needs_escape c ≡ true → c < 128
 mark_small c is = split (c == 34) (c == 92) refl refl where
   split : (a b : Bool) → (c == 34) ≡ a → (c == 92) ≡ b → c < 128
   split true b e f = omega (arith, eqb-true c 34 e)
   split false true e f = omega (arith, eqb-true c 92 f)
   split false false e f = omega (arith, ltb-true c 32 (rw (e, f) at is))
 
-pub mark_escaped : (c : ℕ) → is_mark c ≡ true → 32 ≤ c → escape_byte c ≡ 92 ∷ c ∷ []
+pub mark_escaped : (c : ℕ) → needs_escape c ≡ true → 32 ≤ c → escape_byte c ≡ 92 ∷ c ∷ []
 unfolding escape_byte
 mark_escaped c is h = split (c == 34) (c == 92) refl refl where
   split : (a b : Bool) → (c == 34) ≡ a → (c == 92) ≡ b → escape_byte c ≡ 92 ∷ c ∷ []
@@ -33,7 +33,7 @@ mark_escaped c is h = split (c == 34) (c == 92) refl refl where
   split false true e f = rw (eqb-true c 92 f) refl
   split false false e f = absurd (omega (arith, h, ltb-true c 32 (rw (e, f) at is)))
 
-pub plain_more : (bs : List ℕ) (from at : ℕ) → from ≤ at → at < length bs → is_mark (get_or bs at 0) ≡ false → escape (slice_range bs from at) ≡ slice_range bs from at
+pub plain_more : (bs : List ℕ) (from at : ℕ) → from ≤ at → at < length bs → needs_escape (get_or bs at 0) ≡ false → escape (slice_range bs from at) ≡ slice_range bs from at
     → escape (slice_range bs from (at + 1)) ≡ slice_range bs from (at + 1)
 plain_more bs from at a h is before =
     rw (range_more bs from at a h, flat_map-append escape_byte (slice_range bs from at) (get_or bs at 0 ∷ []), before, plain_kept (get_or bs at 0) is) refl

@@ -6,7 +6,7 @@ use Rattle.avro_schema.specs.declared.error.SchemaError.{SchemaError}
 use Rattle.avro_schema.specs.declared.error.SchemaError.TheVariants.{OutOfMemory}
 use Rattle.avro_schema.specs.DenotedNodes.{denoted_nodes}
 use Rattle.avro_schema.specs.Texts.{TextDenotes}
-use Rattle.avro_schema.specs.Inside.ReaderAnswers.{Fails, Gives}
+use Rattle.avro_schema.specs.Inside.ReaderResults.{Fails, Gives}
 use Rattle.avro_schema.proofs.TextLemmas.{denotes_computes, computed_denotes}
 
 fails : {A : Type 0} (e : SchemaError) (o : Option A) → (e ≢ OutOfMemory → o ≡ None) → Fails e o

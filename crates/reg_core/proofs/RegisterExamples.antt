@@ -5,12 +5,12 @@ use Rattle.serde_json.specs.Data.{no_members}
 use Rattle.serde_json.proofs.OnLiterals.{serde_json_on_literals}
 use Rattle.avro_nodes.specs.declared.node.Kind.TheVariants.{Int, Double}
 use Rattle.avro_nodes.specs.Nodes.{NodeView, primitive}
-use Rattle.avro_nodes.specs.Identity.{spelt_at}
+use Rattle.avro_nodes.specs.Identity.{identity_at}
 use Rattle.reg_core.specs.declared.code.Code.TheVariants.{SubjectNotFound, VersionNotFound, SchemaNotFound, InvalidVersion}
-use Rattle.reg_core.specs.declared.number.Choice.TheVariants.{Latest, Numbered}
+use Rattle.reg_core.specs.declared.number.VersionChoice.TheVariants.{Latest, Numbered}
 use Rattle.reg_core.specs.Registry.{Row, Schemas}
 use Rattle.reg_core.specs.Rows.{shown_rows, live_rows, chosen_row, next_number, id_of, text_at, schemas_of}
-use Rattle.reg_core.specs.ReadCommands.{found_row, looked_up}
+use Rattle.reg_core.specs.ReadCommands.{found_row, lookup_row}
 use Rattle.reg_core.specs.RegisterCommands.{is_among, id_for}
 
 -- a version of one subject
@@ -51,13 +51,13 @@ no_version_of_the_subject = refl
 no_number_comes_first : found_row None [] ≡ Err InvalidVersion
 no_number_comes_first = refl
 
-last_with_the_id_is_looked_up : looked_up (Some 4) rows ≡ Ok (row 7 4 true)
+last_with_the_id_is_looked_up : lookup_row (Some 4) rows ≡ Ok (row 7 4 true)
 last_with_the_id_is_looked_up = refl
 
-live_one_with_the_id_is_looked_up : looked_up (Some 4) (live_rows rows) ≡ Ok (row 1 4 false)
+live_one_with_the_id_is_looked_up : lookup_row (Some 4) (live_rows rows) ≡ Ok (row 1 4 false)
 live_one_with_the_id_is_looked_up = refl
 
-unknown_schema_is_not_looked_up : looked_up None rows ≡ Err SchemaNotFound
+unknown_schema_is_not_looked_up : lookup_row None rows ≡ Err SchemaNotFound
 unknown_schema_is_not_looked_up = refl
 
 id_is_among_its_versions : is_among (Some 2) rows ≡ true
@@ -80,15 +80,15 @@ abbrev schemas : Schemas
 schemas = int ∷ double ∷ []
 
 second_schema_has_id_2 : id_of schemas (codes "\"double\"") ≡ Some 2
-unfolding int double serde_json_on_literals spelt_at
+unfolding int double serde_json_on_literals identity_at
 second_schema_has_id_2 = refl
 
 no_id_for_another_text : id_of schemas (codes "\"long\"") ≡ None
-unfolding int double serde_json_on_literals spelt_at
+unfolding int double serde_json_on_literals identity_at
 no_id_for_another_text = refl
 
 first_id_has_its_text : text_at schemas 1 ≡ Some (codes "\"int\"")
-unfolding int serde_json_on_literals spelt_at
+unfolding int serde_json_on_literals identity_at
 first_id_has_its_text = refl
 
 no_schema_has_id_0 : text_at schemas 0 ≡ None
@@ -98,7 +98,7 @@ no_schema_has_id_3 : text_at schemas 3 ≡ None
 no_schema_has_id_3 = refl
 
 known_schema_keeps_its_id : id_for schemas double ≡ 2
-unfolding int double serde_json_on_literals spelt_at
+unfolding int double serde_json_on_literals identity_at
 known_schema_keeps_its_id = refl
 
 versions_have_their_schemas : schemas_of schemas (row 1 2 false ∷ row 2 1 true ∷ row 3 2 false ∷ []) ≡ double ∷ int ∷ double ∷ []

@@ -13,18 +13,18 @@ use Rattle.reg_core.specs.declared.command.Command.TheVariants.{Register}
 use Rattle.reg_core.specs.declared.decision.View.{View}
 use Rattle.reg_core.specs.Bodies.{id_body}
 use Rattle.reg_core.specs.Compatibility.{named_versions}
-use Rattle.reg_core.specs.Inside.Comparisons.{is_read_admitted}
-use Rattle.reg_core.specs.Machine.{carried_out}
-use Rattle.reg_core.specs.Evidence.{Evidence, IsTrueOf, evidence_in}
-use Rattle.reg_core.specs.Inside.Evidence.{TellEvidence}
-use Rattle.reg_core.specs.Inside.Registering.{id_among, id_shown, has_numbers_shown, row_shown, evidence_shown, version_added}
-use Rattle.reg_core.specs.RegisterCommands.{schema_in, register, registered, is_among, is_admitted_after, id_for, has_numbers, schemas_with, level_in, with_version}
+use Rattle.reg_core.specs.Inside.Comparisons.{is_admitted_in_view}
+use Rattle.reg_core.specs.Machine.{permitted_step}
+use Rattle.reg_core.specs.Evidence.{Evidence, IsTrueForSchema, next_evidence}
+use Rattle.reg_core.specs.Inside.Evidence.{UpdateEvidence}
+use Rattle.reg_core.specs.Inside.Registering.{id_among, id_by_view, has_numbers_by_view, row_by_view, evidence_by_view, version_added}
+use Rattle.reg_core.specs.RegisterCommands.{supported_schema, register, registered, is_among, is_admitted_after, id_for, has_numbers_left, schemas_with, level_in, with_version}
 use Rattle.reg_core.specs.Registry.{Registry, Row, Schemas, max_number}
 use Rattle.reg_core.specs.Replies.{answer, fault}
 use Rattle.reg_core.specs.Rows.{rows_of, live_rows, next_number, id_of, known_id, schemas_of}
-use Rattle.reg_core.specs.Views.{IsGround, IsNewEvidence, ChangesFit, after_changes, level_of_view}
+use Rattle.reg_core.specs.Views.{IsDecisionInput, IsNewEvidence, ChangesFit, after_changes, level_of_view}
 use Rattle.reg_core.proofs.IdLemmas.{id_of-schema, schema_within}
-use Rattle.reg_core.proofs.RegistryLemmas.{identity_denoted, schema_in-denotes}
+use Rattle.reg_core.proofs.RegistryLemmas.{identity_denoted, supported_schema-denotes}
 use Rattle.reg_core.proofs.RowLemmas.{next_number-absent}
 use Rattle.reg_core.proofs.VersionVerdicts.{ShowsText, admitted_as, live-HasSchema}
 use Rattle.reg_core.proofs.VerdictLemmas.{admits_decided}
@@ -103,19 +103,19 @@ changes_fit g subject new s (Some id) e number within evidence fits =
     )
 
 -- a schema that is sent is of a type that is supported
-is_supported : (text : List ℕ) (supported : Bool) (new : List NodeView) → schema_in text supported ≡ Some new → IsTrue supported
-unfolding schema_in
+is_supported : (text : List ℕ) (supported : Bool) (new : List NodeView) → supported_schema text supported ≡ Some new → IsTrue supported
+unfolding supported_schema
 is_supported text true new e = refl
 is_supported text false new e = absurd (cc)
 
-module _ (g : Registry) (subject text : List ℕ) (supported : Bool) (view : View) (schema : Option (List NodeView)) (ground : IsGround g (Register subject text supported) schema view) where
-  pub register_none : schema ≡ None → carried_out g (Register subject text supported) ≡ (g, fault InvalidSchema)
-  unfolding carried_out
-  register_none e = ap (register g subject) (sym ground.sent ∙ e)
+module _ (g : Registry) (subject text : List ℕ) (supported : Bool) (view : View) (schema : Option (List NodeView)) (input : IsDecisionInput g (Register subject text supported) schema view) where
+  pub register_none : schema ≡ None → permitted_step g (Register subject text supported) ≡ (g, fault InvalidSchema)
+  unfolding permitted_step
+  register_none e = ap (register g subject) (sym input.sent ∙ e)
 
   module _ (new : List NodeView) (e : schema ≡ Some new) where
     known_shown : view.known ≡ id_of g.schemas (identity new)
-    known_shown = let sent = sym ground.sent ∙ e in ground.shows.known (is_supported text supported new sent) ∙ ap (known_id g.schemas) sent
+    known_shown = let sent = sym input.sent ∙ e in input.shows.known (is_supported text supported new sent) ∙ ap (known_id g.schemas) sent
 
     abbrev live : List Row
     live = live_rows view.rows.items
@@ -125,113 +125,113 @@ module _ (g : Registry) (subject text : List ℕ) (supported : Bool) (view : Vie
     all = live_rows (rows_of g subject)
 
     among : is_among view.known live ≡ is_among view.known all
-    among = ground.shows.rows.among
+    among = input.shows.rows.among
 
-    register_as : carried_out g (Register subject text supported)
-        ≡ registered g subject new (is_among view.known live) (is_admitted_after g.schemas (level_of_view view) all new) (has_numbers g subject new)
-    unfolding carried_out
+    register_as : permitted_step g (Register subject text supported)
+        ≡ registered g subject new (is_among view.known live) (is_admitted_after g.schemas (level_of_view view) all new) (has_numbers_left g subject new)
+    unfolding permitted_step
     register_as =
-        let levels = ground.shows.levels refl in
+        let levels = input.shows.levels refl in
         let known = known_shown in
         let same = among in
-        ap (register g subject) (sym ground.sent ∙ e) ∙ (rw (same, known, levels.0, levels.1) refl)
+        ap (register g subject) (sym input.sent ∙ e) ∙ (rw (same, known, levels.0, levels.1) refl)
 
-    pub register_known : (id : ℕ) → Some id ≡ id_among view.known live → carried_out g (Register subject text supported) ≡ (g, answer (id_body id))
+    pub register_known : (id : ℕ) → Some id ≡ id_among view.known live → permitted_step g (Register subject text supported) ≡ (g, answer (id_body id))
     register_known id among =
         let parts = if_some (is_among view.known live) view.known id (sym among) in
         let known : id_of g.schemas (identity new) ≡ Some id = sym known_shown ∙ parts.1 in
         register_as ∙ (rw (parts.0, known) refl)
 
-    register_admits : is_among view.known live ≡ false → is_read_admitted view (level_of_view view) live new ≡ is_admitted_after g.schemas (level_of_view view) all new
+    register_admits : is_among view.known live ≡ false → is_admitted_in_view view (level_of_view view) live new ≡ is_admitted_after g.schemas (level_of_view view) all new
     register_admits unknown =
-        admitted_as view g.schemas ground.registry.schemas (level_of_view view) live all new
-        (ground.shows.rows.named (sym among ∙ unknown))
-        (live-HasSchema g ground.registry subject)
-        (subst (λ (b : Bool). All (ShowsText view g.schemas) (if b then [] else named_versions (level_of_view view) live)) unknown ground.shows.texts)
+        admitted_as view g.schemas input.registry.schemas (level_of_view view) live all new
+        (input.shows.rows.named (sym among ∙ unknown))
+        (live-HasSchema g input.registry subject)
+        (subst (λ (b : Bool). All (ShowsText view g.schemas) (if b then [] else named_versions (level_of_view view) live)) unknown input.shows.texts)
 
-    pub register_refused : is_among view.known live ≡ false → false ≡ is_read_admitted view (level_of_view view) live new → carried_out g (Register subject text supported) ≡ (g, fault Incompatible)
+    pub register_refused : is_among view.known live ≡ false → false ≡ is_admitted_in_view view (level_of_view view) live new → permitted_step g (Register subject text supported) ≡ (g, fault Incompatible)
     register_refused unknown refused =
         let verdict : is_admitted_after g.schemas (level_of_view view) all new ≡ false = sym (refused ∙ register_admits unknown) in
         register_as ∙ (rw (unknown, verdict) refl)
 
-    module _ (unknown : is_among view.known live ≡ false) (admitted : true ≡ is_read_admitted view (level_of_view view) live new) where
+    module _ (unknown : is_among view.known live ≡ false) (admitted : true ≡ is_admitted_in_view view (level_of_view view) live new) where
       verdict : is_admitted_after g.schemas (level_of_view view) all new ≡ true
       verdict = sym (admitted ∙ register_admits unknown)
 
-      id_is : id_shown view ≡ id_for g.schemas new
-      id_is = let known = known_shown in let count = ground.shows.count refl in rw (known, count) refl
+      id_is : id_by_view view ≡ id_for g.schemas new
+      id_is = let known = known_shown in let count = input.shows.count refl in rw (known, count) refl
 
       next_is : next_number view.rows.items ≡ next_number (rows_of g subject)
-      next_is = ground.shows.rows.next (sym among ∙ unknown)
+      next_is = input.shows.rows.next (sym among ∙ unknown)
 
-      numbers_are : has_numbers g subject new ≡ has_numbers_shown view
+      numbers_are : has_numbers_left g subject new ≡ has_numbers_by_view view
       numbers_are = let next = next_is in let id = id_is in rw (next, id) refl
 
-      pub register_full : has_numbers_shown view ≡ false → carried_out g (Register subject text supported) ≡ (g, fault NoNumberLeft)
+      pub register_full : has_numbers_by_view view ≡ false → permitted_step g (Register subject text supported) ≡ (g, fault NoNumberLeft)
       register_full full = let left = numbers_are ∙ full in register_as ∙ (rw (unknown, verdict, left) refl)
 
-      pub register_added : has_numbers_shown view ≡ true → carried_out g (Register subject text supported) ≡ (with_version g subject new, answer (id_body (id_shown view)))
+      pub register_added : has_numbers_by_view view ≡ true → permitted_step g (Register subject text supported) ≡ (with_version g subject new, answer (id_body (id_by_view view)))
       register_added shown =
           let left = numbers_are ∙ shown in
           let id = id_is in
           register_as ∙ (rw (unknown, verdict, left, id) refl)
 
       new_schema : IsSchema new
-      new_schema = (text, schema_in-denotes text supported new (sym ground.sent ∙ e))
+      new_schema = (text, supported_schema-denotes text supported new (sym input.sent ∙ e))
 
-      row_is : row_shown view subject ≡ next_row g subject new
+      row_is : row_by_view view subject ≡ next_row g subject new
       row_is = let id = id_is in let next = next_is in rw (id, next) refl
 
       -- the version's number and id are within the limit
-      numbers_within : has_numbers_shown view ≡ true → (next_number (rows_of g subject) ≤ max_number) × (id_for g.schemas new ≤ max_number)
+      numbers_within : has_numbers_by_view view ≡ true → (next_number (rows_of g subject) ≤ max_number) × (id_for g.schemas new ≤ max_number)
       numbers_within left =
-          let parts = and_parts (nat_le (next_number view.rows.items) max_number) (nat_le (id_shown view) max_number) left in (
+          let parts = and_parts (nat_le (next_number view.rows.items) max_number) (nat_le (id_by_view view) max_number) left in (
             subst (λ (n : ℕ). n ≤ max_number) next_is (leb-true (next_number view.rows.items) max_number parts.0),
-            subst (λ (id : ℕ). id ≤ max_number) id_is (leb-true (id_shown view) max_number parts.1),
+            subst (λ (id : ℕ). id ≤ max_number) id_is (leb-true (id_by_view view) max_number parts.1),
           )
 
       level_is : level_of_view view ≡ level_in g subject
       level_is =
-          let levels = ground.shows.levels refl in
+          let levels = input.shows.levels refl in
           ap (λ (own : Option Level). unwrap_or own view.global) levels.0 ∙ ap (unwrap_or (g.own subject)) levels.1
 
       -- what the version is admitted by is what the registry names
-      evidence_is : evidence_shown view live ≡ evidence_in g subject
+      evidence_is : evidence_by_view view live ≡ next_evidence g subject
       evidence_is =
-          ap (evidence_of (level_of_view view)) (ground.shows.rows.named (sym among ∙ unknown))
+          ap (evidence_of (level_of_view view)) (input.shows.rows.named (sym among ∙ unknown))
           ∙ ap (λ (level : Level). evidence_of level (named_versions level all)) level_is
         where
           evidence_of : Level → List Row → Evidence
           evidence_of level rows = record { level = level; against = map (λ (row : Row). row.1.id) rows }
 
       -- and it is true of the schema that is sent
-      new_evidence : IsNewEvidence (record g { schemas = schemas_with g.schemas new }) (next_row g subject new) (evidence_shown view live)
+      new_evidence : IsNewEvidence (record g { schemas = schemas_with g.schemas new }) (next_row g subject new) (evidence_by_view view live)
       new_evidence =
           let passed = ap (λ (level : Level). is_admitted_after g.schemas level all new) (sym level_is) ∙ verdict in
-          let holds = true-with g.schemas new (evidence_in g subject) (admitted-true g ground.registry subject new ((admits_decided (level_in g subject) (schemas_of g.schemas all) new).0 passed)) in
+          let holds = true-with g.schemas new (next_evidence g subject) (admitted-true g input.registry subject new ((admits_decided (level_in g subject) (schemas_of g.schemas all) new).0 passed)) in
           record {
             named = evidence_is;
             holds = λ nodes there.
-                subst (λ (x : List NodeView). IsTrueOf (schemas_with g.schemas new) x (evidence_shown view live)) (new_is g subject new nodes ground.registry new_schema there)
-                (subst (IsTrueOf (schemas_with g.schemas new) new) (sym evidence_is) holds);
+                subst (λ (x : List NodeView). IsTrueForSchema (schemas_with g.schemas new) x (evidence_by_view view live)) (new_is g subject new nodes input.registry new_schema there)
+                (subst (IsTrueForSchema (schemas_with g.schemas new) new) (sym evidence_is) holds);
           }
 
-      pub added_changes : after_changes (version_added view.known (row_shown view subject) (evidence_shown view live) new) g ≡ with_version g subject new
+      pub added_changes : after_changes (version_added view.known (row_by_view view subject) (evidence_by_view view live) new) g ≡ with_version g subject new
       added_changes =
-          ap (λ (row : Row). after_changes (version_added view.known row (evidence_shown view live) new) g) row_is
-          ∙ changes_are g subject new new_schema view.known (sym known_shown) (evidence_shown view live)
+          ap (λ (row : Row). after_changes (version_added view.known row (evidence_by_view view live) new) g) row_is
+          ∙ changes_are g subject new new_schema view.known (sym known_shown) (evidence_by_view view live)
 
-      pub added_fit : has_numbers_shown view ≡ true → ChangesFit (version_added view.known (row_shown view subject) (evidence_shown view live) new) g
+      pub added_fit : has_numbers_by_view view ≡ true → ChangesFit (version_added view.known (row_by_view view subject) (evidence_by_view view live) new) g
       added_fit left =
           let within = numbers_within left in
-          subst (λ (row : Row). ChangesFit (version_added view.known row (evidence_shown view live) new) g) (sym row_is)
-          (changes_fit g subject new new_schema view.known (sym known_shown) within.0 within.1 (evidence_shown view live) new_evidence)
+          subst (λ (row : Row). ChangesFit (version_added view.known row (evidence_by_view view live) new) g) (sym row_is)
+          (changes_fit g subject new new_schema view.known (sym known_shown) within.0 within.1 (evidence_by_view view live) new_evidence)
 
-      pub added_evidence : TellEvidence (version_added view.known (row_shown view subject) (evidence_shown view live) new) g
-      added_evidence = subst (λ (row : Row). TellEvidence (version_added view.known row (evidence_shown view live) new) g) (sym row_is) (by view.known)
+      pub added_evidence : UpdateEvidence (version_added view.known (row_by_view view subject) (evidence_by_view view live) new) g
+      added_evidence = subst (λ (row : Row). UpdateEvidence (version_added view.known row (evidence_by_view view live) new) g) (sym row_is) (by view.known)
         where
-          by : (known : Option ℕ) → TellEvidence (version_added known (next_row g subject new) (evidence_shown view live) new) g
+          by : (known : Option ℕ) → UpdateEvidence (version_added known (next_row g subject new) (evidence_by_view view live) new) g
           by None had ok =
-              added_becomes (record g { schemas = g.schemas ++ option_to_list (denoted_nodes (identity new)) }) (next_row g subject new) (evidence_shown view live)
+              added_becomes (record g { schemas = g.schemas ++ option_to_list (denoted_nodes (identity new)) }) (next_row g subject new) (evidence_by_view view live)
               (next_number-absent g subject) evidence_is had ok
-          by (Some id) had ok = added_becomes g (next_row g subject new) (evidence_shown view live) (next_number-absent g subject) evidence_is had ok
+          by (Some id) had ok = added_becomes g (next_row g subject new) (evidence_by_view view live) (next_number-absent g subject) evidence_is had ok

@@ -21,20 +21,20 @@ use Rattle.reg_core.specs.Levels.{level_of}
 use Rattle.reg_core.specs.Modes.{mode_of}
 use Rattle.reg_core.specs.declared.mode.Mode.{Mode}
 use Rattle.reg_core.specs.declared.code.Code.{Code}
-use Rattle.reg_core.specs.declared.number.Choice.{Choice}
-use Rattle.reg_core.specs.Additions.{WasThere}
-use Rattle.reg_core.specs.DeletionCommands.{row_to_mark, row_to_remove, as_deleted, with_deleted, without_row, version_deleted, delete_version, with_subject_deleted, without_subject, soft_delete, remove_subject, delete_subject}
-use Rattle.reg_core.specs.Numbers.{choice_in}
+use Rattle.reg_core.specs.declared.number.VersionChoice.{VersionChoice}
+use Rattle.reg_core.specs.Additions.{IsRetained}
+use Rattle.reg_core.specs.DeletionCommands.{row_to_soft_delete, row_to_remove, as_deleted, with_deleted, without_row, version_deleted, delete_version, with_subject_deleted, without_subject, soft_delete, remove_subject, delete_subject}
+use Rattle.reg_core.specs.Numbers.{parse_choice}
 use Rattle.reg_core.specs.Registry.{Registry, Schemas, RowKey, Row, IsRow, IsRegistry, max_number, schema_at, own_with, own_without}
 use Rattle.reg_core.specs.Registry as registry
 use Rattle.reg_core.specs.Rows.{rows_of, live_rows, next_number, id_of}
 use Rattle.reg_core.specs.Settings.{Setting, level_setting, mode_setting, set, with_level, with_mode}
-use Rattle.reg_core.specs.RegisterCommands.{schema_in, id_for, schemas_with, with_version, registered, has_numbers, register}
-use Rattle.reg_core.specs.Machine.{carried_out, step, run_commands}
+use Rattle.reg_core.specs.RegisterCommands.{supported_schema, id_for, schemas_with, with_version, registered, has_numbers_left, register}
+use Rattle.reg_core.specs.Machine.{permitted_step, step, run_commands}
 use Rattle.reg_core.specs.Views.{altered, after_change, after_changes, ChangeFits, ChangesFit}
 use Rattle.reg_core.proofs.ModeLemmas.{step-either}
 use Rattle.reg_core.proofs.IdLemmas.{schema_within, schema_last, schema_grown, id_of-schema, id_of-none}
-use Rattle.reg_core.proofs.DeletionLemmas.{altered_was, removed_was, deleted_were, row_to_mark-got, subject_deleted_was, remove_subject-were}
+use Rattle.reg_core.proofs.DeletionLemmas.{altered_was, removed_was, deleted_were, row_to_soft_delete-got, subject_deleted_was, remove_subject-were}
 use Rattle.reg_core.proofs.RowLemmas.{get_inserted}
 
 -- ---- what a registry is made of
@@ -79,7 +79,7 @@ modes-IsRegistry : (g : Registry) (global : Mode) (own : registry.OwnModes) → 
 modes-IsRegistry g global own ok = record { schemas = ok.schemas; few = ok.few; apart = ok.apart; rows = ok.rows }
 
 -- a registry whose versions are all among those of another, soft-deleted or not, is one
-pub fewer-IsRegistry : (g : Registry) (rows : registry.Rows) (own : registry.OwnLevels) → IsRegistry g → ((key : RowKey) (version : registry.Version) → get rows key ≡ Some version → WasThere g.rows key version) → IsRegistry (record g { rows = rows; own = own })
+pub fewer-IsRegistry : (g : Registry) (rows : registry.Rows) (own : registry.OwnLevels) → IsRegistry g → ((key : RowKey) (version : registry.Version) → get rows key ≡ Some version → IsRetained g.rows key version) → IsRegistry (record g { rows = rows; own = own })
 fewer-IsRegistry g rows own ok were = record {
   schemas = ok.schemas;
   few = ok.few;
@@ -128,10 +128,10 @@ changes_fit-IsRegistry (change ∷ changes) g ok fits = changes_fit-IsRegistry c
 -- ---- commands
 
 -- the schema of a body is one
-pub schema_in-denotes : (text : List ℕ) (supported : Bool) (new : List NodeView) → schema_in text supported ≡ Some new → TextDenotes text new
-unfolding schema_in
-schema_in-denotes text true new e = computed_denotes text new e
-schema_in-denotes text false new e = absurd (none-some new e)
+pub supported_schema-denotes : (text : List ℕ) (supported : Bool) (new : List NodeView) → supported_schema text supported ≡ Some new → TextDenotes text new
+unfolding supported_schema
+supported_schema-denotes text true new e = computed_denotes text new e
+supported_schema-denotes text false new e = absurd (none-some new e)
 
 -- the schemas with a new one, where its identity text has this id or none
 abbrev schemas_by : Schemas → List NodeView → Option ℕ → Schemas
@@ -168,7 +168,7 @@ with_version-IsRegistry g subject new ok schema number id =
 nat_le_says : (a b : ℕ) → nat_le a b ≡ true → a ≤ b
 nat_le_says a b h = grind (arith, nat_tests)
 
-registered-IsRegistry : (g : Registry) (subject : List ℕ) (new : List NodeView) → IsRegistry g → IsSchema new → (is_there admitted left : Bool) → has_numbers g subject new ≡ left → IsRegistry (registered g subject new is_there admitted left).0
+registered-IsRegistry : (g : Registry) (subject : List ℕ) (new : List NodeView) → IsRegistry g → IsSchema new → (is_there admitted left : Bool) → has_numbers_left g subject new ≡ left → IsRegistry (registered g subject new is_there admitted left).0
 registered-IsRegistry g subject new ok schema true admitted left e = ok
 registered-IsRegistry g subject new ok schema false false left e = ok
 registered-IsRegistry g subject new ok schema false true false e = ok
@@ -176,9 +176,9 @@ registered-IsRegistry g subject new ok schema false true true e =
     let both = and_parts (nat_le (next_number (rows_of g subject)) max_number) (nat_le (id_for g.schemas new) max_number) e in
     with_version-IsRegistry g subject new ok schema (nat_le_says (next_number (rows_of g subject)) max_number both.0) (nat_le_says (id_for g.schemas new) max_number both.1)
 
-register-IsRegistry : (g : Registry) (subject text : List ℕ) (supported : Bool) (schema : Option (List NodeView)) → schema_in text supported ≡ schema → IsRegistry g → IsRegistry (register g subject schema).0
+register-IsRegistry : (g : Registry) (subject text : List ℕ) (supported : Bool) (schema : Option (List NodeView)) → supported_schema text supported ≡ schema → IsRegistry g → IsRegistry (register g subject schema).0
 register-IsRegistry g subject text supported None e ok = ok
-register-IsRegistry g subject text supported (Some new) e ok = registered-IsRegistry g subject new ok (text, schema_in-denotes text supported new e) _ _ _ refl
+register-IsRegistry g subject text supported (Some new) e ok = registered-IsRegistry g subject new ok (text, supported_schema-denotes text supported new e) _ _ _ refl
 
 -- a registry with a value is one
 set-IsRegistry : {A : Type 0} (s : Setting A) (g : Registry) (subject : Option (List ℕ)) → ((value : A) → IsRegistry (s.put g subject value)) → (o : Option A) → IsRegistry g → IsRegistry (set s g subject o).0
@@ -197,10 +197,10 @@ version_deleted-IsRegistry : (g : Registry) (change : Registry → Row → Regis
 version_deleted-IsRegistry g change (Err code) ok changed = ok
 version_deleted-IsRegistry g change (Ok row) ok changed = changed row refl
 
-delete_version-IsRegistry : (g : Registry) (subject : List ℕ) (choice : Option Choice) (permanent : Bool) → IsRegistry g → IsRegistry (delete_version g subject choice permanent).0
+delete_version-IsRegistry : (g : Registry) (subject : List ℕ) (choice : Option VersionChoice) (permanent : Bool) → IsRegistry g → IsRegistry (delete_version g subject choice permanent).0
 delete_version-IsRegistry g subject choice false ok =
-    version_deleted-IsRegistry g with_deleted (row_to_mark choice (rows_of g subject)) ok
-    (λ row e. fewer-IsRegistry g (with_deleted g row).rows g.own ok (deleted_were g row (row_to_mark-got g subject choice row e)))
+    version_deleted-IsRegistry g with_deleted (row_to_soft_delete choice (rows_of g subject)) ok
+    (λ row e. fewer-IsRegistry g (with_deleted g row).rows g.own ok (deleted_were g row (row_to_soft_delete-got g subject choice row e)))
 delete_version-IsRegistry g subject choice true ok =
     version_deleted-IsRegistry g without_row (row_to_remove choice (rows_of g subject)) ok (λ row e. fewer-IsRegistry g (without_row g row).rows g.own ok (removed_was g.rows row.0))
 
@@ -221,33 +221,33 @@ delete_subject-IsRegistry g subject false ok = soft_delete-IsRegistry g subject 
 delete_subject-IsRegistry g subject true ok = remove_subject-IsRegistry g subject (rows_of g subject) (live_rows (rows_of g subject)) ok
 
 -- a registry is one after each command that is carried out
-pub carried_out-IsRegistry : (g : Registry) (c : Command) → IsRegistry g → IsRegistry (carried_out g c).0
-unfolding carried_out
-carried_out-IsRegistry g (SetGlobal text) ok = set-IsRegistry level_setting g None (with_level-IsRegistry g None ok) (level_of text) ok
-carried_out-IsRegistry g (SetLevel subject text) ok = set-IsRegistry level_setting g (Some subject) (with_level-IsRegistry g (Some subject) ok) (level_of text) ok
-carried_out-IsRegistry g (Register subject text supported) ok = register-IsRegistry g subject text supported (schema_in text supported) refl ok
-carried_out-IsRegistry g (DeleteVersion subject version permanent) ok = delete_version-IsRegistry g subject (choice_in version) permanent ok
-carried_out-IsRegistry g (DeleteSubject subject permanent) ok = delete_subject-IsRegistry g subject permanent ok
-carried_out-IsRegistry g Global ok = ok
-carried_out-IsRegistry g (LevelOf subject default) ok = ok
-carried_out-IsRegistry g (Lookup subject text supported deleted) ok = ok
-carried_out-IsRegistry g (Subjects deleted) ok = ok
-carried_out-IsRegistry g (Versions subject deleted) ok = ok
-carried_out-IsRegistry g (Version subject version deleted) ok = ok
-carried_out-IsRegistry g (Text subject version deleted) ok = ok
-carried_out-IsRegistry g (ById id) ok = ok
-carried_out-IsRegistry g (VersionsOfId id deleted) ok = ok
-carried_out-IsRegistry g Types ok = ok
-carried_out-IsRegistry g (Check subject version text supported) ok = ok
-carried_out-IsRegistry g (CheckAll subject text supported) ok = ok
-carried_out-IsRegistry g (SetGlobalMode text) ok = set-IsRegistry mode_setting g None (with_mode-IsRegistry g None ok) (mode_of text) ok
-carried_out-IsRegistry g (SetMode subject text) ok = set-IsRegistry mode_setting g (Some subject) (with_mode-IsRegistry g (Some subject) ok) (mode_of text) ok
-carried_out-IsRegistry g GlobalMode ok = ok
-carried_out-IsRegistry g (ModeOf subject default) ok = ok
+pub permitted_step-IsRegistry : (g : Registry) (c : Command) → IsRegistry g → IsRegistry (permitted_step g c).0
+unfolding permitted_step
+permitted_step-IsRegistry g (SetGlobal text) ok = set-IsRegistry level_setting g None (with_level-IsRegistry g None ok) (level_of text) ok
+permitted_step-IsRegistry g (SetLevel subject text) ok = set-IsRegistry level_setting g (Some subject) (with_level-IsRegistry g (Some subject) ok) (level_of text) ok
+permitted_step-IsRegistry g (Register subject text supported) ok = register-IsRegistry g subject text supported (supported_schema text supported) refl ok
+permitted_step-IsRegistry g (DeleteVersion subject version permanent) ok = delete_version-IsRegistry g subject (parse_choice version) permanent ok
+permitted_step-IsRegistry g (DeleteSubject subject permanent) ok = delete_subject-IsRegistry g subject permanent ok
+permitted_step-IsRegistry g Global ok = ok
+permitted_step-IsRegistry g (LevelOf subject default) ok = ok
+permitted_step-IsRegistry g (Lookup subject text supported deleted) ok = ok
+permitted_step-IsRegistry g (Subjects deleted) ok = ok
+permitted_step-IsRegistry g (Versions subject deleted) ok = ok
+permitted_step-IsRegistry g (Version subject version deleted) ok = ok
+permitted_step-IsRegistry g (Text subject version deleted) ok = ok
+permitted_step-IsRegistry g (ById id) ok = ok
+permitted_step-IsRegistry g (VersionsOfId id deleted) ok = ok
+permitted_step-IsRegistry g Types ok = ok
+permitted_step-IsRegistry g (Check subject version text supported) ok = ok
+permitted_step-IsRegistry g (CheckAll subject text supported) ok = ok
+permitted_step-IsRegistry g (SetGlobalMode text) ok = set-IsRegistry mode_setting g None (with_mode-IsRegistry g None ok) (mode_of text) ok
+permitted_step-IsRegistry g (SetMode subject text) ok = set-IsRegistry mode_setting g (Some subject) (with_mode-IsRegistry g (Some subject) ok) (mode_of text) ok
+permitted_step-IsRegistry g GlobalMode ok = ok
+permitted_step-IsRegistry g (ModeOf subject default) ok = ok
 
 -- and after each command
 pub step-IsRegistry : (g : Registry) (c : Command) → IsRegistry g → IsRegistry (step g c).0
-step-IsRegistry g c ok = step-either (λ after. IsRegistry after.0) g c ok (carried_out-IsRegistry g c ok)
+step-IsRegistry g c ok = step-either (λ after. IsRegistry after.0) g c ok (permitted_step-IsRegistry g c ok)
 
 -- and after any number of them
 pub run_commands-IsRegistry : (g : Registry) (commands : List Command) → IsRegistry g → IsRegistry (run_commands g commands)

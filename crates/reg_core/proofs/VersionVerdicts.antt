@@ -13,25 +13,25 @@ use Rattle.reg_core.specs.declared.level.Level.{Level}
 use Rattle.reg_core.specs.declared.level.Level.TheVariants.{Backward, BackwardTransitive, Forward, ForwardTransitive, Full, FullTransitive, Off}
 use Rattle.reg_core.specs.declared.decision.View.{View}
 use Rattle.reg_core.specs.Compatibility.{named_versions}
-use Rattle.reg_core.specs.Inside.Comparisons.{is_read_compatible, is_read_admitted}
+use Rattle.reg_core.specs.Inside.Comparisons.{is_compatible_in_view, is_admitted_in_view}
 use Rattle.reg_core.specs.RegisterCommands.{is_admitted_after}
 use Rattle.reg_core.specs.Registry.{Registry, IsRegistry, Row, Schemas, schema_at}
 use Rattle.reg_core.specs.Rows.{rows_of, live_rows, text_at, schemas_of}
 use Rattle.reg_core.specs.Verdicts.{is_compatible, is_admitted}
-use Rattle.reg_core.specs.Views.{level_of_view, text_in}
+use Rattle.reg_core.specs.Views.{level_of_view, view_text}
 use Rattle.reg_core.proofs.ChosenRows.{All-latest}
 use Rattle.reg_core.proofs.RegistryLemmas.{schema_at-denoted}
 use Rattle.reg_core.proofs.RowLemmas.{each-schema, All-live_rows}
 use Rattle.reg_core.proofs.Versions.{named-map}
 
 -- the verdict on a version whose text the view has
-pub read_compatible : (view : View) (level : Level) (new : List NodeView) (row : Row) (text : List ℕ) (earlier : List NodeView) → text_in view row.1.id ≡ Some text → denoted_nodes text ≡ Some earlier
-    → is_read_compatible view level new row ≡ is_compatible level earlier new
+pub read_compatible : (view : View) (level : Level) (new : List NodeView) (row : Row) (text : List ℕ) (earlier : List NodeView) → view_text view row.1.id ≡ Some text → denoted_nodes text ≡ Some earlier
+    → is_compatible_in_view view level new row ≡ is_compatible level earlier new
 read_compatible view level new row text earlier there is = rw (there, is) refl
 
 -- the verdict on versions that are known by other values
-pub admitted_named : {X : Type 0} (f : X → Row) (view : View) (level : Level) (xs : List X) (new : List NodeView) → is_read_admitted view level (map f xs) new ≡ list_all (λ x. is_read_compatible view level new (f x)) (named_versions level xs)
-admitted_named f view level xs new = ap (list_all (is_read_compatible view level new)) (named-map f level xs) ∙ list_all-map (is_read_compatible view level new) f (named_versions level xs)
+pub admitted_named : {X : Type 0} (f : X → Row) (view : View) (level : Level) (xs : List X) (new : List NodeView) → is_admitted_in_view view level (map f xs) new ≡ list_all (λ x. is_compatible_in_view view level new (f x)) (named_versions level xs)
+admitted_named f view level xs new = ap (list_all (is_compatible_in_view view level new)) (named-map f level xs) ∙ list_all-map (is_compatible_in_view view level new) f (named_versions level xs)
 
 ids_mapped : {X : Type 0} (f : X → Row) (xs : List X) → map (λ x. (f x).1.id) xs ≡ map (λ (row : Row). row.1.id) (map f xs)
 ids_mapped f [] = refl
@@ -50,7 +50,7 @@ HasSchema schemas row = (nodes : List NodeView) × (schema_at schemas row.1.id �
 
 -- the view has the text of a version's schema
 abbrev pub ShowsText : View → Schemas → Row → Type 0
-ShowsText view schemas row = text_in view row.1.id ≡ text_at schemas row.1.id
+ShowsText view schemas row = view_text view row.1.id ≡ text_at schemas row.1.id
 
 -- what holds of each version holds of those that a level names
 pub All-named : {X : Type 0} (P : X → Type 0) (level : Level) (xs : List X) → All P xs → All P (named_versions level xs)
@@ -86,21 +86,21 @@ same_tests p q (x ∷ xs) h =
     rw (here, rest) refl
 
 row_compatible : (view : View) (schemas : Schemas) → All IsSchema schemas → (level : Level) (new : List NodeView) (row : Row) → HasSchema schemas row → ShowsText view schemas row
-    → is_read_compatible view level new row ≡ is_compatible level (schema_or schemas row) new
+    → is_compatible_in_view view level new row ≡ is_compatible level (schema_or schemas row) new
 unfolding schema_or
 row_compatible view schemas ok level new row (nodes, e) shows =
-    let text : text_in view row.1.id ≡ Some (identity nodes) = shows ∙ ap (option_map identity) e in
+    let text : view_text view row.1.id ≡ Some (identity nodes) = shows ∙ ap (option_map identity) e in
     let is : nodes ≡ unwrap_or (schema_at schemas row.1.id) [] = sym (ap (λ (o : Option (List NodeView)). unwrap_or o []) e) in
     read_compatible view level new row (identity nodes) nodes text (schema_at-denoted schemas ok row.1.id nodes e) ∙ ap (λ (x : List NodeView). is_compatible level x new) is
 
 -- The verdict on versions by the texts of a view is the one by their schemas, where the view has the texts of those that the level names
 pub admitted_shown : (view : View) (schemas : Schemas) → All IsSchema schemas → (level : Level) (rows : List Row) (new : List NodeView) → All (HasSchema schemas) rows → All (ShowsText view schemas) (named_versions level rows)
-    → is_read_admitted view level rows new ≡ is_admitted_after schemas level rows new
+    → is_admitted_in_view view level rows new ≡ is_admitted_after schemas level rows new
 unfolding is_admitted
 admitted_shown view schemas ok level rows new has shows =
     let p = λ (earlier : List NodeView). is_compatible level earlier new in
     let there = All-named (HasSchema schemas) level rows has in
-    same_tests (is_read_compatible view level new) (λ row. p (schema_or schemas row)) (named_versions level rows)
+    same_tests (is_compatible_in_view view level new) (λ row. p (schema_or schemas row)) (named_versions level rows)
     (λ k d l. row_compatible view schemas ok level new _ (there k d l) (shows k d l))
     ∙ (sym (list_all-map p (schema_or schemas) (named_versions level rows))
     ∙ (ap (list_all p) (sym (named-map (schema_or schemas) level rows))
@@ -108,12 +108,12 @@ admitted_shown view schemas ok level rows new has shows =
 
 -- the same, where the view has the versions that the level names, and perhaps no others
 pub admitted_as : (view : View) (schemas : Schemas) → All IsSchema schemas → (level : Level) (seen rows : List Row) (new : List NodeView) → named_versions level seen ≡ named_versions level rows → All (HasSchema schemas) rows
-    → All (ShowsText view schemas) (named_versions level seen) → is_read_admitted view level seen new ≡ is_admitted_after schemas level rows new
+    → All (ShowsText view schemas) (named_versions level seen) → is_admitted_in_view view level seen new ≡ is_admitted_after schemas level rows new
 admitted_as view schemas ok level seen rows new named has shows =
-    ap (list_all (is_read_compatible view level new)) named ∙ admitted_shown view schemas ok level rows new has (subst (All (ShowsText view schemas)) named shows)
+    ap (list_all (is_compatible_in_view view level new)) named ∙ admitted_shown view schemas ok level rows new has (subst (All (ShowsText view schemas)) named shows)
 
 -- the verdict at the level in force and the versions that are known to be these
-pub verdict_of : (view : View) (new : List NodeView) (level : Level) (rows others : List Row) → level ≡ level_of_view view → rows ≡ others → (b : Bool) → b ≡ is_read_admitted view level rows new → b ≡ is_read_admitted view (level_of_view view) others new
+pub verdict_of : (view : View) (new : List NodeView) (level : Level) (rows others : List Row) → level ≡ level_of_view view → rows ≡ others → (b : Bool) → b ≡ is_admitted_in_view view level rows new → b ≡ is_admitted_in_view view (level_of_view view) others new
 verdict_of view new level rows others l r b e = e ∙ (rw (l, r) refl)
 
 -- each live version of a subject has a schema

@@ -10,15 +10,15 @@ use Rattle.reg_core.specs.declared.command.Command.TheVariants.{SetGlobal, SetLe
 use Rattle.reg_core.specs.declared.decision.View.{View}
 use Rattle.reg_core.specs.Bodies.{version_body, schema_body}
 use Rattle.reg_core.specs.Compatibility.{latest}
-use Rattle.reg_core.specs.Numbers.{id_in, choice_in}
+use Rattle.reg_core.specs.Numbers.{parse_id, parse_choice}
 use Rattle.reg_core.specs.Registry.{Registry, Row}
 use Rattle.reg_core.specs.Rows.{rows_of, rows_with, shown_rows, text_at, known_id}
-use Rattle.reg_core.specs.ReadCommands.{Texts, found_row, looked_up, rows_with_id, text_reply, version_reply, version_text_reply, id_reply, lookup_reply}
-use Rattle.reg_core.specs.Replies.{Told}
-use Rattle.reg_core.specs.RegisterCommands.{schema_in}
-use Rattle.reg_core.specs.Machine.{schema_sent, carried_out}
+use Rattle.reg_core.specs.ReadCommands.{Texts, found_row, lookup_row, rows_with_id, text_reply, version_reply, version_text_reply, id_reply, lookup_reply}
+use Rattle.reg_core.specs.Replies.{ReplyView}
+use Rattle.reg_core.specs.RegisterCommands.{supported_schema}
+use Rattle.reg_core.specs.Machine.{command_schema, permitted_step}
 use Rattle.reg_core.proofs.RowLemmas.{All-mapped}
-use Rattle.reg_core.specs.Views.{IsViewOf, IsGround, row_found, schema_taken, text_in}
+use Rattle.reg_core.specs.Views.{IsViewOf, IsDecisionInput, found_as_list, used_schema, view_text}
 
 -- ---- texts that agree
 
@@ -29,17 +29,17 @@ Agree one other rows = All (λ (row : Row). one row.1.id ≡ other row.1.id) row
 text_of_found : (one other : Texts) (row : Row) → Agree one other (row ∷ []) → one row.1.id ≡ other row.1.id
 text_of_found one other row same = same 0 row (omega arith)
 
-same_version : (one other : Texts) (found : Result Row Code) → Agree one other (row_found found) → version_reply one found ≡ version_reply other found
+same_version : (one other : Texts) (found : Result Row Code) → Agree one other (found_as_list found) → version_reply one found ≡ version_reply other found
 same_version one other (Err code) same = refl
 same_version one other (Ok row) same = ap (text_reply (version_body row)) (text_of_found one other row same)
 
-same_version_text : (one other : Texts) (found : Result Row Code) → Agree one other (row_found found) → version_text_reply one found ≡ version_text_reply other found
+same_version_text : (one other : Texts) (found : Result Row Code) → Agree one other (found_as_list found) → version_text_reply one found ≡ version_text_reply other found
 same_version_text one other (Err code) same = refl
 same_version_text one other (Ok row) same = ap (text_reply (λ text. text)) (text_of_found one other row same)
 
-same_lookup : (one other : Texts) (schema : Option (List NodeView)) (known : Option ℕ) (rows : List Row) → Agree one other (row_found (looked_up known rows)) → lookup_reply one schema known rows ≡ lookup_reply other schema known rows
+same_lookup : (one other : Texts) (schema : Option (List NodeView)) (known : Option ℕ) (rows : List Row) → Agree one other (found_as_list (lookup_row known rows)) → lookup_reply one schema known rows ≡ lookup_reply other schema known rows
 same_lookup one other None known rows same = refl
-same_lookup one other (Some nodes) known rows same = same_version one other (looked_up known rows) same
+same_lookup one other (Some nodes) known rows same = same_version one other (lookup_row known rows) same
 
 -- each of these versions has the id
 abbrev HaveId : ℕ → List Row → Type 0
@@ -89,75 +89,75 @@ same_id one other (Some id) all seen ids same =
 -- ---- commands
 
 -- what is told of a command is told of what it is
-pub at_command : (g : Registry) (schema : Option (List NodeView)) (view : View) (told : Told) (command variant : Command) → command ≡ variant
-    → (IsGround g variant schema view → told ≡ (carried_out g variant).1) → IsGround g command schema view → told ≡ (carried_out g command).1
-at_command g schema view told command variant is tells ground =
-    tells (subst (λ (c : Command). IsGround g c schema view) is ground) ∙ ap (λ (c : Command). (carried_out g c).1) (sym is)
+pub at_command : (g : Registry) (schema : Option (List NodeView)) (view : View) (told : ReplyView) (command variant : Command) → command ≡ variant
+    → (IsDecisionInput g variant schema view → told ≡ (permitted_step g variant).1) → IsDecisionInput g command schema view → told ≡ (permitted_step g command).1
+at_command g schema view told command variant is tells input =
+    tells (subst (λ (c : Command). IsDecisionInput g c schema view) is input) ∙ ap (λ (c : Command). (permitted_step g c).1) (sym is)
 
 pub told_version : (g : Registry) (view : View) (subject version : List ℕ) (deleted : Bool) → IsViewOf view g (Version subject version deleted)
-    → version_reply (text_in view) (found_row (choice_in version) (shown_rows deleted view.rows.items)) ≡ (carried_out g (Version subject version deleted)).1
-unfolding carried_out
+    → version_reply (view_text view) (found_row (parse_choice version) (shown_rows deleted view.rows.items)) ≡ (permitted_step g (Version subject version deleted)).1
+unfolding permitted_step
 told_version g view subject version deleted shows =
-    same_version (text_in view) (text_at g.schemas) (found_row (choice_in version) (shown_rows deleted view.rows.items)) shows.texts
+    same_version (view_text view) (text_at g.schemas) (found_row (parse_choice version) (shown_rows deleted view.rows.items)) shows.texts
     ∙ ap (version_reply (text_at g.schemas)) shows.rows
 
 pub told_text : (g : Registry) (view : View) (subject version : List ℕ) (deleted : Bool) → IsViewOf view g (Text subject version deleted)
-    → version_text_reply (text_in view) (found_row (choice_in version) (shown_rows deleted view.rows.items)) ≡ (carried_out g (Text subject version deleted)).1
-unfolding carried_out
+    → version_text_reply (view_text view) (found_row (parse_choice version) (shown_rows deleted view.rows.items)) ≡ (permitted_step g (Text subject version deleted)).1
+unfolding permitted_step
 told_text g view subject version deleted shows =
-    same_version_text (text_in view) (text_at g.schemas) (found_row (choice_in version) (shown_rows deleted view.rows.items)) shows.texts
+    same_version_text (view_text view) (text_at g.schemas) (found_row (parse_choice version) (shown_rows deleted view.rows.items)) shows.texts
     ∙ ap (version_text_reply (text_at g.schemas)) shows.rows
 
-pub told_id : (g : Registry) (view : View) (id : List ℕ) → IsViewOf view g (ById id) → id_reply (text_in view) (id_in id) view.rows.items ≡ (carried_out g (ById id)).1
-unfolding carried_out
-told_id g view id shows = same_id (text_in view) (text_at g.schemas) (id_in id) (entries g.rows) view.rows.items shows.rows shows.texts
+pub told_id : (g : Registry) (view : View) (id : List ℕ) → IsViewOf view g (ById id) → id_reply (view_text view) (parse_id id) view.rows.items ≡ (permitted_step g (ById id)).1
+unfolding permitted_step
+told_id g view id shows = same_id (view_text view) (text_at g.schemas) (parse_id id) (entries g.rows) view.rows.items shows.rows shows.texts
 
 -- a version that is looked up among some is told as among others where it is the same
-lookup_as : (texts : Texts) (schema : Option (List NodeView)) (known : Option ℕ) (seen rows : List Row) → looked_up known seen ≡ looked_up known rows → lookup_reply texts schema known seen ≡ lookup_reply texts schema known rows
+lookup_as : (texts : Texts) (schema : Option (List NodeView)) (known : Option ℕ) (seen rows : List Row) → lookup_row known seen ≡ lookup_row known rows → lookup_reply texts schema known seen ≡ lookup_reply texts schema known rows
 lookup_as texts None known seen rows same = refl
 lookup_as texts (Some nodes) known seen rows same = ap (version_reply texts) same
 
 -- the id of the schema is looked at only where one is sent
 known_as : (texts : Texts) (text : List ℕ) (supported : Bool) (known own : Option ℕ) (rows : List Row) → (IsTrue supported → known ≡ own)
-    → lookup_reply texts (schema_in text supported) known rows ≡ lookup_reply texts (schema_in text supported) own rows
-unfolding schema_in
-known_as texts text true known own rows same = ap (λ id. lookup_reply texts (schema_in text true) id rows) (same refl)
+    → lookup_reply texts (supported_schema text supported) known rows ≡ lookup_reply texts (supported_schema text supported) own rows
+unfolding supported_schema
+known_as texts text true known own rows same = ap (λ id. lookup_reply texts (supported_schema text true) id rows) (same refl)
 known_as texts text false known own rows same = refl
 
-pub told_lookup : (g : Registry) (view : View) (schema : Option (List NodeView)) (subject text : List ℕ) (supported deleted : Bool) → schema ≡ schema_in text supported → IsViewOf view g (Lookup subject text supported deleted)
-    → lookup_reply (text_in view) schema view.known (shown_rows deleted view.rows.items) ≡ (carried_out g (Lookup subject text supported deleted)).1
-unfolding carried_out
+pub told_lookup : (g : Registry) (view : View) (schema : Option (List NodeView)) (subject text : List ℕ) (supported deleted : Bool) → schema ≡ supported_schema text supported → IsViewOf view g (Lookup subject text supported deleted)
+    → lookup_reply (view_text view) schema view.known (shown_rows deleted view.rows.items) ≡ (permitted_step g (Lookup subject text supported deleted)).1
+unfolding permitted_step
 told_lookup g view schema subject text supported deleted sent shows =
-    same_lookup (text_in view) (text_at g.schemas) schema view.known (shown_rows deleted view.rows.items) shows.texts
+    same_lookup (view_text view) (text_at g.schemas) schema view.known (shown_rows deleted view.rows.items) shows.texts
     ∙ (ap (λ s. lookup_reply (text_at g.schemas) s view.known (shown_rows deleted view.rows.items)) sent
-    ∙ (lookup_as (text_at g.schemas) (schema_in text supported) view.known (shown_rows deleted view.rows.items) (shown_rows deleted (rows_of g subject)) shows.rows
-    ∙ known_as (text_at g.schemas) text supported view.known (known_id g.schemas (schema_in text supported)) (shown_rows deleted (rows_of g subject)) shows.known))
+    ∙ (lookup_as (text_at g.schemas) (supported_schema text supported) view.known (shown_rows deleted view.rows.items) (shown_rows deleted (rows_of g subject)) shows.rows
+    ∙ known_as (text_at g.schemas) text supported view.known (known_id g.schemas (supported_schema text supported)) (shown_rows deleted (rows_of g subject)) shows.known))
 
 -- a command takes the schema that it sends
-pub taken-sent : (c : Command) → schema_taken c (schema_sent c) ≡ schema_sent c
-unfolding schema_in
-taken-sent (SetGlobal level) = refl
-taken-sent (SetLevel subject level) = refl
-taken-sent (Register subject text true) = refl
-taken-sent (Register subject text false) = refl
-taken-sent (DeleteVersion subject version permanent) = refl
-taken-sent (DeleteSubject subject permanent) = refl
-taken-sent Global = refl
-taken-sent (LevelOf subject default) = refl
-taken-sent (Lookup subject text true deleted) = refl
-taken-sent (Lookup subject text false deleted) = refl
-taken-sent (Subjects deleted) = refl
-taken-sent (Versions subject deleted) = refl
-taken-sent (Version subject version deleted) = refl
-taken-sent (Text subject version deleted) = refl
-taken-sent (ById id) = refl
-taken-sent (VersionsOfId id deleted) = refl
-taken-sent Types = refl
-taken-sent (Check subject version text true) = refl
-taken-sent (Check subject version text false) = refl
-taken-sent (CheckAll subject text true) = refl
-taken-sent (CheckAll subject text false) = refl
-taken-sent (SetGlobalMode mode) = refl
-taken-sent (SetMode subject mode) = refl
-taken-sent GlobalMode = refl
-taken-sent (ModeOf subject default) = refl
+pub used_schema-sent : (c : Command) → used_schema c (command_schema c) ≡ command_schema c
+unfolding supported_schema
+used_schema-sent (SetGlobal level) = refl
+used_schema-sent (SetLevel subject level) = refl
+used_schema-sent (Register subject text true) = refl
+used_schema-sent (Register subject text false) = refl
+used_schema-sent (DeleteVersion subject version permanent) = refl
+used_schema-sent (DeleteSubject subject permanent) = refl
+used_schema-sent Global = refl
+used_schema-sent (LevelOf subject default) = refl
+used_schema-sent (Lookup subject text true deleted) = refl
+used_schema-sent (Lookup subject text false deleted) = refl
+used_schema-sent (Subjects deleted) = refl
+used_schema-sent (Versions subject deleted) = refl
+used_schema-sent (Version subject version deleted) = refl
+used_schema-sent (Text subject version deleted) = refl
+used_schema-sent (ById id) = refl
+used_schema-sent (VersionsOfId id deleted) = refl
+used_schema-sent Types = refl
+used_schema-sent (Check subject version text true) = refl
+used_schema-sent (Check subject version text false) = refl
+used_schema-sent (CheckAll subject text true) = refl
+used_schema-sent (CheckAll subject text false) = refl
+used_schema-sent (SetGlobalMode mode) = refl
+used_schema-sent (SetMode subject mode) = refl
+used_schema-sent GlobalMode = refl
+used_schema-sent (ModeOf subject default) = refl

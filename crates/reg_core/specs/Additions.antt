@@ -35,16 +35,16 @@ pub record IsAddition (g : Registry) (command : Command) (after : Registry) (key
   pub live : version.deleted ≡ false
 
 -- Schema Registry API reference, Subjects: the version stood among these under its key, with its schema; it is soft-deleted if it was
-pub record WasThere (rows : Rows) (key : RowKey) (version : Version) : Type 0 where
+pub record IsRetained (rows : Rows) (key : RowKey) (version : Version) : Type 0 where
   pub old : Version
   pub there : get rows key ≡ Some old
   pub same : version.id ≡ old.id
   pub stays_deleted : old.deleted ≡ true → version.deleted ≡ true
 
 -- Schema Registry API reference, POST /subjects/{subject}/versions: each version of the second registry stood in the first, or the command added it
-abbrev pub Adds : Registry → Command → Registry → Type 0
-Adds g command after = (key : RowKey) (version : Version) → get after.rows key ≡ Some version → WasThere g.rows key version ⊎ IsAddition g command after key version
+abbrev pub OnlyAdditions : Registry → Command → Registry → Type 0
+OnlyAdditions g command after = (key : RowKey) (version : Version) → get after.rows key ≡ Some version → IsRetained g.rows key version ⊎ IsAddition g command after key version
 
 -- so it is of a registry and the one after the command
 abbrev pub AddsAdmitted : Registry → Command → Type 0
-AddsAdmitted g command = Adds g command (step g command).0
+AddsAdmitted g command = OnlyAdditions g command (step g command).0

@@ -22,14 +22,14 @@ named_versions FullTransitive live = live
 named_versions Off live = []
 
 -- Schema Registry API reference, Compatibility: whether a level compares with all live versions
-abbrev pub names_all : Level → Bool
-names_all BackwardTransitive = true
-names_all ForwardTransitive = true
-names_all FullTransitive = true
-names_all Backward = false
-names_all Forward = false
-names_all Full = false
-names_all Off = false
+abbrev pub is_transitive : Level → Bool
+is_transitive BackwardTransitive = true
+is_transitive ForwardTransitive = true
+is_transitive FullTransitive = true
+is_transitive Backward = false
+is_transitive Forward = false
+is_transitive Full = false
+is_transitive Off = false
 
 -- Schema Evolution and Compatibility, Compatibility Types: the new schema reads what the earlier one wrote (backward), the earlier one reads what
 -- the new one writes (forward), or both (full)

@@ -2,10 +2,10 @@
 use Rattle.std.specs.Prelude.{string_bytes}
 use Rattle.reg_core.specs.declared.reply.Content.{Content}
 use Rattle.reg_core.specs.declared.reply.Content.TheVariants.{Written, Fault}
-use Rattle.reg_core.specs.Replies.{Told, fault, IsStatus}
+use Rattle.reg_core.specs.Replies.{ReplyView, fault, IsStatus}
 
 -- this project's choice: a fault is held as its code, and an answer as it was written
-abbrev pub reply_of : Content → Told
+abbrev pub reply_of : Content → ReplyView
 reply_of (Written status body) = record { status = status; body = string_bytes body }
 reply_of (Fault code) = fault code
 

@@ -6,10 +6,10 @@ use Rattle.std.specs.List.{last_or}
 use Rattle.std.specs.Option.{ok_or}
 use Rattle.reg_core.specs.declared.code.Code.{Code}
 use Rattle.reg_core.specs.declared.code.Code.TheVariants.{InvalidVersion, SubjectNotFound, VersionNotFound, SubjectSoftDeleted, SubjectNotSoftDeleted, VersionSoftDeleted, VersionNotSoftDeleted}
-use Rattle.reg_core.specs.declared.number.Choice.{Choice}
-use Rattle.reg_core.specs.declared.number.Choice.TheVariants.{Latest, Numbered}
+use Rattle.reg_core.specs.declared.number.VersionChoice.{VersionChoice}
+use Rattle.reg_core.specs.declared.number.VersionChoice.TheVariants.{Latest, Numbered}
 use Rattle.reg_core.specs.Registry.{Registry, Row, RowKey, Version, own_without}
-use Rattle.reg_core.specs.Replies.{Told, answer, fault}
+use Rattle.reg_core.specs.Replies.{ReplyView, answer, fault}
 use Rattle.reg_core.specs.Rows.{rows_of, live_rows, chosen_row}
 use Rattle.reg_core.specs.ReadCommands.{found_row}
 use Rattle.reg_core.specs.Bodies.{number_body, numbers_body}
@@ -17,13 +17,13 @@ use Rattle.reg_core.specs.Bodies.{number_body, numbers_body}
 -- ---- a version
 
 -- this project's choice: a version that is soft-deleted already is refused with 40406
-abbrev pub if_live : Row → Result Row Code
-if_live row = if row.1.deleted then Err VersionSoftDeleted else Ok row
+abbrev pub require_live : Row → Result Row Code
+require_live row = if row.1.deleted then Err VersionSoftDeleted else Ok row
 
 -- Schema Registry API reference, DELETE /subjects/{subject}/versions/{version}, `permanent`: only a soft-deleted version can be removed.
 -- (This project's choice: any other is refused with 40407.)
-abbrev pub if_deleted : Row → Result Row Code
-if_deleted row = if row.1.deleted then Ok row else Err VersionNotSoftDeleted
+abbrev pub require_deleted : Row → Result Row Code
+require_deleted row = if row.1.deleted then Ok row else Err VersionNotSoftDeleted
 
 -- a version that was found, if it passes a test
 abbrev pub found_and : (Row → Result Row Code) → Result Row Code → Result Row Code
@@ -32,19 +32,19 @@ found_and test (Ok row) = test row
 
 -- Schema Registry API reference, DELETE /subjects/{subject}/versions/{version}: the version to soft-delete, or the code of the refusal; `latest` is the last
 -- one that isn't soft-deleted. (This project's choice: if all are, `latest` is refused with 40404.)
-abbrev pub row_to_mark : Option Choice → List Row → Result Row Code
-row_to_mark None rows = Err InvalidVersion
-row_to_mark (Some choice) [] = Err SubjectNotFound
-row_to_mark (Some Latest) (row ∷ rows) = ok_or (last_or None (live_rows (row ∷ rows))) SubjectSoftDeleted
-row_to_mark (Some (Numbered number)) (row ∷ rows) = found_and if_live (ok_or (chosen_row (Numbered number) (row ∷ rows)) VersionNotFound)
+abbrev pub row_to_soft_delete : Option VersionChoice → List Row → Result Row Code
+row_to_soft_delete None rows = Err InvalidVersion
+row_to_soft_delete (Some choice) [] = Err SubjectNotFound
+row_to_soft_delete (Some Latest) (row ∷ rows) = ok_or (last_or None (live_rows (row ∷ rows))) SubjectSoftDeleted
+row_to_soft_delete (Some (Numbered number)) (row ∷ rows) = found_and require_live (ok_or (chosen_row (Numbered number) (row ∷ rows)) VersionNotFound)
 
 -- The same with `permanent`: the version to remove. (This project's choice: `latest` is the last version, soft-deleted or not.)
-abbrev pub row_to_remove : Option Choice → List Row → Result Row Code
-row_to_remove choice rows = found_and if_deleted (found_row choice rows)
+abbrev pub row_to_remove : Option VersionChoice → List Row → Result Row Code
+row_to_remove choice rows = found_and require_deleted (found_row choice rows)
 
 -- the version to soft-delete, or with `permanent` to remove, or the code of the refusal
-abbrev pub row_to_delete : Bool → Option Choice → List Row → Result Row Code
-row_to_delete false choice rows = row_to_mark choice rows
+abbrev pub row_to_delete : Bool → Option VersionChoice → List Row → Result Row Code
+row_to_delete false choice rows = row_to_soft_delete choice rows
 row_to_delete true choice rows = row_to_remove choice rows
 
 -- Schema Registry API reference, Subjects: the version as a soft deletion leaves it
@@ -60,14 +60,14 @@ abbrev pub without_row : Registry → Row → Registry
 without_row g row = record g { rows = remove g.rows row.0 }
 
 -- the registry with this change of the version that was found, and the version's number as the reply
-abbrev pub version_deleted : (Registry → Row → Registry) → Registry → Result Row Code → Registry × Told
+abbrev pub version_deleted : (Registry → Row → Registry) → Registry → Result Row Code → Registry × ReplyView
 version_deleted change g (Err code) = (g, fault code)
 version_deleted change g (Ok row) = (change g row, answer (number_body row.0.1))
 
 -- Schema Registry API reference, DELETE /subjects/{subject}/versions/{version}: removes a soft-deleted version with `permanent`, and soft-deletes a
 -- version without it
-abbrev pub delete_version : Registry → List ℕ → Option Choice → Bool → Registry × Told
-delete_version g subject choice false = version_deleted with_deleted g (row_to_mark choice (rows_of g subject))
+abbrev pub delete_version : Registry → List ℕ → Option VersionChoice → Bool → Registry × ReplyView
+delete_version g subject choice false = version_deleted with_deleted g (row_to_soft_delete choice (rows_of g subject))
 delete_version g subject choice true = version_deleted without_row g (row_to_remove choice (rows_of g subject))
 
 -- ---- a subject
@@ -86,23 +86,23 @@ abbrev pub without_subject : Registry → List ℕ → Registry
 without_subject g subject = record g { rows = retain_keys g.rows (λ (key : RowKey). not (bytes_eq key.0 subject)); own = own_without g.own subject; own_modes = own_without g.own_modes subject }
 
 -- the numbers of these versions
-abbrev pub numbers_reply : List Row → Told
+abbrev pub numbers_reply : List Row → ReplyView
 numbers_reply rows = answer (numbers_body (map (λ (row : Row). row.0.1) rows))
 
 -- Schema Registry API reference, DELETE /subjects/{subject}, by the subject's versions and its live ones: the reply has the numbers of the live ones.
 -- (This project's choice: if none is live, 40404.)
-abbrev pub soft_delete : Registry → List ℕ → List Row → List Row → Registry × Told
+abbrev pub soft_delete : Registry → List ℕ → List Row → List Row → Registry × ReplyView
 soft_delete g subject [] live = (g, fault SubjectNotFound)
 soft_delete g subject (row ∷ rows) [] = (g, fault SubjectSoftDeleted)
 soft_delete g subject (row ∷ rows) (one ∷ live) = (with_subject_deleted g subject, numbers_reply (one ∷ live))
 
 -- The same with `permanent`: the reply has the numbers of all versions. (This project's choice: if one is live, 40405.)
-abbrev pub remove_subject : Registry → List ℕ → List Row → List Row → Registry × Told
+abbrev pub remove_subject : Registry → List ℕ → List Row → List Row → Registry × ReplyView
 remove_subject g subject [] live = (g, fault SubjectNotFound)
 remove_subject g subject (row ∷ rows) (one ∷ live) = (g, fault SubjectNotSoftDeleted)
 remove_subject g subject (row ∷ rows) [] = (without_subject g subject, numbers_reply (row ∷ rows))
 
 -- Schema Registry API reference, DELETE /subjects/{subject}
-abbrev pub delete_subject : Registry → List ℕ → Bool → Registry × Told
+abbrev pub delete_subject : Registry → List ℕ → Bool → Registry × ReplyView
 delete_subject g subject false = soft_delete g subject (rows_of g subject) (live_rows (rows_of g subject))
 delete_subject g subject true = remove_subject g subject (rows_of g subject) (live_rows (rows_of g subject))

@@ -16,33 +16,33 @@ pub record Evidence : Type 0 where
   pub against : List ℕ
 
 -- the evidence of versions, by subject and number; a version may have none
-abbrev pub EvidenceOf : Type 0
-EvidenceOf = FinMap row_cmp Evidence
+abbrev pub EvidenceMap : Type 0
+EvidenceMap = FinMap row_cmp Evidence
 
 -- only versions have evidence
-abbrev pub IsOfVersions : Registry → EvidenceOf → Type 0
-IsOfVersions g evidence = (key : RowKey) → get g.rows key ≡ None → get evidence key ≡ None
+abbrev pub HasOnlyVersions : Registry → EvidenceMap → Type 0
+HasOnlyVersions g evidence = (key : RowKey) → get g.rows key ≡ None → get evidence key ≡ None
 
 -- ---- whether it is true
 
 -- Schema Evolution and Compatibility, Compatibility Types: the schema with the id goes with the new one, in the directions of the level
-abbrev pub GoesWith : Schemas → Level → List NodeView → ℕ → Type 0
-GoesWith schemas level new id = (earlier : List NodeView) × (schema_at schemas id ≡ Some earlier) × Compatible level earlier new
+abbrev pub IsCompatibleWith : Schemas → Level → List NodeView → ℕ → Type 0
+IsCompatibleWith schemas level new id = (earlier : List NodeView) × (schema_at schemas id ≡ Some earlier) × Compatible level earlier new
 
 -- the evidence of a schema is true: each schema that it names goes with this one
-abbrev pub IsTrueOf : Schemas → List NodeView → Evidence → Type 0
-IsTrueOf schemas new evidence = All (GoesWith schemas evidence.level new) evidence.against
+abbrev pub IsTrueForSchema : Schemas → List NodeView → Evidence → Type 0
+IsTrueForSchema schemas new evidence = All (IsCompatibleWith schemas evidence.level new) evidence.against
 
 -- all that versions have is true
-abbrev pub IsTrueIn : Registry → EvidenceOf → Type 0
-IsTrueIn g evidence = (key : RowKey) (version : Version) (one : Evidence) (nodes : List NodeView) → get g.rows key ≡ Some version → get evidence key ≡ Some one
-    → schema_at g.schemas version.id ≡ Some nodes → IsTrueOf g.schemas nodes one
+abbrev pub IsTrueEvidence : Registry → EvidenceMap → Type 0
+IsTrueEvidence g evidence = (key : RowKey) (version : Version) (one : Evidence) (nodes : List NodeView) → get g.rows key ≡ Some version → get evidence key ≡ Some one
+    → schema_at g.schemas version.id ≡ Some nodes → IsTrueForSchema g.schemas nodes one
 
 -- ---- what a command makes of it
 
 -- what a version of the subject is admitted by that is registered next
-abbrev pub evidence_in : Registry → List ℕ → Evidence
-evidence_in g subject = record {
+abbrev pub next_evidence : Registry → List ℕ → Evidence
+next_evidence g subject = record {
   level = level_in g subject;
   against = map (λ (row : Row). row.1.id) (named_versions (level_in g subject) (live_rows (rows_of g subject)));
 }
@@ -54,9 +54,9 @@ kept_or_new (Some version) (Some after) had own = had
 kept_or_new None (Some after) had own = Some own
 
 -- so it is where the first registry became the second one: a new version has what the first one named
-abbrev pub Becomes : Registry → Registry → EvidenceOf → EvidenceOf → Type 0
-Becomes g after old new = (key : RowKey) → get new key ≡ kept_or_new (get g.rows key) (get after.rows key) (get old key) (evidence_in g key.0)
+abbrev pub IsEvidenceUpdate : Registry → Registry → EvidenceMap → EvidenceMap → Type 0
+IsEvidenceUpdate g after old new = (key : RowKey) → get new key ≡ kept_or_new (get g.rows key) (get after.rows key) (get old key) (next_evidence g key.0)
 
 -- so it is after a command
-abbrev pub IsEvidenceAfter : Registry → Command → EvidenceOf → EvidenceOf → Type 0
-IsEvidenceAfter g command old new = Becomes g (step g command).0 old new
+abbrev pub IsEvidenceAfter : Registry → Command → EvidenceMap → EvidenceMap → Type 0
+IsEvidenceAfter g command old new = IsEvidenceUpdate g (step g command).0 old new

@@ -7,15 +7,15 @@ use Rattle.reg_core.specs.declared.command.Command.TheVariants.{SetGlobal, SetLe
 use Rattle.reg_core.specs.declared.code.Code.TheVariants.{NotPermitted}
 use Rattle.reg_core.specs.declared.mode.Mode.{Mode}
 use Rattle.reg_core.specs.Levels.{level_of}
-use Rattle.reg_core.specs.Modes.{mode_of, is_frozen}
-use Rattle.reg_core.specs.Numbers.{id_in, choice_in}
-use Rattle.reg_core.specs.Replies.{Told, fault}
+use Rattle.reg_core.specs.Modes.{mode_of, is_read_only}
+use Rattle.reg_core.specs.Numbers.{parse_id, parse_choice}
+use Rattle.reg_core.specs.Replies.{ReplyView, fault}
 use Rattle.reg_core.specs.Registry.{Registry}
 use Rattle.reg_core.specs.Rows.{rows_of, shown_rows, text_at, known_id}
-use Rattle.reg_core.specs.Settings.{level_setting, mode_setting, set, value_shown, shown_answer, shown_reply}
+use Rattle.reg_core.specs.Settings.{level_setting, mode_setting, set, own_or_global, setting_answer, shown_reply}
 use Rattle.reg_core.specs.ReadCommands.{types_reply, subjects_reply, versions_reply, found_row, version_reply, version_text_reply, id_reply, id_versions_reply, lookup_reply, rows_with_id}
 use Rattle.reg_core.specs.DeletionCommands.{delete_version, delete_subject}
-use Rattle.reg_core.specs.RegisterCommands.{schema_in, register, check_reply, check_all_reply}
+use Rattle.reg_core.specs.RegisterCommands.{supported_schema, register, check_reply, check_all_reply}
 
 -- RFC 9110, section 9.2.1: whether a command may change the registry
 abbrev pub is_write : Command → Bool
@@ -61,54 +61,54 @@ sends_schema (CheckAll subject text supported) = supported
 sends_schema _ = false
 
 -- Schema Registry API reference, Subjects and Compatibility: the schema that a command sends, if it sends one
-abbrev pub schema_sent : Command → Option (List NodeView)
-schema_sent (Register subject text supported) = schema_in text supported
-schema_sent (Lookup subject text supported deleted) = schema_in text supported
-schema_sent (Check subject version text supported) = schema_in text supported
-schema_sent (CheckAll subject text supported) = schema_in text supported
-schema_sent _ = None
+abbrev pub command_schema : Command → Option (List NodeView)
+command_schema (Register subject text supported) = supported_schema text supported
+command_schema (Lookup subject text supported deleted) = supported_schema text supported
+command_schema (Check subject version text supported) = supported_schema text supported
+command_schema (CheckAll subject text supported) = supported_schema text supported
+command_schema _ = None
 
 -- This project's choice: the mode that may forbid a command, if one may, by its subject's own mode and the global one. A write of a subject
 -- looks at the subject's own mode, else at the global one; the global level is guarded by the global mode alone. No mode forbids to set a mode.
-abbrev pub mode_by : Command → Option Mode → Mode → Option Mode
-mode_by (SetGlobal level) own global = Some global
-mode_by (SetLevel subject level) own global = Some (unwrap_or own global)
-mode_by (Register subject text supported) own global = Some (unwrap_or own global)
-mode_by (DeleteVersion subject version permanent) own global = Some (unwrap_or own global)
-mode_by (DeleteSubject subject permanent) own global = Some (unwrap_or own global)
-mode_by _ own global = None
+abbrev pub governing_mode : Command → Option Mode → Mode → Option Mode
+governing_mode (SetGlobal level) own global = Some global
+governing_mode (SetLevel subject level) own global = Some (unwrap_or own global)
+governing_mode (Register subject text supported) own global = Some (unwrap_or own global)
+governing_mode (DeleteVersion subject version permanent) own global = Some (unwrap_or own global)
+governing_mode (DeleteSubject subject permanent) own global = Some (unwrap_or own global)
+governing_mode _ own global = None
 
 -- this project's choice: the mode of a registry that may forbid a command, if one may
 abbrev pub mode_for : Registry → Command → Option Mode
-mode_for g command = mode_by command (option_and_then g.own_modes (subject_of command)) g.global_mode
+mode_for g command = governing_mode command (option_and_then g.own_modes (subject_of command)) g.global_mode
 
 -- Schema Registry API reference: the registry after a command that is carried out, and the reply
-unfoldable pub carried_out : Registry → Command → Registry × Told
-carried_out g (SetGlobal level) = set level_setting g None (level_of level)
-carried_out g (SetLevel subject level) = set level_setting g (Some subject) (level_of level)
-carried_out g (Register subject text supported) = register g subject (schema_in text supported)
-carried_out g (DeleteVersion subject version permanent) = delete_version g subject (choice_in version) permanent
-carried_out g (DeleteSubject subject permanent) = delete_subject g subject permanent
-carried_out g Global = (g, shown_answer level_setting g.global)
-carried_out g (LevelOf subject default_to_global) = (g, shown_reply level_setting (value_shown (g.own subject) g.global default_to_global))
-carried_out g (Lookup subject text supported deleted) = (g, lookup_reply (text_at g.schemas) (schema_in text supported) (known_id g.schemas (schema_in text supported)) (shown_rows deleted (rows_of g subject)))
-carried_out g (Subjects deleted) = (g, subjects_reply (shown_rows deleted (entries g.rows)))
-carried_out g (Versions subject deleted) = (g, versions_reply (shown_rows deleted (rows_of g subject)))
-carried_out g (Version subject version deleted) = (g, version_reply (text_at g.schemas) (found_row (choice_in version) (shown_rows deleted (rows_of g subject))))
-carried_out g (Text subject version deleted) = (g, version_text_reply (text_at g.schemas) (found_row (choice_in version) (shown_rows deleted (rows_of g subject))))
-carried_out g (ById id) = (g, id_reply (text_at g.schemas) (id_in id) (rows_with_id (id_in id) (entries g.rows)))
-carried_out g (VersionsOfId id deleted) = (g, id_versions_reply (id_in id) deleted (rows_with_id (id_in id) (entries g.rows)))
-carried_out g Types = (g, types_reply)
-carried_out g (Check subject version text supported) = (g, check_reply g subject (choice_in version) (schema_in text supported))
-carried_out g (CheckAll subject text supported) = (g, check_all_reply g subject (schema_in text supported))
-carried_out g (SetGlobalMode mode) = set mode_setting g None (mode_of mode)
-carried_out g (SetMode subject mode) = set mode_setting g (Some subject) (mode_of mode)
-carried_out g GlobalMode = (g, shown_answer mode_setting g.global_mode)
-carried_out g (ModeOf subject default_to_global) = (g, shown_reply mode_setting (value_shown (g.own_modes subject) g.global_mode default_to_global))
+unfoldable pub permitted_step : Registry → Command → Registry × ReplyView
+permitted_step g (SetGlobal level) = set level_setting g None (level_of level)
+permitted_step g (SetLevel subject level) = set level_setting g (Some subject) (level_of level)
+permitted_step g (Register subject text supported) = register g subject (supported_schema text supported)
+permitted_step g (DeleteVersion subject version permanent) = delete_version g subject (parse_choice version) permanent
+permitted_step g (DeleteSubject subject permanent) = delete_subject g subject permanent
+permitted_step g Global = (g, setting_answer level_setting g.global)
+permitted_step g (LevelOf subject default_to_global) = (g, shown_reply level_setting (own_or_global (g.own subject) g.global default_to_global))
+permitted_step g (Lookup subject text supported deleted) = (g, lookup_reply (text_at g.schemas) (supported_schema text supported) (known_id g.schemas (supported_schema text supported)) (shown_rows deleted (rows_of g subject)))
+permitted_step g (Subjects deleted) = (g, subjects_reply (shown_rows deleted (entries g.rows)))
+permitted_step g (Versions subject deleted) = (g, versions_reply (shown_rows deleted (rows_of g subject)))
+permitted_step g (Version subject version deleted) = (g, version_reply (text_at g.schemas) (found_row (parse_choice version) (shown_rows deleted (rows_of g subject))))
+permitted_step g (Text subject version deleted) = (g, version_text_reply (text_at g.schemas) (found_row (parse_choice version) (shown_rows deleted (rows_of g subject))))
+permitted_step g (ById id) = (g, id_reply (text_at g.schemas) (parse_id id) (rows_with_id (parse_id id) (entries g.rows)))
+permitted_step g (VersionsOfId id deleted) = (g, id_versions_reply (parse_id id) deleted (rows_with_id (parse_id id) (entries g.rows)))
+permitted_step g Types = (g, types_reply)
+permitted_step g (Check subject version text supported) = (g, check_reply g subject (parse_choice version) (supported_schema text supported))
+permitted_step g (CheckAll subject text supported) = (g, check_all_reply g subject (supported_schema text supported))
+permitted_step g (SetGlobalMode mode) = set mode_setting g None (mode_of mode)
+permitted_step g (SetMode subject mode) = set mode_setting g (Some subject) (mode_of mode)
+permitted_step g GlobalMode = (g, setting_answer mode_setting g.global_mode)
+permitted_step g (ModeOf subject default_to_global) = (g, shown_reply mode_setting (own_or_global (g.own_modes subject) g.global_mode default_to_global))
 
 -- Schema Registry API reference: the registry after a command, and the reply. (This project's choice: a mode forbids a command before anything else.)
-unfoldable pub step : Registry → Command → Registry × Told
-step g command = if is_frozen (mode_for g command) then (g, fault NotPermitted) else carried_out g command
+unfoldable pub step : Registry → Command → Registry × ReplyView
+step g command = if is_read_only (mode_for g command) then (g, fault NotPermitted) else permitted_step g command
 
 -- this project's choice: the registry after the commands, one after the other
 abbrev pub run_commands : Registry → List Command → Registry

@@ -17,7 +17,7 @@ abbrev pub mode_of : List ℕ → Option Mode
 mode_of text = find (λ mode. bytes_eq text (mode_text mode)) modes
 
 -- Schema Registry API reference, Mode: there is a mode, and it forbids writes
-abbrev pub is_frozen : Option Mode → Bool
-is_frozen (Some Readonly) = true
-is_frozen (Some Readwrite) = false
-is_frozen None = false
+abbrev pub is_read_only : Option Mode → Bool
+is_read_only (Some Readonly) = true
+is_read_only (Some Readwrite) = false
+is_read_only None = false

@@ -10,27 +10,27 @@ use Rattle.reg_core.specs.declared.needs.SubjectRows.{SubjectRows}
 use Rattle.reg_core.specs.declared.needs.SubjectRows.TheVariants.{Every, ToChoose, ToDelete, ToLookUp, ToCompare, ToRegister}
 use Rattle.reg_core.specs.Compatibility.{latest, named_versions}
 use Rattle.reg_core.specs.DeletionCommands.{row_to_delete}
-use Rattle.reg_core.specs.Numbers.{id_in, choice_in}
-use Rattle.reg_core.specs.ReadCommands.{found_row, looked_up, rows_with_id}
+use Rattle.reg_core.specs.Numbers.{parse_id, parse_choice}
+use Rattle.reg_core.specs.ReadCommands.{found_row, lookup_row, rows_with_id}
 use Rattle.reg_core.specs.RegisterCommands.{is_among}
 use Rattle.reg_core.specs.Registry.{Registry, Row}
 use Rattle.reg_core.specs.Rows.{rows_of, shown_rows, live_rows, next_number}
 
 -- Schema Registry API reference: which versions a command looks at, and of those of a subject what for
-abbrev pub rows_asked : Command → RowsNeeded
-rows_asked (Register subject text supported) = OfSubject ToRegister
-rows_asked (DeleteVersion subject version permanent) = OfSubject (ToDelete (choice_in version) permanent)
-rows_asked (DeleteSubject subject permanent) = OfSubject Every
-rows_asked (Lookup subject text supported deleted) = OfSubject (ToLookUp deleted)
-rows_asked (Subjects deleted) = Everything
-rows_asked (Versions subject deleted) = OfSubject Every
-rows_asked (Version subject version deleted) = OfSubject (ToChoose (choice_in version) deleted)
-rows_asked (Text subject version deleted) = OfSubject (ToChoose (choice_in version) deleted)
-rows_asked (ById id) = OneOfId (id_in id)
-rows_asked (VersionsOfId id deleted) = OfId (id_in id)
-rows_asked (Check subject version text supported) = OfSubject (ToChoose (choice_in version) false)
-rows_asked (CheckAll subject text supported) = OfSubject ToCompare
-rows_asked _ = Nothing
+abbrev pub row_needs : Command → RowsNeeded
+row_needs (Register subject text supported) = OfSubject ToRegister
+row_needs (DeleteVersion subject version permanent) = OfSubject (ToDelete (parse_choice version) permanent)
+row_needs (DeleteSubject subject permanent) = OfSubject Every
+row_needs (Lookup subject text supported deleted) = OfSubject (ToLookUp deleted)
+row_needs (Subjects deleted) = Everything
+row_needs (Versions subject deleted) = OfSubject Every
+row_needs (Version subject version deleted) = OfSubject (ToChoose (parse_choice version) deleted)
+row_needs (Text subject version deleted) = OfSubject (ToChoose (parse_choice version) deleted)
+row_needs (ById id) = OneOfId (parse_id id)
+row_needs (VersionsOfId id deleted) = OfId (parse_id id)
+row_needs (Check subject version text supported) = OfSubject (ToChoose (parse_choice version) false)
+row_needs (CheckAll subject text supported) = OfSubject ToCompare
+row_needs _ = Nothing
 
 -- the versions of the subject, deleted ones too, if there is one
 abbrev pub rows_of_any : Registry → Option (List ℕ) → List Row
@@ -43,32 +43,32 @@ rows_needed g subject Nothing = []
 rows_needed g subject Everything = entries g.rows
 rows_needed g subject (OfId id) = rows_with_id id (entries g.rows)
 rows_needed g subject (OneOfId id) = rows_with_id id (entries g.rows)
-rows_needed g subject (OfSubject asked) = rows_of_any g subject
+rows_needed g subject (OfSubject purpose) = rows_of_any g subject
 
 -- This project's choice: these versions of a subject tell of a schema with this id, if it has one, what all do: whether a live one has the id, and
 -- where none has it, the next number and the live ones that the level names
-pub record RegistersAs (level : Level) (known : Option ℕ) (seen all : List Row) : Type 0 where
+pub record SufficeToRegister (level : Level) (known : Option ℕ) (seen all : List Row) : Type 0 where
   pub among : is_among known (live_rows seen) ≡ is_among known (live_rows all)
   pub next : is_among known (live_rows all) ≡ false → next_number seen ≡ next_number all
   pub named : is_among known (live_rows all) ≡ false → named_versions level (live_rows seen) ≡ named_versions level (live_rows all)
 
 -- This project's choice: these versions of a subject tell what all do, under this level, where the schema that is sent has this id, if it has one.
 -- Where few versions tell it, they may leave out the others.
-abbrev pub TellAs : Level → Option ℕ → SubjectRows → List Row → List Row → Type 0
-TellAs level known Every seen all = seen ≡ all
-TellAs level known (ToChoose choice deleted) seen all = found_row choice (shown_rows deleted seen) ≡ found_row choice (shown_rows deleted all)
-TellAs level known (ToDelete choice permanent) seen all = row_to_delete permanent choice seen ≡ row_to_delete permanent choice all
-TellAs level known (ToLookUp deleted) seen all = looked_up known (shown_rows deleted seen) ≡ looked_up known (shown_rows deleted all)
-TellAs level known ToCompare seen all = named_versions level (live_rows seen) ≡ named_versions level (live_rows all)
-TellAs level known ToRegister seen all = RegistersAs level known seen all
+abbrev pub SufficeForSubject : Level → Option ℕ → SubjectRows → List Row → List Row → Type 0
+SufficeForSubject level known Every seen all = seen ≡ all
+SufficeForSubject level known (ToChoose choice deleted) seen all = found_row choice (shown_rows deleted seen) ≡ found_row choice (shown_rows deleted all)
+SufficeForSubject level known (ToDelete choice permanent) seen all = row_to_delete permanent choice seen ≡ row_to_delete permanent choice all
+SufficeForSubject level known (ToLookUp deleted) seen all = lookup_row known (shown_rows deleted seen) ≡ lookup_row known (shown_rows deleted all)
+SufficeForSubject level known ToCompare seen all = named_versions level (live_rows seen) ≡ named_versions level (live_rows all)
+SufficeForSubject level known ToRegister seen all = SufficeToRegister level known seen all
 
 -- This project's choice: these versions give what a command answers and changes as all that it looks at do
-abbrev pub AnswerAs : Level → Option ℕ → RowsNeeded → List Row → List Row → Type 0
-AnswerAs level known Nothing seen all = ⊤
-AnswerAs level known Everything seen all = seen ≡ all
-AnswerAs level known (OfId id) seen all = seen ≡ all
-AnswerAs level known (OneOfId id) seen all = map (λ (row : Row). row.1.id) (latest seen) ≡ map (λ (row : Row). row.1.id) (latest all)
-AnswerAs level known (OfSubject asked) seen all = TellAs level known asked seen all
+abbrev pub SufficeFor : Level → Option ℕ → RowsNeeded → List Row → List Row → Type 0
+SufficeFor level known Nothing seen all = ⊤
+SufficeFor level known Everything seen all = seen ≡ all
+SufficeFor level known (OfId id) seen all = seen ≡ all
+SufficeFor level known (OneOfId id) seen all = map (λ (row : Row). row.1.id) (latest seen) ≡ map (λ (row : Row). row.1.id) (latest all)
+SufficeFor level known (OfSubject purpose) seen all = SufficeForSubject level known purpose seen all
 
 -- Schema Registry API reference, Config and Compatibility: whether a command looks at levels
 abbrev pub needs_levels : Command → Bool

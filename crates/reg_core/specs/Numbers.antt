@@ -3,8 +3,8 @@ use Rattle.std.specs.Prelude.{ℕ, ◌==◌, ◌&&◌, Bool, not, List, length, 
 use Rattle.std.specs.Char.{is_ascii_digit}
 use Rattle.std.specs.List.{list_all}
 use Rattle.std.specs.Str.Parse.{digits_value}
-use Rattle.reg_core.specs.declared.number.Choice.{Choice}
-use Rattle.reg_core.specs.declared.number.Choice.TheVariants.{Latest, Numbered}
+use Rattle.reg_core.specs.declared.number.VersionChoice.{VersionChoice}
+use Rattle.reg_core.specs.declared.number.VersionChoice.TheVariants.{Latest, Numbered}
 use Rattle.reg_core.specs.Registry.{max_number}
 
 -- decimal digits, the first of which isn't 0
@@ -12,13 +12,13 @@ abbrev pub is_number : List ℕ → Bool
 is_number text = nat_lt 0 (length text) && not (slice_index text 0 == 48) && list_all is_ascii_digit text
 
 -- the number that a text writes in decimal digits without a leading zero, where it is no greater than the limit
-abbrev pub number_up_to : ℕ → List ℕ → Option ℕ
-number_up_to limit text = if is_number text && nat_le (digits_value 10 text) limit then Some (digits_value 10 text) else None
+abbrev pub parse_number : ℕ → List ℕ → Option ℕ
+parse_number limit text = if is_number text && nat_le (digits_value 10 text) limit then Some (digits_value 10 text) else None
 
 -- Schema Registry API reference, Schemas: the id that a text spells (this project's choice: 1 to 2^31 - 1, with no leading zero)
-abbrev pub id_in : List ℕ → Option ℕ
-id_in text = number_up_to max_number text
+abbrev pub parse_id : List ℕ → Option ℕ
+parse_id text = parse_number max_number text
 
 -- Schema Registry API reference, Subjects: the version that a text chooses, `latest` or a number
-abbrev pub choice_in : List ℕ → Option Choice
-choice_in text = if bytes_eq text (codes "latest") then Some Latest else option_map Numbered (number_up_to max_number text)
+abbrev pub parse_choice : List ℕ → Option VersionChoice
+parse_choice text = if bytes_eq text (codes "latest") then Some Latest else option_map Numbered (parse_number max_number text)

@@ -8,17 +8,17 @@ use Rattle.avro_schema.specs.DenotedNodes.{denoted_nodes}
 use Rattle.reg_core.specs.declared.level.Level.{Level}
 use Rattle.reg_core.specs.declared.code.Code.{Code}
 use Rattle.reg_core.specs.declared.code.Code.TheVariants.{InvalidSchema, InvalidVersion, Incompatible, NoNumberLeft}
-use Rattle.reg_core.specs.declared.number.Choice.{Choice}
+use Rattle.reg_core.specs.declared.number.VersionChoice.{VersionChoice}
 use Rattle.reg_core.specs.Registry.{Registry, Row, Schemas, max_number}
-use Rattle.reg_core.specs.Replies.{Told, answer, fault}
+use Rattle.reg_core.specs.Replies.{ReplyView, answer, fault}
 use Rattle.reg_core.specs.Rows.{rows_of, live_rows, next_number, id_of, schemas_of}
 use Rattle.reg_core.specs.ReadCommands.{rows_with_id, found_row}
 use Rattle.reg_core.specs.Bodies.{id_body, verdict_body}
 use Rattle.reg_core.specs.Verdicts.{is_admitted}
 
 -- Schema Registry API reference, Subjects: the schema of a body, if its type is supported and its text denotes one
-unfoldable pub schema_in : List ℕ → Bool → Option (List NodeView)
-schema_in text supported = if supported then denoted_nodes text else None
+unfoldable pub supported_schema : List ℕ → Bool → Option (List NodeView)
+supported_schema text supported = if supported then denoted_nodes text else None
 
 -- Schema Registry API reference, Compatibility: the subject's own level, else the global one
 abbrev pub level_in : Registry → List ℕ → Level
@@ -46,7 +46,7 @@ with_version g subject new = record g {
 }
 
 -- Schema Registry API reference, POST /subjects/{subject}/versions: the tests, in their order: a live version has the schema; the level admits it; a number is left
-abbrev pub registered : Registry → List ℕ → List NodeView → Bool → Bool → Bool → Registry × Told
+abbrev pub registered : Registry → List ℕ → List NodeView → Bool → Bool → Bool → Registry × ReplyView
 registered g subject new true admitted left = (g, answer (id_body (id_for g.schemas new)))
 registered g subject new false false left = (g, fault Incompatible)
 registered g subject new false true false = (g, fault NoNumberLeft)
@@ -57,30 +57,30 @@ abbrev pub is_among : Option ℕ → List Row → Bool
 is_among id rows = nat_lt 0 (length (rows_with_id id rows))
 
 -- this project's choice: the subject's next number and the schema's id are within the limit
-abbrev pub has_numbers : Registry → List ℕ → List NodeView → Bool
-has_numbers g subject new = nat_le (next_number (rows_of g subject)) max_number && nat_le (id_for g.schemas new) max_number
+abbrev pub has_numbers_left : Registry → List ℕ → List NodeView → Bool
+has_numbers_left g subject new = nat_le (next_number (rows_of g subject)) max_number && nat_le (id_for g.schemas new) max_number
 
 -- Schema Registry API reference, POST /subjects/{subject}/versions
-abbrev pub register : Registry → List ℕ → Option (List NodeView) → Registry × Told
+abbrev pub register : Registry → List ℕ → Option (List NodeView) → Registry × ReplyView
 register g subject None = (g, fault InvalidSchema)
 register g subject (Some new) =
     let live = live_rows (rows_of g subject) in
-    registered g subject new (is_among (id_of g.schemas (identity new)) live) (is_admitted_after g.schemas (level_in g subject) live new) (has_numbers g subject new)
+    registered g subject new (is_among (id_of g.schemas (identity new)) live) (is_admitted_after g.schemas (level_in g subject) live new) (has_numbers_left g subject new)
 
 -- ---- Check
 
 -- Schema Registry API reference, POST /compatibility/subjects/{subject}/versions: whether the level would admit the schema
-abbrev pub check_all_reply : Registry → List ℕ → Option (List NodeView) → Told
+abbrev pub check_all_reply : Registry → List ℕ → Option (List NodeView) → ReplyView
 check_all_reply g subject None = fault InvalidSchema
 check_all_reply g subject (Some new) = answer (verdict_body (is_admitted_after g.schemas (level_in g subject) (live_rows (rows_of g subject)) new))
 
 -- the verdict on one version, or why there is none
-abbrev pub verdict_reply : Registry → List ℕ → List NodeView → Result Row Code → Told
+abbrev pub verdict_reply : Registry → List ℕ → List NodeView → Result Row Code → ReplyView
 verdict_reply g subject new (Err code) = fault code
 verdict_reply g subject new (Ok row) = answer (verdict_body (is_admitted_after g.schemas (level_in g subject) (row ∷ []) new))
 
 -- Schema Registry API reference, POST /compatibility/subjects/{subject}/versions/{version}: by the subject's level, against that live version alone
-abbrev pub check_reply : Registry → List ℕ → Option Choice → Option (List NodeView) → Told
+abbrev pub check_reply : Registry → List ℕ → Option VersionChoice → Option (List NodeView) → ReplyView
 check_reply g subject None schema = fault InvalidVersion
 check_reply g subject (Some choice) None = fault InvalidSchema
 check_reply g subject (Some choice) (Some new) = verdict_reply g subject new (found_row (Some choice) (live_rows (rows_of g subject)))

@@ -6,7 +6,7 @@ use Rattle.reg_core.specs.declared.code.Code.TheVariants.{KeyReused}
 use Rattle.reg_core.specs.Codes.{status_of, fault_body}
 
 -- RFC 9110, section 15: a status, and the bytes of the body
-pub record Told : Type 0 where
+pub record ReplyView : Type 0 where
   pub status : ℕ
   pub body : List ℕ
 
@@ -27,15 +27,15 @@ abbrev pub IsKeptStatus : ℕ → Type 0
 IsKeptStatus n = IsTrue (list_any (λ status. n == status) kept_statuses)
 
 -- RFC 9110, section 15.3.1: what a command answers that isn't refused
-abbrev pub answer : List ℕ → Told
+abbrev pub answer : List ℕ → ReplyView
 answer body = record { status = 200; body = body }
 
 -- Schema Registry API reference, errors: the reply for a code
-abbrev pub fault : Code → Told
+abbrev pub fault : Code → ReplyView
 fault code = record { status = status_of code; body = fault_body code }
 
 -- This project's choice: a reply of the registry's own rules has one of the four statuses, so it reports no fault of memory or disk. It also isn't the
 -- reply for a retry key that came with another command.
-pub record IsOwnReply (reply : Told) : Type 0 where
+pub record IsCommandReply (reply : ReplyView) : Type 0 where
   pub kept : IsKeptStatus reply.status
   pub no_reused_key : reply ≢ fault KeyReused

@@ -4,8 +4,8 @@ use Rattle.std.specs.List.{last_or, filter_map}
 use Rattle.std.specs.FinMap.{entries}
 use Rattle.avro_nodes.specs.Nodes.{NodeView}
 use Rattle.avro_nodes.specs.Identity.{identity}
-use Rattle.reg_core.specs.declared.number.Choice.{Choice}
-use Rattle.reg_core.specs.declared.number.Choice.TheVariants.{Latest, Numbered}
+use Rattle.reg_core.specs.declared.number.VersionChoice.{VersionChoice}
+use Rattle.reg_core.specs.declared.number.VersionChoice.TheVariants.{Latest, Numbered}
 use Rattle.reg_core.specs.Registry.{Registry, Row, Schemas, schema_at}
 
 -- ---- versions
@@ -27,7 +27,7 @@ abbrev pub live_rows : List Row → List Row
 live_rows rows = filter (λ (row : Row). not row.1.deleted) rows
 
 -- Schema Registry API reference, Subjects: the version that is chosen among these
-abbrev pub chosen_row : Choice → List Row → Option Row
+abbrev pub chosen_row : VersionChoice → List Row → Option Row
 chosen_row Latest rows = last_or None rows
 chosen_row (Numbered number) rows = find (λ (row : Row). row.0.1 == number) rows
 

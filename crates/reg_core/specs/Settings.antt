@@ -9,7 +9,7 @@ use Rattle.reg_core.specs.declared.code.Code.{Code}
 use Rattle.reg_core.specs.declared.code.Code.TheVariants.{InvalidLevel, NoOwnLevel, InvalidMode, NoOwnMode}
 use Rattle.reg_core.specs.Levels.{level_of, level_text}
 use Rattle.reg_core.specs.Modes.{mode_of, mode_text}
-use Rattle.reg_core.specs.Replies.{Told, answer, fault}
+use Rattle.reg_core.specs.Replies.{ReplyView, answer, fault}
 use Rattle.reg_core.specs.Registry.{Registry, own_with}
 
 -- Schema Registry API reference, Config and Mode: how values are spelt, and which one a text spells; the registry with a value, of the subject's own
@@ -19,8 +19,8 @@ pub record Setting (A : Type 0) : Type 0 where
   pub text_of : A → List ℕ
   pub value_of : List ℕ → Option A
   pub put : Registry → Option (List ℕ) → A → Registry
-  pub name_set : List ℕ
-  pub name_shown : List ℕ
+  pub member_in_put : List ℕ
+  pub member_in_get : List ℕ
   pub unknown : Code
   pub absent : Code
 
@@ -29,22 +29,22 @@ abbrev pub setting_object : List ℕ → List ℕ → List ℕ
 setting_object name text = compact_text (object (member name (string text) no_members))
 
 -- Schema Registry API reference, PUT /config and PUT /config/{subject}: a text that spells none is refused, else the value is set and answered
-abbrev pub set : {A : Type 0} → Setting A → Registry → Option (List ℕ) → Option A → Registry × Told
+abbrev pub set : {A : Type 0} → Setting A → Registry → Option (List ℕ) → Option A → Registry × ReplyView
 set s g subject None = (g, fault s.unknown)
-set s g subject (Some value) = (s.put g subject value, answer (setting_object s.name_set (s.text_of value)))
+set s g subject (Some value) = (s.put g subject value, answer (setting_object s.member_in_put (s.text_of value)))
 
 -- Schema Registry API reference, GET /config: the value is answered
-abbrev pub shown_answer : {A : Type 0} → Setting A → A → Told
-shown_answer s value = answer (setting_object s.name_shown (s.text_of value))
+abbrev pub setting_answer : {A : Type 0} → Setting A → A → ReplyView
+setting_answer s value = answer (setting_object s.member_in_get (s.text_of value))
 
 -- Schema Registry API reference, GET /config/{subject}: the subject's own value, else the global one where `defaultToGlobal` asks for it
-abbrev pub value_shown : {A : Type 0} → Option A → A → Bool → Option A
-value_shown own global default_to_global = option_or own (if default_to_global then Some global else None)
+abbrev pub own_or_global : {A : Type 0} → Option A → A → Bool → Option A
+own_or_global own global default_to_global = option_or own (if default_to_global then Some global else None)
 
 -- Schema Registry API reference, GET /config/{subject}: a value is answered; where there is none, that is a fault
-abbrev pub shown_reply : {A : Type 0} → Setting A → Option A → Told
+abbrev pub shown_reply : {A : Type 0} → Setting A → Option A → ReplyView
 shown_reply s None = fault s.absent
-shown_reply s (Some value) = shown_answer s value
+shown_reply s (Some value) = setting_answer s value
 
 -- ---- levels
 
@@ -60,8 +60,8 @@ level_setting = record {
   text_of = level_text;
   value_of = level_of;
   put = with_level;
-  name_set = codes "compatibility";
-  name_shown = codes "compatibilityLevel";
+  member_in_put = codes "compatibility";
+  member_in_get = codes "compatibilityLevel";
   unknown = InvalidLevel;
   absent = NoOwnLevel;
 }
@@ -80,8 +80,8 @@ mode_setting = record {
   text_of = mode_text;
   value_of = mode_of;
   put = with_mode;
-  name_set = codes "mode";
-  name_shown = codes "mode";
+  member_in_put = codes "mode";
+  member_in_get = codes "mode";
   unknown = InvalidMode;
   absent = NoOwnMode;
 }

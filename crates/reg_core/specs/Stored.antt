@@ -1,6 +1,6 @@
 -- What is stored (this project's choice).
 use Rattle.std.specs.FinMap.{empty}
-use Rattle.reg_core.specs.Evidence.{EvidenceOf, IsTrueIn}
+use Rattle.reg_core.specs.Evidence.{EvidenceMap, IsTrueEvidence}
 use Rattle.reg_core.specs.KeptReplies.{Kept, nothing_kept}
 use Rattle.reg_core.specs.Registry.{Registry, new_registry}
 
@@ -8,7 +8,7 @@ use Rattle.reg_core.specs.Registry.{Registry, new_registry}
 pub record Stored : Type 0 where
   pub registry : Registry
   pub replies : Kept
-  pub evidence : EvidenceOf
+  pub evidence : EvidenceMap
 
 -- a new registry: it keeps no reply, and has no version
 abbrev pub new_stored : Stored
@@ -16,4 +16,4 @@ new_stored = record { registry = new_registry; replies = nothing_kept; evidence 
 
 -- what its versions were admitted by is true
 abbrev pub HasTrueEvidence : Stored → Type 0
-HasTrueEvidence was = IsTrueIn was.registry was.evidence
+HasTrueEvidence was = IsTrueEvidence was.registry was.evidence

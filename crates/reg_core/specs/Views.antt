@@ -15,18 +15,18 @@ use Rattle.reg_core.specs.declared.decision.View.{View}
 use Rattle.reg_core.specs.declared.decision.Decision.{Decision}
 use Rattle.reg_core.specs.declared.decision.Change.{Change}
 use Rattle.reg_core.specs.declared.decision.Change.TheVariants as change
-use Rattle.reg_core.specs.Numbers.{choice_in}
+use Rattle.reg_core.specs.Numbers.{parse_choice}
 use Rattle.reg_core.specs.Registry.{Registry, IsRegistry, Row, RowKey, Rows, IsRow, Schemas, max_number, schema_at, own_with, own_without}
 use Rattle.reg_core.specs.Registry as registry
 use Rattle.reg_core.specs.DeletionCommands.{as_deleted}
 use Rattle.reg_core.specs.Rows.{shown_rows, live_rows, known_id, id_of, text_at}
-use Rattle.reg_core.specs.ReadCommands.{found_row, looked_up}
+use Rattle.reg_core.specs.ReadCommands.{found_row, lookup_row}
 use Rattle.reg_core.specs.RegisterCommands.{is_among}
-use Rattle.reg_core.specs.Replies.{IsOwnReply}
+use Rattle.reg_core.specs.Replies.{IsCommandReply}
 use Rattle.reg_core.specs.Compatibility.{latest, named_versions}
-use Rattle.reg_core.specs.Needs.{rows_asked, rows_needed, needs_levels, needs_modes, needs_count, AnswerAs}
-use Rattle.reg_core.specs.Evidence.{Evidence, EvidenceOf, IsOfVersions, IsEvidenceAfter, IsTrueOf, evidence_in}
-use Rattle.reg_core.specs.Machine.{is_write, subject_of, sends_schema, schema_sent, mode_by, step}
+use Rattle.reg_core.specs.Needs.{row_needs, rows_needed, needs_levels, needs_modes, needs_count, SufficeFor}
+use Rattle.reg_core.specs.Evidence.{Evidence, EvidenceMap, HasOnlyVersions, IsEvidenceAfter, IsTrueForSchema, next_evidence}
+use Rattle.reg_core.specs.Machine.{is_write, subject_of, sends_schema, command_schema, governing_mode, step}
 
 -- ---- views
 
@@ -35,54 +35,54 @@ abbrev pub level_of_view : View → Level
 level_of_view view = unwrap_or view.own view.global
 
 -- this project's choice: the mode that may forbid a command, if one may, as a view has it
-abbrev pub mode_seen : View → Command → Option Mode
-mode_seen view command = mode_by command view.own_mode view.global_mode
+abbrev pub mode_of_view : View → Command → Option Mode
+mode_of_view view command = governing_mode command view.own_mode view.global_mode
 
 -- the version that was found, if one was
-abbrev pub row_found : {E : Type 0} → Result Row E → List Row
-row_found (Ok row) = row ∷ []
-row_found (Err code) = []
+abbrev pub found_as_list : {E : Type 0} → Result Row E → List Row
+found_as_list (Ok row) = row ∷ []
+found_as_list (Err code) = []
 
 -- Schema Registry API reference: the versions of a view whose schemas a command shows, or compares with the one that it sends
-abbrev pub rows_read : Command → View → List Row
-rows_read (Register subject text supported) view =
+abbrev pub rows_to_read : Command → View → List Row
+rows_to_read (Register subject text supported) view =
     let live = live_rows view.rows.items in
     if is_among view.known live then [] else named_versions (level_of_view view) live
-rows_read (Lookup subject text supported deleted) view = row_found (looked_up view.known (shown_rows deleted view.rows.items))
-rows_read (Version subject version deleted) view = row_found (found_row (choice_in version) (shown_rows deleted view.rows.items))
-rows_read (Text subject version deleted) view = row_found (found_row (choice_in version) (shown_rows deleted view.rows.items))
-rows_read (ById id) view = latest view.rows.items
-rows_read (Check subject version text supported) view = named_versions (level_of_view view) (row_found (found_row (choice_in version) (live_rows view.rows.items)))
-rows_read (CheckAll subject text supported) view = named_versions (level_of_view view) (live_rows view.rows.items)
-rows_read _ view = []
+rows_to_read (Lookup subject text supported deleted) view = found_as_list (lookup_row view.known (shown_rows deleted view.rows.items))
+rows_to_read (Version subject version deleted) view = found_as_list (found_row (parse_choice version) (shown_rows deleted view.rows.items))
+rows_to_read (Text subject version deleted) view = found_as_list (found_row (parse_choice version) (shown_rows deleted view.rows.items))
+rows_to_read (ById id) view = latest view.rows.items
+rows_to_read (Check subject version text supported) view = named_versions (level_of_view view) (found_as_list (found_row (parse_choice version) (live_rows view.rows.items)))
+rows_to_read (CheckAll subject text supported) view = named_versions (level_of_view view) (live_rows view.rows.items)
+rows_to_read _ view = []
 
 -- Schema Registry API reference, Schemas: the text that a view has for an id
-abbrev pub text_in : View → ℕ → Option (List ℕ)
-text_in view id = option_map string_bytes (tree.get nat_cmp view.texts id)
+abbrev pub view_text : View → ℕ → Option (List ℕ)
+view_text view id = option_map string_bytes (tree.get nat_cmp view.texts id)
 
 -- this project's choice: if the command sends a text of a supported type, this is the identity text of its schema
-abbrev pub IsTextSent : Command → Option (List ℕ) → Type 0
-IsTextSent command text = IsTrue (sends_schema command) → text ≡ option_map identity (schema_sent command)
+abbrev pub IsCommandIdentity : Command → Option (List ℕ) → Type 0
+IsCommandIdentity command text = IsTrue (sends_schema command) → text ≡ option_map identity (command_schema command)
 
 -- This project's choice: the view shows what the command needs of the registry. More may be there, but no text that isn't the id's.
 pub record IsViewOf (view : View) (g : Registry) (command : Command) : Type 0 where
-  pub rows : AnswerAs (level_of_view view) view.known (rows_asked command) view.rows.items (rows_needed g (subject_of command) (rows_asked command))
+  pub rows : SufficeFor (level_of_view view) view.known (row_needs command) view.rows.items (rows_needed g (subject_of command) (row_needs command))
   pub levels : IsTrue (needs_levels command) → (view.own ≡ option_and_then g.own (subject_of command)) × (view.global ≡ g.global)
   pub modes : IsTrue (needs_modes command) → (view.own_mode ≡ option_and_then g.own_modes (subject_of command)) × (view.global_mode ≡ g.global_mode)
-  pub known : IsTrue (sends_schema command) → view.known ≡ known_id g.schemas (schema_sent command)
+  pub known : IsTrue (sends_schema command) → view.known ≡ known_id g.schemas (command_schema command)
   pub count : IsTrue (needs_count command) → view.count ≡ length g.schemas
-  pub texts : All (λ (row : Row). text_in view row.1.id ≡ text_at g.schemas row.1.id) (rows_read command view)
-  pub true_texts : (id : ℕ) (text : List ℕ) → text_in view id ≡ Some text → text_at g.schemas id ≡ Some text
+  pub texts : All (λ (row : Row). view_text view row.1.id ≡ text_at g.schemas row.1.id) (rows_to_read command view)
+  pub true_texts : (id : ℕ) (text : List ℕ) → view_text view id ≡ Some text → text_at g.schemas id ≡ Some text
 
 -- this project's choice: what a decision stands on: a registry, the schema that the command sends, and a view
-pub record IsGround (g : Registry) (command : Command) (schema : Option (List NodeView)) (view : View) : Type 0 where
+pub record IsDecisionInput (g : Registry) (command : Command) (schema : Option (List NodeView)) (view : View) : Type 0 where
   pub registry : IsRegistry g
-  pub sent : schema ≡ schema_sent command
+  pub sent : schema ≡ command_schema command
   pub shows : IsViewOf view g command
 
 -- this project's choice: what a command takes of the schema that is lent beside it: none where it sends none of a type that is supported
-abbrev pub schema_taken : Command → Option (List NodeView) → Option (List NodeView)
-schema_taken command schema = if sends_schema command then schema else None
+abbrev pub used_schema : Command → Option (List NodeView) → Option (List NodeView)
+used_schema command schema = if sends_schema command then schema else None
 
 -- ---- changes
 
@@ -109,7 +109,7 @@ after_changes [] g = g
 after_changes (change ∷ changes) g = after_changes changes (after_change change g)
 
 -- this project's choice: the evidence after one change: a new version comes with its own, and one that is removed takes its own along
-abbrev pub evidence_after_change : Change → EvidenceOf → EvidenceOf
+abbrev pub evidence_after_change : Change → EvidenceMap → EvidenceMap
 evidence_after_change (change.SetGlobal level) evidence = evidence
 evidence_after_change (change.SetLevel subject level) evidence = evidence
 evidence_after_change (change.AddText id text) evidence = evidence
@@ -122,7 +122,7 @@ evidence_after_change (change.SetMode subject mode) evidence = evidence
 evidence_after_change (change.DropMode subject) evidence = evidence
 
 -- this project's choice: the evidence after the changes, one after the other
-abbrev pub evidence_after_changes : List Change → EvidenceOf → EvidenceOf
+abbrev pub evidence_after_changes : List Change → EvidenceMap → EvidenceMap
 evidence_after_changes [] evidence = evidence
 evidence_after_changes (change ∷ changes) evidence = evidence_after_changes changes (evidence_after_change change evidence)
 
@@ -142,8 +142,8 @@ pub record IsNewRow (g : Registry) (row : Row) : Type 0 where
 
 -- this project's choice: what a new version comes with is what the registry names for it, and it is true of the version's schema
 pub record IsNewEvidence (g : Registry) (row : Row) (evidence : Evidence) : Type 0 where
-  pub named : evidence ≡ evidence_in g row.0.0
-  pub holds : (nodes : List NodeView) → schema_at g.schemas row.1.id ≡ Some nodes → IsTrueOf g.schemas nodes evidence
+  pub named : evidence ≡ next_evidence g row.0.0
+  pub holds : (nodes : List NodeView) → schema_at g.schemas row.1.id ≡ Some nodes → IsTrueForSchema g.schemas nodes evidence
 
 -- this project's choice: the registry can have the change
 abbrev pub ChangeFits : Change → Registry → Type 0
@@ -168,11 +168,11 @@ ChangesFit (change ∷ changes) g = ChangeFits change g × ChangesFit changes (a
 -- This project's choice: on each ground a decision tells and changes what the plain machine does, the evidence of versions too, and the registry can
 -- have each change, at its turn.
 -- A read changes nothing, and a refusal neither. The reply is no fault of the backend, and doesn't say that a key was used for another request.
-pub record Decides (command : Command) (schema : Option (List NodeView)) (view : View) (decision : Decision) : Type 0 where
-  pub reply : (g : Registry) → IsGround g command (schema_taken command schema) view → decision.reply ≡ (step g command).1
-  pub changes : (g : Registry) → IsGround g command (schema_taken command schema) view → after_changes decision.changes.items g ≡ (step g command).0
-  pub evidence : (g : Registry) → IsGround g command (schema_taken command schema) view → (had : EvidenceOf) → IsOfVersions g had → IsEvidenceAfter g command had (evidence_after_changes decision.changes.items had)
-  pub fit : (g : Registry) → IsGround g command (schema_taken command schema) view → ChangesFit decision.changes.items g
+pub record IsDecisionFor (command : Command) (schema : Option (List NodeView)) (view : View) (decision : Decision) : Type 0 where
+  pub reply : (g : Registry) → IsDecisionInput g command (used_schema command schema) view → decision.reply ≡ (step g command).1
+  pub changes : (g : Registry) → IsDecisionInput g command (used_schema command schema) view → after_changes decision.changes.items g ≡ (step g command).0
+  pub evidence : (g : Registry) → IsDecisionInput g command (used_schema command schema) view → (had : EvidenceMap) → HasOnlyVersions g had → IsEvidenceAfter g command had (evidence_after_changes decision.changes.items had)
+  pub fit : (g : Registry) → IsDecisionInput g command (used_schema command schema) view → ChangesFit decision.changes.items g
   pub read : is_write command ≡ false → decision.changes.items ≡ []
   pub refusal : decision.reply.status ≢ 200 → decision.changes.items ≡ []
-  pub own : IsOwnReply decision.reply
+  pub own : IsCommandReply decision.reply

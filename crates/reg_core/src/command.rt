@@ -2,7 +2,7 @@
 
 ghost use Rattle.std.specs.Prelude.{◌≡◌, option_and_then, option_copied};
 ghost use Rattle.avro_schema.specs.DenotedNodes.{denoted_nodes};
-ghost use Rattle.reg_core.specs.Machine.{is_write, schema_sent, sends_schema, subject_of};
+ghost use Rattle.reg_core.specs.Machine.{is_write, command_schema, sends_schema, subject_of};
 
 use crate::subject::Subject;
 use crate::text::Text;
@@ -184,9 +184,9 @@ impl Command {
     }
 
     /// The text of the schema that the command sends, if it sends one that is supported.
-    #[tactic(auto, unfolding(crate::specs::RegisterCommands::schema_in))]
+    #[tactic(auto, unfolding(crate::specs::RegisterCommands::supported_schema))]
     pub fn schema_text(&self) -> Option<&Text>
-        ensures { option_and_then denoted_nodes (option_copied result) ≡ schema_sent self.now }
+        ensures { option_and_then denoted_nodes (option_copied result) ≡ command_schema self.now }
     {
         match self {
             Command::Register {

@@ -2,21 +2,21 @@
 
 ghost use Rattle.std.specs.Prelude.{◌≡◌, ◌≢◌, [], false, IfOk, option_copied, option_map};
 ghost use Rattle.avro_nodes.specs.Nodes.{nodes_view};
-ghost use Rattle.reg_core.specs.Inside.Evidence.{TellEvidence};
-ghost use Rattle.reg_core.specs.Machine.{carried_out, is_write};
+ghost use Rattle.reg_core.specs.Inside.Evidence.{UpdateEvidence};
+ghost use Rattle.reg_core.specs.Machine.{permitted_step, is_write};
 ghost use Rattle.reg_core.specs.Registry.{Registry};
-ghost use Rattle.reg_core.specs.Replies.{IsOwnReply};
-ghost use Rattle.reg_core.specs.Views.{ChangesFit, Decides, IsGround, after_changes, schema_taken};
+ghost use Rattle.reg_core.specs.Replies.{IsCommandReply};
+ghost use Rattle.reg_core.specs.Views.{ChangesFit, IsDecisionFor, IsDecisionInput, after_changes, used_schema};
 
 use crate::code::Code;
 use crate::command::Command;
 use crate::decision::deleting::{delete_subject, delete_version};
-use crate::decision::modes::is_frozen;
+use crate::decision::modes::is_read_only;
 use crate::decision::reading::{
     by_id, lookup, subjects, types, version, version_text, versions, versions_of_id,
 };
 use crate::decision::registering::{check, check_all, register};
-use crate::decision::settings::{set, shown_answer, shown_reply, value_shown};
+use crate::decision::settings::{own_or_global, set, setting_answer, shown_reply};
 use crate::evidence::Evidence;
 use crate::level::Level;
 use crate::mode::Mode;
@@ -26,7 +26,7 @@ use crate::subject::Subject;
 use crate::text::Text;
 use avro_nodes::OutOfMemory;
 use avro_schema::Schema;
-use schema_memory::Memory;
+use schema_cache::SchemaCache;
 use std::alloc::Global;
 use std::collections::BTreeMap;
 
@@ -41,8 +41,8 @@ mod registering;
 mod rows;
 mod settings;
 
-pub use comparing::{goes_with, schema_of};
-pub use needs::ids_read;
+pub use comparing::{is_compatible_with, schema_of};
+pub use needs::ids_to_read;
 
 /// What a command needs to know of the registry. The rest may be anything.
 #[derive(Drop)]
@@ -114,9 +114,9 @@ pub fn decide(
     command: &Command,
     schema: Option<&Schema>,
 ) -> Result<Decision, OutOfMemory>
-    ensures { IfOk result (Decides command.now (option_map nodes_view (option_copied schema.entry)) view.now) }
+    ensures { IfOk result (IsDecisionFor command.now (option_map nodes_view (option_copied schema.entry)) view.now) }
 {
-    decide_with(alloc, view, command, schema, None)
+    decide_with_cache(alloc, view, command, schema, None)
 }
 
 /// The same, where schemas that are remembered aren't read again. The memory changes nothing of the
@@ -125,66 +125,66 @@ pub fn decide(
 /// # Errors
 ///
 /// `OutOfMemory` where memory for the changes, for the reply or for a comparison is refused.
-pub fn decide_with(
+pub fn decide_with_cache(
     alloc: Global,
     view: &View,
     command: &Command,
     schema: Option<&Schema>,
-    memory: Option<&mut Memory>,
+    cache: Option<&mut SchemaCache>,
 ) -> Result<Decision, OutOfMemory>
-    ensures { IfOk result (Decides command.now (option_map nodes_view (option_copied schema.entry)) view.now) }
+    ensures { IfOk result (IsDecisionFor command.now (option_map nodes_view (option_copied schema.entry)) view.now) }
 {
-    if is_frozen(view, command) {
+    if is_read_only(view, command) {
         return Ok(unchanged(alloc, Reply::fault(Code::NotPermitted)));
     }
-    carry_out(alloc, view, command, taken(command, schema), memory)
+    decide_permitted(alloc, view, command, schema_if_sent(command, schema), cache)
 }
 
 /// The schema, if the command sends one of a type that is supported.
-fn taken<'a>(command: &Command, schema: Option<&'a Schema>) -> Option<&'a Schema>
+fn schema_if_sent<'a>(command: &Command, schema: Option<&'a Schema>) -> Option<&'a Schema>
     ensures { option_map nodes_view (option_copied result)
-        ≡ schema_taken command.now (option_map nodes_view (option_copied schema.entry)) }
+        ≡ used_schema command.now (option_map nodes_view (option_copied schema.entry)) }
 {
     if command.sends_schema() { schema } else { None }
 }
 
 /// What a command does that no mode forbids.
-#[tactic(auto, unfolding(crate::specs::Machine::carried_out))]
-fn carry_out(
+#[tactic(auto, unfolding(crate::specs::Machine::permitted_step))]
+fn decide_permitted(
     alloc: Global,
     view: &View,
     command: &Command,
     schema: Option<&Schema>,
-    memory: Option<&mut Memory>,
+    cache: Option<&mut SchemaCache>,
 ) -> Result<Decision, OutOfMemory>
     ensures reply { IfOk result (λ decision. (g : Registry)
-        → IsGround g command.now (option_map nodes_view (option_copied schema.entry)) view.now
-        → decision.reply ≡ (carried_out g command.now).1) }
+        → IsDecisionInput g command.now (option_map nodes_view (option_copied schema.entry)) view.now
+        → decision.reply ≡ (permitted_step g command.now).1) }
     ensures changes { IfOk result (λ decision. (g : Registry)
-        → IsGround g command.now (option_map nodes_view (option_copied schema.entry)) view.now
-        → after_changes decision.changes.items g ≡ (carried_out g command.now).0) }
+        → IsDecisionInput g command.now (option_map nodes_view (option_copied schema.entry)) view.now
+        → after_changes decision.changes.items g ≡ (permitted_step g command.now).0) }
 
     // The registry can have each change, at its turn.
     ensures fit { IfOk result (λ decision. (g : Registry)
-        → IsGround g command.now (option_map nodes_view (option_copied schema.entry)) view.now
+        → IsDecisionInput g command.now (option_map nodes_view (option_copied schema.entry)) view.now
         → ChangesFit decision.changes.items g) }
 
     // What versions were admitted by goes with them, and a new one comes with its own.
     ensures evidence { IfOk result (λ decision. (g : Registry)
-        → IsGround g command.now (option_map nodes_view (option_copied schema.entry)) view.now
-        → TellEvidence decision.changes.items g) }
+        → IsDecisionInput g command.now (option_map nodes_view (option_copied schema.entry)) view.now
+        → UpdateEvidence decision.changes.items g) }
 
     // A read changes nothing, and a refusal neither.
     ensures read { IfOk result (λ decision. is_write command.now ≡ false → decision.changes.items ≡ []) }
     ensures refusal { IfOk result (λ decision. decision.reply.status ≢ 200 → decision.changes.items ≡ []) }
 
     // A fault of the backend and a reused key are no reply of the registry's own.
-    ensures own { IfOk result (λ decision. IsOwnReply decision.reply) }
+    ensures own { IfOk result (λ decision. IsCommandReply decision.reply) }
 {
     match command {
         Command::SetGlobal { level } => set::<Level>(alloc, None, level.as_str()),
         Command::SetLevel { subject, level } => set::<Level>(alloc, Some(subject), level.as_str()),
-        Command::Register { subject, .. } => register(alloc, view, subject, schema, memory),
+        Command::Register { subject, .. } => register(alloc, view, subject, schema, cache),
         Command::DeleteVersion {
             subject,
             version: chosen,
@@ -196,35 +196,35 @@ fn carry_out(
         Command::SetGlobalMode { mode } => set::<Mode>(alloc, None, mode.as_str()),
         Command::SetMode { subject, mode } => set::<Mode>(alloc, Some(subject), mode.as_str()),
         _ => {
-            let reply = reply_to_read(alloc, view, command, schema, memory)?;
+            let reply = reply_to_read(alloc, view, command, schema, cache)?;
             Ok(unchanged(alloc, reply))
         }
     }
 }
 
 /// The reply to a read.
-#[tactic(auto, unfolding(crate::specs::Machine::carried_out))]
+#[tactic(auto, unfolding(crate::specs::Machine::permitted_step))]
 fn reply_to_read(
     alloc: Global,
     view: &View,
     command: &Command,
     schema: Option<&Schema>,
-    memory: Option<&mut Memory>,
+    cache: Option<&mut SchemaCache>,
 ) -> Result<Reply, OutOfMemory>
     requires { is_write command.now ≡ false }
     ensures reply { IfOk result (λ reply. (g : Registry)
-        → IsGround g command.now (option_map nodes_view (option_copied schema.entry)) view.now
-        → reply ≡ (carried_out g command.now).1) }
-    ensures own { IfOk result (λ reply. IsOwnReply reply) }
+        → IsDecisionInput g command.now (option_map nodes_view (option_copied schema.entry)) view.now
+        → reply ≡ (permitted_step g command.now).1) }
+    ensures own { IfOk result (λ reply. IsCommandReply reply) }
 {
     match command {
-        Command::Global => shown_answer(alloc, view.global),
+        Command::Global => setting_answer(alloc, view.global),
         Command::LevelOf {
             default_to_global,
             ..
         } => shown_reply(
             alloc,
-            value_shown(view.own, view.global, *default_to_global),
+            own_or_global(view.own, view.global, *default_to_global),
         ),
         Command::Lookup { deleted, .. } => lookup(alloc, view, schema, *deleted),
         Command::Subjects { deleted } => subjects(alloc, *deleted, view.rows.as_slice()),
@@ -244,15 +244,15 @@ fn reply_to_read(
             versions_of_id(alloc, *deleted, view.rows.as_slice(), id.as_str())
         }
         Command::Types => types(alloc),
-        Command::Check { version, .. } => check(alloc, view, version.as_str(), schema, memory),
-        Command::CheckAll { .. } => check_all(alloc, view, schema, memory),
-        Command::GlobalMode => shown_answer(alloc, view.global_mode),
+        Command::Check { version, .. } => check(alloc, view, version.as_str(), schema, cache),
+        Command::CheckAll { .. } => check_all(alloc, view, schema, cache),
+        Command::GlobalMode => setting_answer(alloc, view.global_mode),
         Command::ModeOf {
             default_to_global,
             ..
         } => shown_reply(
             alloc,
-            value_shown(view.own_mode, view.global_mode, *default_to_global),
+            own_or_global(view.own_mode, view.global_mode, *default_to_global),
         ),
         _ => unreachable!(),
     }

@@ -4,7 +4,7 @@ ghost use Rattle.reg_core.specs.declared.command.Command.{Command};
 ghost use Rattle.reg_core.specs.Registry.{IsRegistry, Registry};
 ghost use Rattle.reg_core.specs.Machine.{step};
 ghost use Rattle.reg_core.specs.Additions.{AddsAdmitted};
-ghost use Rattle.reg_core.specs.Evidence.{EvidenceOf, IsEvidenceAfter, IsTrueIn};
+ghost use Rattle.reg_core.specs.Evidence.{EvidenceMap, IsEvidenceAfter, IsTrueEvidence};
 
 /// A law of the plain machine: a registry is one after each command. Its schemas are ones that
 /// texts denote, no two of them have one identity text, ids and numbers are within their limits,
@@ -23,6 +23,6 @@ pub fn additions_are_admitted()
 /// command makes of it. A version that was there keeps its own, one that is gone has none, and one
 /// that is new has the level that was in force, and the ids of the versions that it named.
 pub fn evidence_stays_true()
-    ensures { (g : Registry) (command : Command) (had has : EvidenceOf) → IsRegistry g → IsTrueIn g had
-        → IsEvidenceAfter g command had has → IsTrueIn (step g command).0 has }
+    ensures { (g : Registry) (command : Command) (had has : EvidenceMap) → IsRegistry g → IsTrueEvidence g had
+        → IsEvidenceAfter g command had has → IsTrueEvidence (step g command).0 has }
 {}

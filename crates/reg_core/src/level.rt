@@ -1,7 +1,7 @@
 //! Compatibility levels.
 
 ghost use Rattle.std.specs.Prelude.{◌≡◌, IfSome, Some};
-ghost use Rattle.reg_core.specs.Compatibility.{names_all};
+ghost use Rattle.reg_core.specs.Compatibility.{is_transitive};
 ghost use Rattle.reg_core.specs.Levels.{level_of, level_text};
 
 /// A compatibility level: which earlier schemas of a subject a new one has to resolve with, and
@@ -28,7 +28,7 @@ impl Level {
     /// The level that is spelt exactly so, in upper case with `_`; every other text is `None`.
     pub fn parse(text: &str) -> Option<Level>
         ensures value { result ≡ level_of text.now }
-        ensures spelt_so { IfSome result (λ level. level_text level ≡ text.now) }
+        ensures round_trip { IfSome result (λ level. level_text level ≡ text.now) }
     {
         if text == "BACKWARD" {
             Some(Level::Backward)
@@ -66,8 +66,8 @@ impl Level {
     }
 
     /// Whether a new schema is compared with all live versions of its subject.
-    pub fn names_all(self) -> bool
-        ensures { result ≡ names_all self }
+    pub fn is_transitive(self) -> bool
+        ensures { result ≡ is_transitive self }
     {
         match self {
             Level::BackwardTransitive | Level::ForwardTransitive | Level::FullTransitive => true,

@@ -25,7 +25,9 @@ pub use avro_nodes::OutOfMemory;
 pub use code::Code;
 pub use command::Command;
 pub use compatibility::{admission_is_decided, admits};
-pub use decision::{Change, Decision, View, decide, decide_with, goes_with, ids_read, schema_of};
+pub use decision::{
+    Change, Decision, View, decide, decide_with_cache, ids_to_read, is_compatible_with, schema_of,
+};
 pub use delivery::Delivery;
 pub use evidence::Evidence;
 pub use key::Key;
@@ -33,7 +35,7 @@ pub use laws::{additions_are_admitted, evidence_stays_true, registries_stay_regi
 pub use level::Level;
 pub use mode::Mode;
 pub use needs::{Needs, RowsNeeded, SubjectRows};
-pub use number::{Choice, MAX_NUMBER, choice_in, id_in, number_up_to};
+pub use number::{MAX_NUMBER, VersionChoice, parse_choice, parse_id, parse_number};
 pub use print::print_of;
 pub use reply::Reply;
 pub use row::Row;

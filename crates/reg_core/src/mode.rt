@@ -17,7 +17,7 @@ impl Mode {
     /// The mode that is spelt exactly so, in upper case; every other text is `None`.
     pub fn parse(text: &str) -> Option<Mode>
         ensures value { result ≡ mode_of text.now }
-        ensures spelt_so { IfSome result (λ mode. mode_text mode ≡ text.now) }
+        ensures round_trip { IfSome result (λ mode. mode_text mode ≡ text.now) }
     {
         if text == "READWRITE" {
             Some(Mode::Readwrite)

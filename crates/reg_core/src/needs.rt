@@ -1,10 +1,10 @@
 //! What a command needs to know of the registry.
 
 ghost use Rattle.std.specs.Prelude.{◌≡◌};
-ghost use Rattle.reg_core.specs.Needs.{needs_count, needs_levels, needs_modes, rows_asked};
+ghost use Rattle.reg_core.specs.Needs.{needs_count, needs_levels, needs_modes, row_needs};
 
 use crate::command::Command;
-use crate::number::{Choice, choice_in, id_in};
+use crate::number::{VersionChoice, parse_choice, parse_id};
 
 /// Which versions a command looks at, deleted ones too.
 #[derive(Clone, Copy, Debug, PartialEq, Eq)]
@@ -28,12 +28,12 @@ pub enum SubjectRows {
     Every,
     /// One is chosen among those that are shown.
     ToChoose {
-        choice: Option<Choice>,
+        choice: Option<VersionChoice>,
         deleted: bool,
     },
     /// One is chosen to be deleted.
     ToDelete {
-        choice: Option<Choice>,
+        choice: Option<VersionChoice>,
         permanent: bool,
     },
     /// The schema that is sent is looked up among those that are shown.
@@ -47,7 +47,7 @@ pub enum SubjectRows {
 }
 
 /// What a command needs to know of the registry, beside the id of the schema that it sends, and the
-/// texts of ids (`ids_read`).
+/// texts of ids (`ids_to_read`).
 #[derive(Clone, Copy, Debug, PartialEq, Eq)]
 pub struct Needs {
     /// The versions.
@@ -63,13 +63,13 @@ pub struct Needs {
 impl Command {
     /// What the command needs to know of the registry.
     pub fn needs(&self) -> Needs
-        ensures rows { result.rows ≡ rows_asked self.now }
+        ensures rows { result.rows ≡ row_needs self.now }
         ensures levels { result.levels ≡ needs_levels self.now }
         ensures modes { result.modes ≡ needs_modes self.now }
         ensures count { result.count ≡ needs_count self.now }
     {
         Needs {
-            rows: self.rows_asked(),
+            rows: self.row_needs(),
             levels: self.needs_levels(),
             modes: self.needs_modes(),
             count: self.needs_count(),
@@ -77,8 +77,8 @@ impl Command {
     }
 
     /// Which versions the command looks at.
-    fn rows_asked(&self) -> RowsNeeded
-        ensures { result ≡ rows_asked self.now }
+    fn row_needs(&self) -> RowsNeeded
+        ensures { result ≡ row_needs self.now }
     {
         match self {
             Command::Register { .. } => RowsNeeded::OfSubject(SubjectRows::ToRegister),
@@ -87,7 +87,7 @@ impl Command {
                 permanent,
                 ..
             } => RowsNeeded::OfSubject(SubjectRows::ToDelete {
-                choice: choice_in(version.as_str()),
+                choice: parse_choice(version.as_str()),
                 permanent: *permanent,
             }),
             Command::DeleteSubject { .. } | Command::Versions { .. } => {
@@ -107,13 +107,13 @@ impl Command {
                 deleted,
                 ..
             } => RowsNeeded::OfSubject(SubjectRows::ToChoose {
-                choice: choice_in(version.as_str()),
+                choice: parse_choice(version.as_str()),
                 deleted: *deleted,
             }),
-            Command::ById { id } => RowsNeeded::OneOfId(id_in(id.as_str())),
-            Command::VersionsOfId { id, .. } => RowsNeeded::OfId(id_in(id.as_str())),
+            Command::ById { id } => RowsNeeded::OneOfId(parse_id(id.as_str())),
+            Command::VersionsOfId { id, .. } => RowsNeeded::OfId(parse_id(id.as_str())),
             Command::Check { version, .. } => RowsNeeded::OfSubject(SubjectRows::ToChoose {
-                choice: choice_in(version.as_str()),
+                choice: parse_choice(version.as_str()),
                 deleted: false,
             }),
             Command::CheckAll { .. } => RowsNeeded::OfSubject(SubjectRows::ToCompare),

@@ -1,7 +1,7 @@
 //! Numbers in paths: ids, and the versions that a client chooses.
 
 ghost use Rattle.std.specs.Prelude.{◌≡◌, ◌≤◌, IfSome};
-ghost use Rattle.reg_core.specs.Numbers.{choice_in, id_in, number_up_to};
+ghost use Rattle.reg_core.specs.Numbers.{parse_choice, parse_id, parse_number};
 ghost use Rattle.reg_core.specs.Registry.{max_number};
 
 /// The greatest id and the greatest number of a version.
@@ -9,7 +9,7 @@ pub const MAX_NUMBER: u32 = 2_147_483_647;
 
 /// The version that a client chooses. (Schema Registry API reference, Subjects, `versionId`.)
 #[derive(Clone, Copy, Debug, PartialEq, Eq)]
-pub enum Choice {
+pub enum VersionChoice {
     /// The greatest one that is shown.
     Latest,
     /// The one with this number.
@@ -17,8 +17,8 @@ pub enum Choice {
 }
 
 /// The number up to the limit that a text writes in decimal digits without a leading zero.
-pub fn number_up_to(limit: u32, text: &[u8]) -> Option<u32>
-    ensures { result ≡ number_up_to limit text.now }
+pub fn parse_number(limit: u32, text: &[u8]) -> Option<u32>
+    ensures { result ≡ parse_number limit text.now }
 {
     if text.is_empty() || text[0] == b'0' {
         return None;
@@ -38,21 +38,21 @@ pub fn number_up_to(limit: u32, text: &[u8]) -> Option<u32>
 }
 
 /// The id that a text spells, 1 to 2,147,483,647 without a leading zero.
-pub fn id_in(text: &str) -> Option<u32>
-    ensures { result ≡ id_in text.now }
+pub fn parse_id(text: &str) -> Option<u32>
+    ensures { result ≡ parse_id text.now }
 {
-    number_up_to(MAX_NUMBER, text.as_bytes())
+    parse_number(MAX_NUMBER, text.as_bytes())
 }
 
 /// The version that a text chooses: `latest`, or a number as an id is spelt.
-pub fn choice_in(text: &str) -> Option<Choice>
-    ensures { result ≡ choice_in text.now }
+pub fn parse_choice(text: &str) -> Option<VersionChoice>
+    ensures { result ≡ parse_choice text.now }
 {
     if text == "latest" {
-        return Some(Choice::Latest);
+        return Some(VersionChoice::Latest);
     }
-    match number_up_to(MAX_NUMBER, text.as_bytes()) {
-        Some(number) => Some(Choice::Numbered(number)),
+    match parse_number(MAX_NUMBER, text.as_bytes()) {
+        Some(number) => Some(VersionChoice::Numbered(number)),
         None => None,
     }
 }

@@ -18,7 +18,7 @@ use std::alloc::Global;
 /// `OutOfMemory` where memory for the text is refused.
 pub fn print_of(alloc: Global, command: &Command) -> Result<String, OutOfMemory>
     ensures text { IfOk result (λ text. string_bytes text ≡ command_text command.now) }
-    ensures one { IfOk result (λ text. (other : Command)
+    ensures unique { IfOk result (λ text. (other : Command)
         → is_write command.now ≡ true → is_write other ≡ true
         → command_text other ≡ string_bytes text → other ≡ command.now) }
 {

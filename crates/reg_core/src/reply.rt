@@ -21,9 +21,9 @@ pub struct Reply {
 }
 
 impl Model for Reply {
-    ghost use Rattle.reg_core.specs.Replies.{Told};
+    ghost use Rattle.reg_core.specs.Replies.{ReplyView};
 
-    ghost Value = { Told };
+    ghost Value = { ReplyView };
 
     ghost use Rattle.reg_core.specs.Contents.{reply_of, HasStatus};
 

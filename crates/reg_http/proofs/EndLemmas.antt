@@ -5,16 +5,16 @@ use Rattle.std.specs.Io.KnownBytes.{Consumes, IsAtEnd}
 use Rattle.std.proofs.KnownBytes.{Consumes-nil}
 use Rattle.reg_service.specs.Deliveries.{Exchange}
 use Rattle.reg_messages.specs.Messages.{Follows, Part}
-use Rattle.reg_messages.specs.MessageLooks.{IsPartUpTo}
+use Rattle.reg_messages.specs.ParseOutcomes.{IsPartialUntil}
 use Rattle.reg_http.specs.declared.serving.Ended.{Ended}
 use Rattle.reg_http.specs.declared.serving.Ended.TheVariants.{Closed, ReadFailed, Malformed, Memory}
-use Rattle.reg_http.specs.Output.{answers, exchanges}
+use Rattle.reg_http.specs.Output.{responses, exchanges}
 use Rattle.reg_http.specs.declared.answering.Stop.{Stop}
 use Rattle.reg_http.specs.declared.answering.Stop.TheVariants.{Waiting}
 use Rattle.reg_http.specs.Inside.Readings.{end_of}
-use Rattle.reg_http.specs.Sessions.{Carries, EndsAs, Session}
-use Rattle.reg_http.specs.Inside.SessionSteps.{AnswersAs, Waits, Served}
-use Rattle.reg_http.proofs.SessionLemmas.{Joins, Carries-nil, Served-more, AnswersAs-after}
+use Rattle.reg_http.specs.Sessions.{ProcessesMessages, EndsAs, Session}
+use Rattle.reg_http.specs.Inside.SessionSteps.{AnswersAs, Waits, AnsweredSoFar}
+use Rattle.reg_http.proofs.SessionLemmas.{Joins, ProcessesMessages-nil, AnsweredSoFar-more, AnswersAs-after}
 
 -- what is held, where less than a whole message is
 held : (bytes : List ℕ) (needs : ℕ) → Waits bytes needs → (bytes ≡ []) ⊎ Follows bytes Part
@@ -35,7 +35,7 @@ Waits-nothing bytes none = record {
     no_bytes (x ∷ xs) few = absurd (omega arith)
 
 -- a part of a message is held
-pub Waits-part : (bytes : List ℕ) (needs : ℕ) → IsPartUpTo bytes needs → Waits bytes needs
+pub Waits-part : (bytes : List ℕ) (needs : ℕ) → IsPartialUntil bytes needs → Waits bytes needs
 Waits-part bytes needs p = record {
   short = p.short;
   fits = omega (arith, p.fits);
@@ -52,21 +52,21 @@ Waits-more bytes more needs w short = record {
       subst (λ (b : List ℕ). (b ≡ []) ⊎ Follows b Part) (sym e) (w.part (more ++ others) (omega (arith, few, ap length e)));
 }
 
-module _ (P : List Exchange → Type 0) (r r' w w' : Option (List ℕ)) (input rest : List ℕ) (reads : Consumes r r' input) (s : Served P w w' input rest) where
+module _ (P : List Exchange → Type 0) (r r' w w' : Option (List ℕ)) (input rest : List ℕ) (reads : Consumes r r' input) (s : AnsweredSoFar P w w' input rest) where
   -- a session so far
-  so_far : (ended : Ended) → EndsAs r' s.answered rest (answers s.answered) ended → Session P r r' w w' ended
+  so_far : (ended : Ended) → EndsAs r' s.answered rest (responses s.answered) ended → Session P r r' w w' ended
   so_far ended e = record {
     input = input;
     reads = reads;
     answered = s.answered;
     rest = rest;
-    out = answers s.answered;
-    carries = s.carries;
+    out = responses s.answered;
+    processes = s.processes;
     ends = e;
   }
 
-  whole : answers s.answered ≡ answers s.answered ++ []
-  whole = sym (append-nil (answers s.answered))
+  whole : responses s.answered ≡ responses s.answered ++ []
+  whole = sym (append-nil (responses s.answered))
 
   -- the input ended
   pub Session-ended : (needs : ℕ) → Waits rest needs → IsAtEnd r' → Session P r r' w w' (end_of rest)
@@ -91,7 +91,7 @@ module _ (P : List Exchange → Type 0) (r r' w w' : Option (List ℕ)) (input r
 -- room was refused before anything was read
 pub Session-unread : (P : List Exchange → Type 0) (r w : Option (List ℕ)) → P [] → Session P r r w w Memory
 Session-unread P r w none =
-    record { input = []; reads = Consumes-nil r; answered = []; rest = []; out = []; carries = Carries-nil P w [] none; ends = inl (tt, refl) }
+    record { input = []; reads = Consumes-nil r; answered = []; rest = []; out = []; processes = ProcessesMessages-nil P w [] none; ends = inl (tt, refl) }
 
 -- a session up to a stop of its answers
 pub Session-stopped : (P : List Exchange → Type 0) (r r' w w' : Option (List ℕ)) (input bytes : List ℕ) (stop : Stop) (ended : Ended) → Consumes r r' input
@@ -102,23 +102,23 @@ Session-stopped P r r' w w' input bytes stop ended reads a e = record {
   answered = a.answered;
   rest = a.rest;
   out = a.out;
-  carries = a.carries;
+  processes = a.processes;
   ends = e;
 }
 
 -- and one that waits for more bytes
-pub Served-waiting : (P : List Exchange → Type 0) (w w' : Option (List ℕ)) (input bytes : List ℕ) (needs : ℕ) → AnswersAs P w w' input bytes (Waiting needs) → Served P w w' input bytes
-Served-waiting P w w' input bytes needs a =
-    let All : List ℕ × List ℕ → Type 0 = λ s. Carries P w w' input a.answered s.0 s.1 in
-    record { answered = a.answered; stay = a.stops.0; carries = subst All (λ i. (a.stops.1 i, a.stops.3 i)) a.carries }
+pub AnsweredSoFar-waiting : (P : List Exchange → Type 0) (w w' : Option (List ℕ)) (input bytes : List ℕ) (needs : ℕ) → AnswersAs P w w' input bytes (Waiting needs) → AnsweredSoFar P w w' input bytes
+AnsweredSoFar-waiting P w w' input bytes needs a =
+    let All : List ℕ × List ℕ → Type 0 = λ s. ProcessesMessages P w w' input a.answered s.0 s.1 in
+    record { answered = a.answered; stay = a.stops.0; processes = subst All (λ i. (a.stops.1 i, a.stops.3 i)) a.processes }
 
 -- what was answered once more was read
 pub AnswersAs-read : (P Q R : List Exchange → Type 0) → Joins P Q R → (w w1 w2 : Option (List ℕ)) (input before bytes more held : List ℕ) (stop : Stop)
-    → Served P w w1 input before → bytes ≡ before ++ more → AnswersAs Q w1 w2 bytes held stop → AnswersAs R w w2 (input ++ more) held stop
+    → AnsweredSoFar P w w1 input before → bytes ≡ before ++ more → AnswersAs Q w1 w2 bytes held stop → AnswersAs R w w2 (input ++ more) held stop
 AnswersAs-read P Q R joins w w1 w2 input before bytes more held stop s is a =
-    let Behind : List ℕ → Type 0 = λ rest. Served P w w1 (input ++ more) rest in
-    let all = subst Behind (sym is) (Served-more P w w1 input before more s) in
-    AnswersAs-after P Q R joins w w1 w2 (input ++ more) bytes held all.answered stop all.stay all.carries a
+    let Behind : List ℕ → Type 0 = λ rest. AnsweredSoFar P w w1 (input ++ more) rest in
+    let all = subst Behind (sym is) (AnsweredSoFar-more P w w1 input before more s) in
+    AnswersAs-after P Q R joins w w1 w2 (input ++ more) bytes held all.answered stop all.stay all.processes a
 
 -- what follows from what holds of the exchanges
 pub Session-map : (P Q : List Exchange → Type 0) → ((xs : List Exchange) → P xs → Q xs) → (r r' w w' : Option (List ℕ)) (ended : Ended) → Session P r r' w w' ended → Session Q r r' w w' ended
@@ -128,7 +128,7 @@ Session-map P Q follows r r' w w' ended s = record {
   answered = s.answered;
   rest = s.rest;
   out = s.out;
-  carries = record { leads = s.carries.leads; refused = s.carries.refused; serves = follows (exchanges s.answered) s.carries.serves; writes = s.carries.writes };
+  processes = record { leads = s.processes.leads; rejected = s.processes.rejected; serves = follows (exchanges s.answered) s.processes.serves; writes = s.processes.writes };
   ends = s.ends;
 }
 
@@ -140,6 +140,6 @@ Session-same P r r' w w' ended s = record {
   answered = s.answered;
   rest = s.rest;
   out = s.out;
-  carries = record { leads = s.carries.leads; refused = s.carries.refused; serves = refl; writes = s.carries.writes };
+  processes = record { leads = s.processes.leads; rejected = s.processes.rejected; serves = refl; writes = s.processes.writes };
   ends = s.ends;
 }

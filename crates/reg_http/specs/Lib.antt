@@ -1,4 +1,4 @@
-pub mod OverTables
+pub mod Transitions
 pub mod Output
 pub mod Sessions
 pub mod Inside

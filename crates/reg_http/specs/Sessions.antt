@@ -5,39 +5,39 @@ use Rattle.reg_core.specs.declared.code.Code.{Code}
 use Rattle.reg_service.specs.Deliveries.{Exchange}
 use Rattle.reg_http.specs.declared.serving.Ended.{Ended}
 use Rattle.reg_http.specs.declared.serving.Ended.TheVariants.{Closed, ReadFailed, WriteFailed, Malformed, Memory}
-use Rattle.reg_messages.specs.Messages.{Leads, Follows, End, Part, Faulty}
-use Rattle.reg_http.specs.Output.{Answered, AreRefused, StayOpen, LastCloses, exchanges, answers, output, IsCutShort}
+use Rattle.reg_messages.specs.Messages.{ParsesInto, Follows, End, Part, Faulty}
+use Rattle.reg_http.specs.Output.{AnsweredMessage, AreRejected, StayOpen, LastCloses, exchanges, responses, output, IsCutShort}
 
 -- Messages at the front of bytes were carried out, rest follows them, and out was written. AreServed holds of the exchanges of those messages.
-pub record Carries (AreServed : List Exchange → Type 0) (old new : Option (List ℕ)) (bytes : List ℕ) (xs : List Answered) (rest out : List ℕ) : Type 0 where
-  pub leads : Leads bytes (map (λ x. x.0) xs) rest
-  pub refused : AreRefused xs
+pub record ProcessesMessages (AreServed : List Exchange → Type 0) (old new : Option (List ℕ)) (bytes : List ℕ) (xs : List AnsweredMessage) (rest out : List ℕ) : Type 0 where
+  pub leads : ParsesInto bytes (map (λ x. x.0) xs) rest
+  pub rejected : AreRejected xs
   pub serves : AreServed (exchanges xs)
   pub writes : Appends old new out
 
 -- Nothing follows the messages, and the input ended.
-abbrev pub EndsBetween : Option (List ℕ) → List Answered → List ℕ → List ℕ → Type 0
+abbrev pub EndsBetween : Option (List ℕ) → List AnsweredMessage → List ℕ → List ℕ → Type 0
 EndsBetween reader xs rest out = StayOpen xs × IsAtEnd reader × Follows rest End × (out ≡ output xs End)
 
 -- A part of a message follows them, and the input ended.
-abbrev pub EndsInside : Option (List ℕ) → List Answered → List ℕ → List ℕ → Type 0
+abbrev pub EndsInside : Option (List ℕ) → List AnsweredMessage → List ℕ → List ℕ → Type 0
 EndsInside reader xs rest out = StayOpen xs × IsAtEnd reader × Follows rest Part × (out ≡ output xs Part)
 
 -- A fault follows them, and was answered.
-abbrev pub EndsFaulty : List Answered → List ℕ → List ℕ → Type 0
+abbrev pub EndsFaulty : List AnsweredMessage → List ℕ → List ℕ → Type 0
 EndsFaulty xs rest out = (code : Code) × StayOpen xs × Follows rest (Faulty code) × (out ≡ output xs (Faulty code))
 
 -- What stands at each end, where the reader is left as it is.
-abbrev pub EndsAs : Option (List ℕ) → List Answered → List ℕ → List ℕ → Ended → Type 0
+abbrev pub EndsAs : Option (List ℕ) → List AnsweredMessage → List ℕ → List ℕ → Ended → Type 0
 -- the last message that was answered ends the connection, or the input ended between messages
-EndsAs reader xs rest out Closed = (LastCloses xs × (out ≡ answers xs)) ⊎ EndsBetween reader xs rest out
+EndsAs reader xs rest out Closed = (LastCloses xs × (out ≡ responses xs)) ⊎ EndsBetween reader xs rest out
 -- a fault ended the session, or the input ended inside a message
 EndsAs reader xs rest out Malformed = EndsFaulty xs rest out ⊎ EndsInside reader xs rest out
 -- each whole message that was read was answered
-EndsAs reader xs rest out ReadFailed = StayOpen xs × (Follows rest End ⊎ Follows rest Part) × (out ≡ answers xs)
+EndsAs reader xs rest out ReadFailed = StayOpen xs × (Follows rest End ⊎ Follows rest Part) × (out ≡ responses xs)
 -- the last answer, or that to a fault, wasn't written whole
 EndsAs reader xs rest out WriteFailed = IsCutShort xs rest out
-EndsAs reader xs rest out Memory = (StayOpen xs × (out ≡ answers xs)) ⊎ IsCutShort xs rest out
+EndsAs reader xs rest out Memory = (StayOpen xs × (out ≡ responses xs)) ⊎ IsCutShort xs rest out
 
 -- A session, from and to what the reader has left and what the writer holds. AreServed holds of its exchanges: those whose answers were written.
 -- How the reads were cut is no part of it.
@@ -45,8 +45,8 @@ pub record Session (AreServed : List Exchange → Type 0) (reader reader' writer
   -- all that was read
   pub input : List ℕ
   pub reads : Consumes reader reader' input
-  pub answered : List Answered
+  pub answered : List AnsweredMessage
   pub rest : List ℕ
   pub out : List ℕ
-  pub carries : Carries AreServed writer writer' input answered rest out
+  pub processes : ProcessesMessages AreServed writer writer' input answered rest out
   pub ends : EndsAs reader' answered rest out ended

@@ -4,18 +4,18 @@ ghost use Rattle.std.specs.Prelude.{◌≡◌, option_map};
 ghost use Rattle.sqlite.specs.State.{HasCleanDisk};
 ghost use Rattle.reg_service.specs.Crashes.{ServesDurably};
 ghost use Rattle.reg_service.specs.Services.{state_in};
-ghost use Rattle.reg_messages.specs.MessageLooks.{IsWhole};
+ghost use Rattle.reg_messages.specs.ParseOutcomes.{IsWholeMessage};
 ghost use Rattle.reg_messages.specs.Messages.{Message};
-ghost use Rattle.reg_routes.specs.Deliveries.{allow_beside, asked_by};
-ghost use Rattle.reg_http.specs.OverTables.{Over};
-ghost use Rattle.reg_http.specs.Inside.Replying.{ReplyLeads};
+ghost use Rattle.reg_routes.specs.Deliveries.{allow_field, requested_by};
+ghost use Rattle.reg_http.specs.Transitions.{StoredTransition};
+ghost use Rattle.reg_http.specs.Inside.Replying.{IsReplyTo};
 ghost use Rattle.reg_http.specs.Inside.SessionSteps.{AnswersAs, FaultAs, IsWithin, NextAs, WaitsAt, next_after};
 
 use crate::buffer::Buffer;
-use crate::writing::{Sent, send};
+use crate::writing::{WriteOutcome, send};
 use httparse::spans::HeaderSpan;
 use reg_core::{Code, Reply};
-use reg_messages::{Look, Request, Whole, look_at};
+use reg_messages::{ParseOutcome, Request, Whole, parse_front};
 use reg_routes::{Routes, command_of};
 use reg_service::Service;
 use sqlite::Alter;
@@ -54,9 +54,9 @@ fn reply_to<S: Alter>(
     service: &mut Service<S>,
 ) -> (Reply, Option<&'static str>)
     ensures clean { HasCleanDisk (state_in service.new) → HasCleanDisk (state_in service.old) }
-    ensures replies { HasCleanDisk (state_in service.new) → Over (state_in service.old) (state_in service.new)
-        (λ was now. ReplyLeads (ServesDurably service.old service.new was now) (asked_by request.now) result.0) }
-    ensures allow { option_map (λ text. text.now) result.1 ≡ allow_beside (asked_by request.now) result.0 }
+    ensures replies { HasCleanDisk (state_in service.new) → StoredTransition (state_in service.old) (state_in service.new)
+        (λ was now. IsReplyTo (ServesDurably service.old service.new was now) (requested_by request.now) result.0) }
+    ensures allow { option_map (λ text. text.now) result.1 ≡ allow_field (requested_by request.now) result.0 }
 {
     match command_of(alloc, routes, request) {
         Ok(delivery) => (service.answer(&delivery), None),
@@ -65,14 +65,14 @@ fn reply_to<S: Alter>(
 }
 
 /// Where the answers stop, or go on, once an answer was sent.
-fn next_after(sent: Sent, close: bool, size: usize) -> Next
+fn next_after(sent: WriteOutcome, close: bool, size: usize) -> Next
     ensures { result ≡ next_after sent close size }
 {
     match sent {
-        Sent::Whole if close => Next::Stopped(Stop::AtClose),
-        Sent::Whole => Next::Answered(size),
-        Sent::CutShort => Next::Stopped(Stop::NotWritten),
-        Sent::OutOfMemory => Next::Stopped(Stop::OutOfMemory),
+        WriteOutcome::Whole if close => Next::Stopped(Stop::AtClose),
+        WriteOutcome::Whole => Next::Answered(size),
+        WriteOutcome::CutShort => Next::Stopped(Stop::NotWritten),
+        WriteOutcome::OutOfMemory => Next::Stopped(Stop::OutOfMemory),
     }
 }
 
@@ -86,10 +86,10 @@ fn answer_message<W: Write, S: Alter>(
     writer: &mut W,
     service: &mut Service<S>,
 ) -> Next
-    requires { (message : Message) × IsWhole bytes.now headers.now whole message }
+    requires { (message : Message) × IsWholeMessage bytes.now headers.now whole message }
     ensures clean { HasCleanDisk (state_in service.new) → HasCleanDisk (state_in service.old) }
     ensures within { IsWithin bytes.now result }
-    ensures next { HasCleanDisk (state_in service.new) → Over (state_in service.old) (state_in service.new)
+    ensures next { HasCleanDisk (state_in service.new) → StoredTransition (state_in service.old) (state_in service.new)
         (λ was now. NextAs (ServesDurably service.old service.new was now)
         (W.contents writer.old) (W.contents writer.new) bytes.now result) }
 {
@@ -106,9 +106,9 @@ fn answer_fault<W: Write>(alloc: Global, code: Code, writer: &mut W) -> Stop
 {
     let reply = Reply::fault(code);
     match send(alloc, writer, &reply, None, true) {
-        Sent::Whole => Stop::AtFault,
-        Sent::CutShort => Stop::NotWritten,
-        Sent::OutOfMemory => Stop::OutOfMemory,
+        WriteOutcome::Whole => Stop::AtFault,
+        WriteOutcome::CutShort => Stop::NotWritten,
+        WriteOutcome::OutOfMemory => Stop::OutOfMemory,
     }
 }
 
@@ -123,23 +123,23 @@ fn answer_front<W: Write, S: Alter>(
 ) -> Next
     ensures clean { HasCleanDisk (state_in service.new) → HasCleanDisk (state_in service.old) }
     ensures within { IsWithin bytes.now result }
-    ensures next { HasCleanDisk (state_in service.new) → Over (state_in service.old) (state_in service.new)
+    ensures next { HasCleanDisk (state_in service.new) → StoredTransition (state_in service.old) (state_in service.new)
         (λ was now. NextAs (ServesDurably service.old service.new was now)
         (W.contents writer.old) (W.contents writer.new) bytes.now result) }
 {
-    match look_at(bytes, headers) {
-        Look::Whole(whole) => {
+    match parse_front(bytes, headers) {
+        ParseOutcome::Whole(whole) => {
             answer_message(alloc, routes, bytes, headers, whole, writer, service)
         }
-        Look::Nothing => Next::Stopped(Stop::Waiting(1)),
-        Look::Part(needs) => Next::Stopped(Stop::Waiting(needs)),
-        Look::Faulty(code) => Next::Stopped(answer_fault(alloc, code, writer)),
-        Look::TooManyFields => Next::Stopped(Stop::OutOfMemory),
+        ParseOutcome::Nothing => Next::Stopped(Stop::Waiting(1)),
+        ParseOutcome::Part(needs) => Next::Stopped(Stop::Waiting(needs)),
+        ParseOutcome::Faulty(code) => Next::Stopped(answer_fault(alloc, code, writer)),
+        ParseOutcome::TooManyFields => Next::Stopped(Stop::OutOfMemory),
     }
 }
 
 /// Answers the messages that are held, in order, and lets them go.
-pub fn answer_held<W: Write, S: Alter>(
+pub fn answer_buffered<W: Write, S: Alter>(
     alloc: Global,
     routes: &Routes,
     buffer: &mut Buffer,
@@ -148,14 +148,14 @@ pub fn answer_held<W: Write, S: Alter>(
     service: &mut Service<S>,
 ) -> Stop
     ensures clean { HasCleanDisk (state_in service.new) → HasCleanDisk (state_in service.old) }
-    ensures answers { HasCleanDisk (state_in service.new) → Over (state_in service.old) (state_in service.new)
+    ensures responses { HasCleanDisk (state_in service.new) → StoredTransition (state_in service.old) (state_in service.new)
         (λ was now. AnswersAs (ServesDurably service.old service.new was now)
         (W.contents writer.old) (W.contents writer.new) buffer.old buffer.new result) }
     ensures waits { WaitsAt buffer.new result }
 {
     loop {
         match answer_front(alloc, routes, buffer.held(), headers, writer, service) {
-            Next::Answered(size) => buffer.let_go(size),
+            Next::Answered(size) => buffer.consume(size),
             Next::Stopped(stop) => return stop,
         }
     }

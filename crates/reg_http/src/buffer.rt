@@ -99,7 +99,7 @@ impl Buffer {
     }
 
     /// Lets so many bytes at the front go.
-    pub fn let_go(&mut self, count: usize)
+    pub fn consume(&mut self, count: usize)
         requires { count ≤ length self.old }
         ensures { self.new ≡ drop count self.old }
     {

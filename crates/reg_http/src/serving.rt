@@ -4,12 +4,12 @@ ghost use Rattle.std.specs.Prelude.{◌≡◌, ◌<◌, [], length};
 ghost use Rattle.sqlite.specs.State.{HasCleanDisk};
 ghost use Rattle.reg_service.specs.Crashes.{ServesDurably};
 ghost use Rattle.reg_service.specs.Services.{state_in};
-ghost use Rattle.reg_http.specs.OverTables.{Over};
+ghost use Rattle.reg_http.specs.Transitions.{StoredTransition};
 ghost use Rattle.reg_http.specs.Sessions.{Session};
 ghost use Rattle.reg_http.specs.Inside.Readings.{ReadsAs, end_of};
 ghost use Rattle.reg_http.specs.Inside.SessionSteps.{AnswersAs, Waits, WaitsAt};
 
-use crate::answering::{Stop, answer_held};
+use crate::answering::{Stop, answer_buffered};
 use crate::buffer::Buffer;
 use httparse::spans::{EMPTY_HEADER_SPAN, HeaderSpan};
 use reg_messages::MAX_HEAD;
@@ -36,7 +36,7 @@ pub enum Ended {
 
 /// What a read gave.
 #[derive(Clone, Copy)]
-enum Came {
+enum ReadOutcome {
     /// Bytes, or none where the read was interrupted.
     Bytes,
     /// The end of the input.
@@ -46,15 +46,15 @@ enum Came {
 }
 
 /// Reads once, behind what is held.
-fn read_more<R: Read>(buffer: &mut Buffer, reader: &mut R) -> Came
+fn read_more<R: Read>(buffer: &mut Buffer, reader: &mut R) -> ReadOutcome
     requires { length buffer.old < 1064960 }
     ensures { ReadsAs (R.remaining reader.old) (R.remaining reader.new) buffer.old buffer.new result }
 {
     match buffer.fill(reader) {
-        Ok(0) => Came::End,
-        Ok(_) => Came::Bytes,
-        Err(error) if error.kind() == ErrorKind::Interrupted => Came::Bytes,
-        Err(_) => Came::Failed,
+        Ok(0) => ReadOutcome::End,
+        Ok(_) => ReadOutcome::Bytes,
+        Err(error) if error.kind() == ErrorKind::Interrupted => ReadOutcome::Bytes,
+        Err(_) => ReadOutcome::Failed,
     }
 }
 
@@ -81,7 +81,7 @@ fn answer_more<W: Write, S: Alter>(
 ) -> Stop
     requires { length buffer.old < needs → Waits buffer.old needs }
     ensures clean { HasCleanDisk (state_in service.new) → HasCleanDisk (state_in service.old) }
-    ensures answers { HasCleanDisk (state_in service.new) → Over (state_in service.old) (state_in service.new)
+    ensures responses { HasCleanDisk (state_in service.new) → StoredTransition (state_in service.old) (state_in service.new)
         (λ was now. AnswersAs (ServesDurably service.old service.new was now)
         (W.contents writer.old) (W.contents writer.new) buffer.old buffer.new result) }
     ensures waits { WaitsAt buffer.new result }
@@ -89,7 +89,7 @@ fn answer_more<W: Write, S: Alter>(
     if buffer.held().len() < needs {
         return Stop::Waiting(needs);
     }
-    answer_held(alloc, routes, buffer, headers, writer, service)
+    answer_buffered(alloc, routes, buffer, headers, writer, service)
 }
 
 /// Reads and answers until the connection ends. It holds less than one whole message while it reads.
@@ -104,16 +104,16 @@ fn serve_with<R: Read, W: Write, S: Alter>(
 ) -> Ended
     requires { buffer ≡ [] }
     ensures clean { HasCleanDisk (state_in service.new) → HasCleanDisk (state_in service.old) }
-    ensures session { HasCleanDisk (state_in service.new) → Over (state_in service.old) (state_in service.new)
+    ensures session { HasCleanDisk (state_in service.new) → StoredTransition (state_in service.old) (state_in service.new)
         (λ was now. Session (ServesDurably service.old service.new was now)
         (R.remaining reader.old) (R.remaining reader.new) (W.contents writer.old) (W.contents writer.new) result) }
 {
     let mut needs = 1;
     for _ in 0..u64::MAX {
         match read_more(&mut buffer, reader) {
-            Came::Bytes => {}
-            Came::End => return end_of(buffer.held()),
-            Came::Failed => return Ended::ReadFailed,
+            ReadOutcome::Bytes => {}
+            ReadOutcome::End => return end_of(buffer.held()),
+            ReadOutcome::Failed => return Ended::ReadFailed,
         }
         match answer_more(alloc, routes, &mut buffer, needs, headers, writer, service) {
             Stop::Waiting(more) => needs = more,
@@ -135,7 +135,7 @@ pub fn serve<R: Read, W: Write, S: Alter>(
     service: &mut Service<S>,
 ) -> Ended
     ensures clean { HasCleanDisk (state_in service.new) → HasCleanDisk (state_in service.old) }
-    ensures session { HasCleanDisk (state_in service.new) → Over (state_in service.old) (state_in service.new)
+    ensures session { HasCleanDisk (state_in service.new) → StoredTransition (state_in service.old) (state_in service.new)
         (λ was now. Session (ServesDurably service.old service.new was now)
         (R.remaining reader.old) (R.remaining reader.new) (W.contents writer.old) (W.contents writer.new) result) }
 {

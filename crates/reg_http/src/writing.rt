@@ -2,8 +2,8 @@
 
 ghost use Rattle.std.specs.Prelude.{◌≡◌, ◌≤◌, ℕ, List, length, take, IsTrue, option_map};
 ghost use Rattle.std.specs.Io.KnownBytes.{Appends};
-ghost use Rattle.reg_messages.specs.Answers.{answer_bytes};
-ghost use Rattle.reg_http.specs.Output.{IsFront};
+ghost use Rattle.reg_messages.specs.Responses.{answer_bytes};
+ghost use Rattle.reg_http.specs.Output.{IsPrefix};
 
 use reg_core::Reply;
 use reg_messages::bytes_of;
@@ -12,7 +12,7 @@ use std::io::{ErrorKind, Write};
 
 /// What became of an answer.
 #[derive(Clone, Copy)]
-pub enum Sent {
+pub enum WriteOutcome {
     /// All of it was written.
     Whole,
     /// A beginning of it was written.
@@ -50,19 +50,19 @@ pub fn send<W: Write>(
     reply: &Reply,
     allow: Option<&str>,
     close: bool,
-) -> Sent
+) -> WriteOutcome
     ensures front { (part : List ℕ)
-        × IsFront part (answer_bytes reply.now (option_map (λ text. text.now) allow.entry) close)
+        × IsPrefix part (answer_bytes reply.now (option_map (λ text. text.now) allow.entry) close)
         × Appends (W.contents writer.old) (W.contents writer.new) part }
-    ensures whole { result ≡ Sent.Whole → Appends (W.contents writer.old) (W.contents writer.new)
+    ensures whole { result ≡ WriteOutcome.Whole → Appends (W.contents writer.old) (W.contents writer.new)
         (answer_bytes reply.now (option_map (λ text. text.now) allow.entry) close) }
 {
     let Ok(text) = bytes_of(alloc, reply, allow, close) else {
-        return Sent::OutOfMemory;
+        return WriteOutcome::OutOfMemory;
     };
     if write_whole(writer, text.as_bytes()) {
-        Sent::Whole
+        WriteOutcome::Whole
     } else {
-        Sent::CutShort
+        WriteOutcome::CutShort
     }
 }

@@ -7,12 +7,12 @@ use Rattle.reg_store.specs.declared.error.StoreError.{StoreError}
 use Rattle.reg_store.specs.Failures.{IsFaultBy, is_fault}
 use Rattle.reg_jobs.specs.declared.auditing.AuditOutcome.{AuditOutcome}
 use Rattle.reg_jobs.specs.declared.auditing.AuditOutcome.TheVariants.{Verdict, Unread, NotWritten}
-use Rattle.reg_jobs.specs.Auditing.{AuditsAs, IsVerdictOn, TellsEvidence}
+use Rattle.reg_jobs.specs.Auditing.{AuditsAs, IsVerdictOn, PrintsEvidence}
 use Rattle.reg_jobs.proofs.JobLemmas.{is_fault-by}
 
 -- what was printed is the verdict, or for an error nothing
 pub AuditsAs-told : (was : Stored) (old new : State) (writer writer' : Option (List ℕ)) (audited : Result Bool StoreError) (outcome : AuditOutcome) {Goes : Type 0} → Goes
-    → MatchResult audited (IsVerdictOn was) (λ e. Goes → IsFaultBy old new e) → TellsEvidence audited writer writer' outcome → AuditsAs was writer writer' outcome
+    → MatchResult audited (IsVerdictOn was) (λ e. Goes → IsFaultBy old new e) → PrintsEvidence audited writer writer' outcome → AuditsAs was writer writer' outcome
 AuditsAs-told was old new writer writer' (Ok holds) (Verdict told) goes tells told_is = (subst (IsVerdictOn was) (sym told_is.0) tells, told_is.1)
 AuditsAs-told was old new writer writer' (Ok holds) (Unread error) goes tells told_is = absurd told_is
 AuditsAs-told was old new writer writer' (Ok holds) NotWritten goes tells told_is = (holds, tells, told_is)

@@ -14,9 +14,9 @@ use Rattle.reg_store.specs.declared.error.StoreError.TheVariants.{Memory, Disk, 
 use Rattle.reg_store.specs.Failures.{IsFaultBy, IsFaultOver, is_fault}
 use Rattle.reg_store.specs.Opening.{OpensOver}
 use Rattle.reg_store.specs.Spells.{IsOpenOver, SpellsWhileOpen}
-use Rattle.reg_store.specs.Stores.{SpellsOn, state_of}
+use Rattle.reg_store.specs.Stores.{StillSpells, state_of}
 use Rattle.reg_store.specs.declared.store.Store.{Store}
-use Rattle.reg_words.specs.declared.task.Listing.{Listing}
+use Rattle.reg_cli.specs.declared.task.ListingName.{ListingName}
 use Rattle.reg_jobs.specs.declared.listings.ListOutcome.{ListOutcome}
 use Rattle.reg_jobs.specs.declared.listings.ListOutcome.TheVariants.{Whole, Unread, NotWritten, OutOfMemory}
 use Rattle.reg_jobs.specs.declared.auditing.AuditOutcome.{AuditOutcome}
@@ -81,10 +81,10 @@ OverDatabase-map g (Fresh old) P Q follows over = over
 OverDatabase-map g (Database old) P Q follows over = follows (state g old) over
 
 -- a listing of the registry of a database
-pub ListsOver-found : (old begun new : State) (kind : Listing) (writer writer' : Option (List ℕ)) (listed : ListOutcome)
+pub ListsOver-found : (old begun new : State) (kind : ListingName) (writer writer' : Option (List ℕ)) (listed : ListOutcome)
     → OpensOver old begun → ((was : Stored) → SpellsWhileOpen begun was → ListsAs (table_of kind) was.registry writer writer' listed)
     → IfUnread listed (IsFaultOver begun new)
-    → SpellsOn begun new → ListsOver old kind writer writer' listed new
+    → StillSpells begun new → ListsOver old kind writer writer' listed new
 ListsOver-found old begun new kind writer writer' listed has lists fault same = record {
   was = has.stored;
   begins = has.spelled;
@@ -96,7 +96,7 @@ ListsOver-found old begun new kind writer writer' listed has lists fault same = 
 -- an audit of what a database has stored
 pub AuditsOver-found : (old begun new : State) (writer writer' : Option (List ℕ)) (audited : AuditOutcome)
     → OpensOver old begun → ((was : Stored) → SpellsWhileOpen begun was → AuditsAs was writer writer' audited)
-    → SpellsOn begun new → AuditsOver old writer writer' audited new
+    → StillSpells begun new → AuditsOver old writer writer' audited new
 AuditsOver-found old begun new writer writer' audited has audits same = record {
   was = has.stored;
   begins = has.spelled;

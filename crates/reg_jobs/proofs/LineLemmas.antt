@@ -6,18 +6,18 @@ use Rattle.std.specs.Io.KnownBytes.{Appends}
 use Rattle.std.proofs.KnownBytes.{Appends-nil, Appends-trans}
 use Rattle.std.proofs.lemmas.List.{take-append-drop, take_more}
 use Rattle.std.proofs.lemmas.List.Concat.{flat_map-append}
-use Rattle.reg_http.specs.Output.{Begins}
+use Rattle.reg_http.specs.Output.{AppendsPrefix}
 use Rattle.reg_jobs.specs.declared.errors.Errors.{Errors}
 use Rattle.reg_jobs.specs.Errors.{Puts, WritesUnlessLost}
 
 -- after what was written whole
-Begins-after : (old mid new : Option (List ℕ)) (xs ys : List ℕ) → Appends old mid xs → Begins mid new ys → Begins old new (xs ++ ys)
-Begins-after old mid new xs ys a b =
+AppendsPrefix-after : (old mid new : Option (List ℕ)) (xs ys : List ℕ) → Appends old mid xs → AppendsPrefix mid new ys → AppendsPrefix old new (xs ++ ys)
+AppendsPrefix-after old mid new xs ys a b =
     (xs ++ b.0, (b.1.0, append_assoc xs b.0 b.1.0 ∙ ap (λ t. xs ++ t) b.1.1), Appends-trans old mid new xs b.0 a b.2)
 
 -- more would have followed, of which nothing was written
-Begins-more : (old mid new : Option (List ℕ)) (xs ys : List ℕ) → Begins old mid xs → Appends mid new [] → Begins old new (xs ++ ys)
-Begins-more old mid new xs ys b none =
+AppendsPrefix-more : (old mid new : Option (List ℕ)) (xs ys : List ℕ) → AppendsPrefix old mid xs → Appends mid new [] → AppendsPrefix old new (xs ++ ys)
+AppendsPrefix-more old mid new xs ys b none =
     (b.0, (b.1.0 ++ ys, sym (append_assoc b.0 b.1.0 ys) ∙ ap (λ t. t ++ ys) b.1.1), subst (Appends old new) (append-nil b.0) (Appends-trans old mid new b.0 [] b.2 none))
 
 -- what a writer took of bytes, where nothing was lost before
@@ -29,9 +29,9 @@ WritesUnlessLost-taken false old new bytes front whole = (take front.0 bytes, (d
 WritesUnlessLost-append : (l m n : Bool) (old mid new : Option (List ℕ)) (xs ys : List ℕ)
     → WritesUnlessLost l m old mid xs → WritesUnlessLost m n mid new ys → WritesUnlessLost l n old new (xs ++ ys)
 WritesUnlessLost-append false false false old mid new xs ys p q = Appends-trans old mid new xs ys p q
-WritesUnlessLost-append false false true old mid new xs ys p q = Begins-after old mid new xs ys p q
+WritesUnlessLost-append false false true old mid new xs ys p q = AppendsPrefix-after old mid new xs ys p q
 WritesUnlessLost-append false true false old mid new xs ys p q = absurd q
-WritesUnlessLost-append false true true old mid new xs ys p q = Begins-more old mid new xs ys p q
+WritesUnlessLost-append false true true old mid new xs ys p q = AppendsPrefix-more old mid new xs ys p q
 WritesUnlessLost-append true false n old mid new xs ys p q = absurd p
 WritesUnlessLost-append true true false old mid new xs ys p q = absurd q
 WritesUnlessLost-append true true true old mid new xs ys p q = Appends-trans old mid new [] [] p q
@@ -51,8 +51,8 @@ Puts-append contents a b c xs ys p q =
     WritesUnlessLost-append a.has_lost b.has_lost c.has_lost (contents a.writer) (contents b.writer) (contents c.writer) xs ys p q
 
 -- more would have followed
-Begins-longer : (old new : Option (List ℕ)) (xs ys : List ℕ) → Begins old new xs → Begins old new (xs ++ ys)
-Begins-longer old new xs ys b = (b.0, (b.1.0 ++ ys, sym (append_assoc b.0 b.1.0 ys) ∙ ap (λ t. t ++ ys) b.1.1), b.2)
+AppendsPrefix-longer : (old new : Option (List ℕ)) (xs ys : List ℕ) → AppendsPrefix old new xs → AppendsPrefix old new (xs ++ ys)
+AppendsPrefix-longer old new xs ys b = (b.0, (b.1.0 ++ ys, sym (append_assoc b.0 b.1.0 ys) ∙ ap (λ t. t ++ ys) b.1.1), b.2)
 
 -- what a list's first items are written as, and one more
 flat_map-more : {A : Type 0} (text : A → List ℕ) (items : List A) (i : ℕ) (d : A) → i < length items
@@ -61,12 +61,12 @@ flat_map-more text items i d lt =
     ap (flat_map text) (take_more items i d lt) ∙ (flat_map-append text (take i items) (get_or items i d ∷ []) ∙ ap (λ t. flat_map text (take i items) ++ t) (append-nil (text (get_or items i d))))
 
 -- the items before one were written, and a beginning of that one
-pub Begins-item : {A : Type 0} (text : A → List ℕ) (old mid new : Option (List ℕ)) (items : List A) (i : ℕ) (d : A) → i < length items
-    → Appends old mid (flat_map text (take i items)) → Begins mid new (text (get_or items i d)) → Begins old new (flat_map text items)
-Begins-item text old mid new items i d lt before part =
-    let up = Begins-after old mid new (flat_map text (take i items)) (text (get_or items i d)) before part in
-    let longer = Begins-longer old new (flat_map text (take i items) ++ text (get_or items i d)) (flat_map text (drop (i + 1) items)) up in
-    subst (Begins old new) (ap (λ t. t ++ flat_map text (drop (i + 1) items)) (sym (flat_map-more text items i d lt))
+pub AppendsPrefix-item : {A : Type 0} (text : A → List ℕ) (old mid new : Option (List ℕ)) (items : List A) (i : ℕ) (d : A) → i < length items
+    → Appends old mid (flat_map text (take i items)) → AppendsPrefix mid new (text (get_or items i d)) → AppendsPrefix old new (flat_map text items)
+AppendsPrefix-item text old mid new items i d lt before part =
+    let up = AppendsPrefix-after old mid new (flat_map text (take i items)) (text (get_or items i d)) before part in
+    let longer = AppendsPrefix-longer old new (flat_map text (take i items) ++ text (get_or items i d)) (flat_map text (drop (i + 1) items)) up in
+    subst (AppendsPrefix old new) (ap (λ t. t ++ flat_map text (drop (i + 1) items)) (sym (flat_map-more text items i d lt))
     ∙ sym (flat_map-append text (take (i + 1) items) (drop (i + 1) items)) ∙ ap (flat_map text) (take-append-drop (i + 1) items)) longer
 
 -- the items before one were written, and then that one

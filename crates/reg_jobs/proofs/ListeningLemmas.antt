@@ -5,10 +5,10 @@ use Rattle.sqlite.specs.State.{HasCleanDisk}
 use Rattle.sqlite_trees.specs.declared.store.Store.{Ghosts}
 use Rattle.reg_service.specs.declared.service.Service.{Service}
 use Rattle.reg_service.specs.Services.{state_in}
-use Rattle.reg_service.specs.Crashes.{LeavesSpelled, ServesDurably}
+use Rattle.reg_service.specs.Crashes.{RecoversSpelled, ServesDurably}
 use Rattle.reg_service.proofs.FoundLists.{durable_none, durable_both}
 use Rattle.reg_http.specs.declared.serving.Ended.{Ended}
-use Rattle.reg_http.specs.OverTables.{Over}
+use Rattle.reg_http.specs.Transitions.{StoredTransition}
 use Rattle.reg_http.specs.Output.{exchanges}
 use Rattle.reg_http.specs.Sessions.{Session}
 use Rattle.reg_http.proofs.EndLemmas.{Session-same}
@@ -21,17 +21,17 @@ use Rattle.reg_jobs.proofs.LineLemmas.{Puts-append, Puts-none}
 
 module _ {S : Type 0} {g : Ghosts S} where
   -- no connection came yet
-  pub Over-none : (s : Service S g) → LeavesSpelled (state_in s) → Over (state_in s) (state_in s) (ServesUpTo 0 s s)
-  Over-none s spelled was spells = record { stored = was; spells = spells; holds = record { exchanges = []; are = refl; serves = durable_none s was [] refl spelled } }
+  pub StoredTransition-none : (s : Service S g) → RecoversSpelled (state_in s) → StoredTransition (state_in s) (state_in s) (ServesUpTo 0 s s)
+  StoredTransition-none s spelled was spells = record { stored = was; spells = spells; holds = record { exchanges = []; are = refl; serves = durable_none s was [] refl spelled } }
 
   -- none was accepted
-  pub Over-unaccepted : (s : Service S g) → LeavesSpelled (state_in s) → Over (state_in s) (state_in s) (ServesNext s s)
-  Over-unaccepted s spelled was spells = record { stored = was; spells = spells; holds = record { exchanges = []; are = inl refl; serves = durable_none s was [] refl spelled } }
+  pub StoredTransition-unaccepted : (s : Service S g) → RecoversSpelled (state_in s) → StoredTransition (state_in s) (state_in s) (ServesNext s s)
+  StoredTransition-unaccepted s spelled was spells = record { stored = was; spells = spells; holds = record { exchanges = []; are = inl refl; serves = durable_none s was [] refl spelled } }
 
   -- a session
-  pub Over-session : (old new : Service S g) (reader reader' writer writer' : Option (List ℕ)) (ended : Ended)
-      → Over (state_in old) (state_in new) (λ was now. Session (ServesDurably old new was now) reader reader' writer writer' ended) → Over (state_in old) (state_in new) (ServesNext old new)
-  Over-session old new reader reader' writer writer' ended over was spells =
+  pub StoredTransition-session : (old new : Service S g) (reader reader' writer writer' : Option (List ℕ)) (ended : Ended)
+      → StoredTransition (state_in old) (state_in new) (λ was now. Session (ServesDurably old new was now) reader reader' writer writer' ended) → StoredTransition (state_in old) (state_in new) (ServesNext old new)
+  StoredTransition-session old new reader reader' writer writer' ended over was spells =
       let s = over was spells in
       let xs = exchanges s.holds.answered in
       record {
@@ -40,14 +40,14 @@ module _ {S : Type 0} {g : Ghosts S} where
         holds = record {
           exchanges = xs;
           are = inr (record { reader = reader; reader' = reader'; writer = writer; writer' = writer'; ended = ended; session = Session-same (ServesDurably old new was s.stored) reader reader' writer writer' ended s.holds });
-          serves = s.holds.carries.serves;
+          serves = s.holds.processes.serves;
         };
       }
 
   -- one more connection
-  pub Over-next : (old mid new : Service S g) (count : ℕ) → HasCleanDisk (state_in new) → Over (state_in old) (state_in mid) (ServesUpTo count old mid)
-      → Over (state_in mid) (state_in new) (ServesNext mid new) → Over (state_in old) (state_in new) (ServesUpTo (count + 1) old new)
-  Over-next old mid new count clean before next was spells =
+  pub StoredTransition-next : (old mid new : Service S g) (count : ℕ) → HasCleanDisk (state_in new) → StoredTransition (state_in old) (state_in mid) (ServesUpTo count old mid)
+      → StoredTransition (state_in mid) (state_in new) (ServesNext mid new) → StoredTransition (state_in old) (state_in new) (ServesUpTo (count + 1) old new)
+  StoredTransition-next old mid new count clean before next was spells =
       let b = before was spells in
       let n = next b.stored b.spells in
       let e : suc count ≡ count + 1 = omega arith in

@@ -7,8 +7,8 @@ use Rattle.reg_core.specs.Registry.{Registry}
 use Rattle.reg_store.specs.declared.error.StoreError.{StoreError}
 use Rattle.reg_store.specs.declared.listing.Listing.{Listing}
 use Rattle.reg_store.specs.Listings.{listing_lines}
-use Rattle.reg_report.specs.Csv.{IsBegun, header, listing}
-use Rattle.reg_report.specs.StoreAnswers.{store_answer}
+use Rattle.reg_report.specs.Csv.{WritesPrefix, header, listing}
+use Rattle.reg_report.specs.StoreResults.{store_result}
 use Rattle.reg_report.specs.declared.error.ReportError.{ReportError}
 use Rattle.reg_report.specs.declared.error.ReportError.TheVariants.{Store, Write, OutOfMemory}
 use Rattle.reg_jobs.specs.declared.listings.ListOutcome.{ListOutcome}
@@ -17,7 +17,7 @@ use Rattle.reg_jobs.specs.Listings.{IfUnread, ListsAs, listed_as}
 
 -- all of it was written, or so many lines, unless a write failed
 pub ListsAs-printed : (kind : Listing) (g : Registry) (writer writer' : Option (List ℕ)) (printed : Result (Unit {0}) ReportError)
-    → OnOk printed (Appends writer writer' (listing kind g)) → (printed ≢ Err Write → IsBegun (header kind ∷ listing_lines kind g) writer writer')
+    → OnOk printed (Appends writer writer' (listing kind g)) → (printed ≢ Err Write → WritesPrefix (header kind ∷ listing_lines kind g) writer writer')
     → ListsAs kind g writer writer' (listed_as printed)
 ListsAs-printed kind g writer writer' (Ok done) whole begun = whole
 ListsAs-printed kind g writer writer' (Err (Store error)) whole begun = begun (λ same. cc)
@@ -37,13 +37,13 @@ ListsAs-flushed kind g old mid new outcome flushed kept (inl same) lists = subst
 ListsAs-flushed kind g old mid new outcome flushed kept (inr failed) lists = subst (ListsAs kind g old new) (sym failed) tt
 
 -- what holds of the error that the store answered, where the registry couldn't be read
-IfUnread-printed : (P : StoreError → Type 0) (printed : Result (Unit {0}) ReportError) → IfErr (store_answer printed) P → IfUnread (listed_as printed) P
+IfUnread-printed : (P : StoreError → Type 0) (printed : Result (Unit {0}) ReportError) → IfErr (store_result printed) P → IfUnread (listed_as printed) P
 IfUnread-printed P (Ok done) holds = tt
 IfUnread-printed P (Err (Store error)) holds = holds
 IfUnread-printed P (Err Write) holds = tt
 IfUnread-printed P (Err OutOfMemory) holds = tt
 
 pub IfUnread-flushed : (P : StoreError → Type 0) (printed : Result (Unit {0}) ReportError) (outcome flushed : ListOutcome) → outcome ≡ listed_as printed
-    → (flushed ≡ outcome) ⊎ (flushed ≡ listed.NotWritten) → IfErr (store_answer printed) P → IfUnread flushed P
+    → (flushed ≡ outcome) ⊎ (flushed ≡ listed.NotWritten) → IfErr (store_result printed) P → IfUnread flushed P
 IfUnread-flushed P printed outcome flushed is (inl same) holds = subst (λ (o : ListOutcome). IfUnread o P) (sym same) (subst (λ (o : ListOutcome). IfUnread o P) (sym is) (IfUnread-printed P printed holds))
 IfUnread-flushed P printed outcome flushed is (inr failed) holds = subst (λ (o : ListOutcome). IfUnread o P) (sym failed) tt

@@ -4,7 +4,7 @@ use Rattle.std.specs.Io.KnownBytes.{Appends}
 use Rattle.reg_core.specs.Stored.{Stored, HasTrueEvidence}
 use Rattle.reg_store.specs.declared.error.StoreError.{StoreError}
 use Rattle.reg_store.specs.Failures.{is_fault}
-use Rattle.reg_http.specs.Output.{Begins}
+use Rattle.reg_http.specs.Output.{AppendsPrefix}
 use Rattle.reg_jobs.specs.declared.auditing.AuditOutcome.{AuditOutcome}
 use Rattle.reg_jobs.specs.declared.auditing.AuditOutcome.TheVariants.{Verdict, Unread, NotWritten}
 
@@ -18,16 +18,16 @@ abbrev pub IsVerdictOn : Stored → Bool → Type 0
 IsVerdictOn was holds = IsTrue holds ↔ HasTrueEvidence was
 
 -- what was printed for what the store answered: the line for a verdict, whole or a beginning of it, and for an error nothing
-abbrev pub TellsEvidence : Result Bool StoreError → Option (List ℕ) → Option (List ℕ) → AuditOutcome → Type 0
-TellsEvidence (Ok holds) old new (Verdict told) = (told ≡ holds) × Appends old new (evidence_line told)
-TellsEvidence (Ok holds) old new (Unread error) = ⊥
-TellsEvidence (Ok holds) old new NotWritten = Begins old new (evidence_line holds)
-TellsEvidence (Err error) old new (Verdict told) = ⊥
-TellsEvidence (Err error) old new (Unread told) = (told ≡ error) × (new ≡ old)
-TellsEvidence (Err error) old new NotWritten = ⊥
+abbrev pub PrintsEvidence : Result Bool StoreError → Option (List ℕ) → Option (List ℕ) → AuditOutcome → Type 0
+PrintsEvidence (Ok holds) old new (Verdict told) = (told ≡ holds) × Appends old new (evidence_line told)
+PrintsEvidence (Ok holds) old new (Unread error) = ⊥
+PrintsEvidence (Ok holds) old new NotWritten = AppendsPrefix old new (evidence_line holds)
+PrintsEvidence (Err error) old new (Verdict told) = ⊥
+PrintsEvidence (Err error) old new (Unread told) = (told ≡ error) × (new ≡ old)
+PrintsEvidence (Err error) old new NotWritten = ⊥
 
 -- what an audit of what is stored came to, and what was printed; memory and the disk alone fail
 abbrev pub AuditsAs : Stored → Option (List ℕ) → Option (List ℕ) → AuditOutcome → Type 0
 AuditsAs was writer writer' (Verdict holds) = IsVerdictOn was holds × Appends writer writer' (evidence_line holds)
 AuditsAs was writer writer' (Unread error) = IsTrue (is_fault error) × (writer' ≡ writer)
-AuditsAs was writer writer' NotWritten = (holds : Bool) × IsVerdictOn was holds × Begins writer writer' (evidence_line holds)
+AuditsAs was writer writer' NotWritten = (holds : Bool) × IsVerdictOn was holds × AppendsPrefix writer writer' (evidence_line holds)

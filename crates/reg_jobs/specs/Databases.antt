@@ -9,20 +9,20 @@ use Rattle.reg_tables.specs.Layout.{no_schema}
 use Rattle.reg_store.specs.declared.error.StoreError.{StoreError}
 use Rattle.reg_store.specs.declared.error.StoreError.TheVariants.{Disk, NotARegistry}
 use Rattle.reg_store.specs.Failures.{IsFaultBy}
-use Rattle.reg_store.specs.Opening.{IsIndexed, LosesNothing}
+use Rattle.reg_store.specs.Opening.{IsIndexed, CrashKeepsStored}
 use Rattle.reg_store.specs.Spells.{IsOpenOver}
-use Rattle.reg_store.specs.Stores.{LeavesConnection, connection_of}
-use Rattle.reg_store.specs.UnopenedFaults.{IsUnopened}
+use Rattle.reg_store.specs.Stores.{KeepsConnection, connection_of}
+use Rattle.reg_store.specs.OpenFailures.{IsOpenFailure}
 use Rattle.reg_store.specs.declared.store.Store.{Store}
 use Rattle.reg_service.specs.declared.service.Service.{Service}
 use Rattle.reg_service.specs.Crashes.{ServesDurably}
 use Rattle.reg_service.specs.Services.{state_in, store_in}
 use Rattle.reg_http.specs.declared.serving.Ended.{Ended}
-use Rattle.reg_http.specs.OverTables.{Over}
+use Rattle.reg_http.specs.Transitions.{StoredTransition}
 use Rattle.reg_http.specs.Sessions.{Session}
 
 -- a connection comes back, and this holds of what it shows
-pub record GivesBack {S : Type 0} (g : Ghosts S) (back : Option (Held S)) (P : State → Type 0) : Type 0 where
+pub record ReturnsConnection {S : Type 0} (g : Ghosts S) (back : Option (Held S)) (P : State → Type 0) : Type 0 where
   pub connection : Held S
   pub given : back ≡ Some connection
   pub holds : HasCleanDisk (state g connection) → P (state g connection)
@@ -33,33 +33,33 @@ pub record ServesStore {S : Type 0} {g : Ghosts S} (store : Store S g) (back : H
   pub after : Service S g
   pub begins : store_in before ≡ store
   pub ends : back ≡ connection_of (store_in after)
-  pub leads : HasCleanDisk (state_in after) → Over (state_in before) (state_in after) (λ was now. Session (ServesDurably before after was now) reader reader' writer writer' ended)
+  pub leads : HasCleanDisk (state_in after) → StoredTransition (state_in before) (state_in after) (λ was now. Session (ServesDurably before after was now) reader reader' writer writer' ended)
 
 -- the database was empty, and its tables spell a new registry, which keeps no reply and has no evidence
-pub record IsMadeIn (old new : State) : Type 0 where
+pub record IsCreatedIn (old new : State) : Type 0 where
   pub empty : ¬ (old.now.schema ≢ no_schema)
   pub spells : IsOpenOver new new_stored
 
 -- why no registry was made: a database that isn't empty is told so, over an empty one memory was refused or there was a fault of the disk, and nothing is
 -- committed, nor left by a crash but after `Disk`
-pub record FailsToMake (old new : State) (error : StoreError) : Type 0 where
+pub record FailsToCreate (old new : State) (error : StoreError) : Type 0 where
   pub full : old.now.schema ≢ no_schema → error ≡ NotARegistry
   pub fault : old.now.schema ≡ no_schema → IsFaultBy old new error
-  pub leaves : LeavesConnection old new error
+  pub leaves : KeepsConnection old new error
 
 -- Why a database gave no registry. Where its tables spell one, memory was refused or there was a fault of the disk. Another layout is told,
 -- and with its own number; `Disk` is for a fault of the disk, whatever the database holds. Nothing is committed. A crash leaves what it left before, or the
 -- tables with their index; and always what they spelled.
 pub record FailsToOpen (old new : State) (error : StoreError) : Type 0 where
-  pub fails : IsUnopened old new error
-  pub leaves : LeavesConnection old new error
-  pub found : LosesNothing old new
+  pub fails : IsOpenFailure old new error
+  pub leaves : KeepsConnection old new error
+  pub found : CrashKeepsStored old new
   pub crash : (db : Trees) → new.may_leave db → old.may_leave db ⊎ IsIndexed old.now db
 
 -- a transaction was under way, or no registry was made
-abbrev pub LacksMade : State → State → StoreError → Type 0
-LacksMade old new error = (IsTrue old.in_transaction × (error ≡ Disk)) ⊎ FailsToMake old new error
+abbrev pub CreatesNone : State → State → StoreError → Type 0
+CreatesNone old new error = (IsTrue old.in_transaction × (error ≡ Disk)) ⊎ FailsToCreate old new error
 
 -- a transaction was under way, or no registry was found
-abbrev pub LacksFound : State → State → StoreError → Type 0
-LacksFound old new error = (IsTrue old.in_transaction × (error ≡ Disk)) ⊎ FailsToOpen old new error
+abbrev pub OpensNone : State → State → StoreError → Type 0
+OpensNone old new error = (IsTrue old.in_transaction × (error ≡ Disk)) ⊎ FailsToOpen old new error

@@ -1,13 +1,13 @@
 -- Standard error, and whether something of its lines was lost.
 use Rattle.std.specs.Prelude.{ℕ, Bool, true, false, List, [], Option}
 use Rattle.std.specs.Io.KnownBytes.{Appends}
-use Rattle.reg_http.specs.Output.{Begins}
+use Rattle.reg_http.specs.Output.{AppendsPrefix}
 use Rattle.reg_jobs.specs.declared.errors.Errors.{Errors}
 
 -- what was written of bytes: all of them where nothing was lost, a beginning where something is lost now, and nothing where something was lost before
 abbrev pub WritesUnlessLost : Bool → Bool → Option (List ℕ) → Option (List ℕ) → List ℕ → Type 0
 WritesUnlessLost false false old new bytes = Appends old new bytes
-WritesUnlessLost false true old new bytes = Begins old new bytes
+WritesUnlessLost false true old new bytes = AppendsPrefix old new bytes
 WritesUnlessLost true false old new bytes = ⊥
 WritesUnlessLost true true old new bytes = Appends old new []
 

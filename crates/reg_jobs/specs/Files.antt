@@ -12,17 +12,17 @@ use Rattle.reg_jobs.specs.declared.files.TextOutcome.TheVariants.{Whole, Nothing
 use Rattle.reg_jobs.specs.declared.files.CheckOutcome.{CheckOutcome}
 use Rattle.reg_jobs.specs.declared.files.CheckOutcome.TheVariants.{Verdict, Reader, Writer, OutOfMemory as CheckOutOfMemory, NotWritten as VerdictNotWritten}
 use Rattle.avro_resolve.specs.Resolution.{Resolves}
-use Rattle.reg_http.specs.Output.{IsFront}
+use Rattle.reg_http.specs.Output.{IsPrefix}
 
 -- the file, if it could be read, holds this schema: its bytes are a text that denotes it
-abbrev pub Holds : Option (List ℕ) → List NodeView → Type 0
-Holds None nodes = ⊥
-Holds (Some bytes) nodes = IsUtf8 bytes × TextDenotes bytes nodes
+abbrev pub FileHolds : Option (List ℕ) → List NodeView → Type 0
+FileHolds None nodes = ⊥
+FileHolds (Some bytes) nodes = IsUtf8 bytes × TextDenotes bytes nodes
 
 -- why a file gives no schema
 abbrev pub FailsAs : Option (List ℕ) → FileFault → Type 0
 FailsAs file CannotRead = file ≡ None
-FailsAs file NotSchema = IsSome file × ((nodes : List NodeView) → ¬ (Holds file nodes))
+FailsAs file NotSchema = IsSome file × ((nodes : List NodeView) → ¬ (FileHolds file nodes))
 FailsAs file OutOfMemory = ⊤
 
 -- a schema's identity text, and a line end
@@ -31,10 +31,10 @@ identity_line nodes = identity nodes ++ 10 ∷ []
 
 -- what was printed for a file
 abbrev pub PrintsAs : Option (List ℕ) → Option (List ℕ) → Option (List ℕ) → TextOutcome → Type 0
-PrintsAs file old new Whole = (nodes : List NodeView) × Holds file nodes × Appends old new (identity_line nodes)
+PrintsAs file old new Whole = (nodes : List NodeView) × FileHolds file nodes × Appends old new (identity_line nodes)
 PrintsAs file old new (Nothing fault) = FailsAs file fault × Appends old new []
 PrintsAs file old new NotWritten =
-    (nodes : List NodeView) × (part : List ℕ) × Holds file nodes × IsFront part (identity_line nodes) × Appends old new part
+    (nodes : List NodeView) × (part : List ℕ) × FileHolds file nodes × IsPrefix part (identity_line nodes) × Appends old new part
 
 -- the line for a verdict
 abbrev pub verdict_line : Bool → List ℕ
@@ -42,26 +42,26 @@ verdict_line true = codes "compatible\n"
 verdict_line false = codes "incompatible\n"
 
 -- what was printed for a verdict
-abbrev pub TellsVerdict : Bool → Option (List ℕ) → Option (List ℕ) → CheckOutcome → Type 0
-TellsVerdict good old new (Verdict told) = (told ≡ good) × Appends old new (verdict_line good)
-TellsVerdict good old new (Reader fault) = ⊥
-TellsVerdict good old new (Writer fault) = ⊥
-TellsVerdict good old new CheckOutOfMemory = ⊥
-TellsVerdict good old new VerdictNotWritten = (part : List ℕ) × IsFront part (verdict_line good) × Appends old new part
+abbrev pub PrintsVerdict : Bool → Option (List ℕ) → Option (List ℕ) → CheckOutcome → Type 0
+PrintsVerdict good old new (Verdict told) = (told ≡ good) × Appends old new (verdict_line good)
+PrintsVerdict good old new (Reader fault) = ⊥
+PrintsVerdict good old new (Writer fault) = ⊥
+PrintsVerdict good old new CheckOutOfMemory = ⊥
+PrintsVerdict good old new VerdictNotWritten = (part : List ℕ) × IsPrefix part (verdict_line good) × Appends old new part
 
 -- the schemas in the reader's and the writer's file, and whether the one reads what the other writes
 pub record Judges (reader_file writer_file : Option (List ℕ)) (good : Bool) : Type 0 where
   pub reader : List NodeView
   pub writer : List NodeView
-  pub reader_holds : Holds reader_file reader
-  pub writer_holds : Holds writer_file writer
+  pub reader_holds : FileHolds reader_file reader
+  pub writer_holds : FileHolds writer_file writer
   pub verdict : IsTrue good ↔ Resolves writer reader
 
 -- what a check of two files came to, and what was printed
 abbrev pub ChecksAs : Option (List ℕ) → Option (List ℕ) → Option (List ℕ) → Option (List ℕ) → CheckOutcome → Type 0
 ChecksAs reader_file writer_file old new (Verdict good) = Judges reader_file writer_file good × Appends old new (verdict_line good)
 ChecksAs reader_file writer_file old new (Reader fault) = FailsAs reader_file fault × Appends old new []
-ChecksAs reader_file writer_file old new (Writer fault) = (nodes : List NodeView) × Holds reader_file nodes × FailsAs writer_file fault × Appends old new []
+ChecksAs reader_file writer_file old new (Writer fault) = (nodes : List NodeView) × FileHolds reader_file nodes × FailsAs writer_file fault × Appends old new []
 ChecksAs reader_file writer_file old new CheckOutOfMemory = Appends old new []
 ChecksAs reader_file writer_file old new VerdictNotWritten =
-    (good : Bool) × (part : List ℕ) × Judges reader_file writer_file good × IsFront part (verdict_line good) × Appends old new part
+    (good : Bool) × (part : List ℕ) × Judges reader_file writer_file good × IsPrefix part (verdict_line good) × Appends old new part

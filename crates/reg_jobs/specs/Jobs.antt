@@ -16,27 +16,27 @@ use Rattle.reg_service.specs.Crashes.{ServesDurably}
 use Rattle.reg_service.specs.Deliveries.{Serves, served}
 use Rattle.reg_service.specs.Services.{state_in, store_in}
 use Rattle.reg_store.specs.Stores.{connection_of}
-use Rattle.reg_http.specs.OverTables.{Reaches}
+use Rattle.reg_http.specs.Transitions.{StoredSatisfies}
 use Rattle.reg_http.specs.declared.serving.Ended.{Ended}
 use Rattle.reg_jobs.specs.declared.files.TextOutcome.{TextOutcome}
 use Rattle.reg_jobs.specs.declared.files.CheckOutcome.{CheckOutcome}
-use Rattle.reg_words.specs.declared.task.Job.{Job}
-use Rattle.reg_words.specs.declared.task.Job.TheVariants.{Run, Text as TextJob, Check as CheckJob, List as ListJob, Migrate, Audit}
-use Rattle.reg_words.specs.declared.task.Listing.{Listing}
+use Rattle.reg_cli.specs.declared.task.Job.{Job}
+use Rattle.reg_cli.specs.declared.task.Job.TheVariants.{Run, Text as TextJob, Check as CheckJob, List as ListJob, Migrate, Audit}
+use Rattle.reg_cli.specs.declared.task.ListingName.{ListingName}
 use Rattle.reg_jobs.specs.declared.errors.Errors.{Errors}
 use Rattle.reg_jobs.specs.declared.job.Opened.{Opened}
 use Rattle.reg_jobs.specs.declared.job.Opened.TheVariants.{Nothing, Texts, Failed, Empty, OrphanedLog, Fresh, Database}
 use Rattle.reg_jobs.specs.declared.outcome.Fault.{Fault}
 use Rattle.reg_jobs.specs.declared.outcome.Outcome.{Outcome}
-use Rattle.reg_jobs.specs.declared.outcome.Outcome.TheVariants.{Session as SessionEnded, Unopened, NotListening, Text as TextEnded, Check as CheckEnded, List as ListEnded, Moved, Audited}
+use Rattle.reg_jobs.specs.declared.outcome.Outcome.TheVariants.{Session as SessionEnded, Unopened, NotListening, Text as TextEnded, Check as CheckEnded, List as ListEnded, Migrated, Audited}
 use Rattle.reg_jobs.specs.Auditing.{AuditsAs}
 use Rattle.reg_jobs.specs.declared.auditing.AuditOutcome.{AuditOutcome}
-use Rattle.reg_jobs.specs.Databases.{GivesBack, IsMadeIn, LacksMade, LacksFound}
+use Rattle.reg_jobs.specs.Databases.{ReturnsConnection, IsCreatedIn, CreatesNone, OpensNone}
 use Rattle.reg_jobs.specs.Files.{PrintsAs, ChecksAs}
 use Rattle.reg_jobs.specs.Listings.{IfUnread, ListsAs, table_of}
-use Rattle.reg_jobs.specs.Moving.{MovesAs}
+use Rattle.reg_jobs.specs.Migration.{MigratesAs}
 use Rattle.reg_jobs.specs.declared.listings.ListOutcome.{ListOutcome}
-use Rattle.reg_jobs.specs.Outcomes.{answer_of, status_of, TellsFault}
+use Rattle.reg_jobs.specs.Outcomes.{result_of, status_of, PrintsFault}
 use Rattle.reg_http.specs.Sessions.{Session}
 
 -- the file that a job names, the reader's of two, or an empty name
@@ -50,17 +50,17 @@ file_of (Migrate database) = string_bytes database
 file_of (Audit database) = string_bytes database
 
 -- the writer's file of a job that names two, or the one that it names
-abbrev pub writer_of : Job → List ℕ
-writer_of (Run database) = file_of (Run database)
-writer_of (TextJob file) = string_bytes file
-writer_of (CheckJob reader writer) = string_bytes writer
-writer_of (ListJob database kind) = string_bytes database
-writer_of (Migrate database) = string_bytes database
-writer_of (Audit database) = string_bytes database
+abbrev pub writer_file_of : Job → List ℕ
+writer_file_of (Run database) = file_of (Run database)
+writer_file_of (TextJob file) = string_bytes file
+writer_file_of (CheckJob reader writer) = string_bytes writer
+writer_file_of (ListJob database kind) = string_bytes database
+writer_file_of (Migrate database) = string_bytes database
+writer_file_of (Audit database) = string_bytes database
 
 -- what a job answers: the program's status, or a fault and the file that it is on
-abbrev pub job_answer : Job → Outcome → Result ℕ (Fault × List ℕ)
-job_answer job outcome = answer_of outcome (file_of job) (writer_of job)
+abbrev pub job_result : Job → Outcome → Result ℕ (Fault × List ℕ)
+job_result job outcome = result_of outcome (file_of job) (writer_file_of job)
 
 -- a file's bytes, if it could be read
 abbrev pub bytes_of : Option (Option (Vec ℕ Global)) → Option (List ℕ)
@@ -89,7 +89,7 @@ connection_in (Fresh connection) = Some connection
 connection_in (Database connection) = Some connection
 
 -- a session over a new registry
-pub record RunsAs (reader reader' writer writer' : Option (List ℕ)) (outcome : Outcome) : Type 0 where
+pub record RunsInMemory (reader reader' writer writer' : Option (List ℕ)) (outcome : Outcome) : Type 0 where
   pub now : Stored
   pub ended : Ended
   pub session : Session (λ xs. Serves new_stored (served xs) now) reader reader' writer writer' ended
@@ -102,7 +102,7 @@ HasRegistry g (Texts texts) new = ⊥
 HasRegistry g Failed new = ⊥
 HasRegistry g Empty new = ⊥
 HasRegistry g OrphanedLog new = ⊥
-HasRegistry g (Fresh old) new = IsMadeIn (state g old) new
+HasRegistry g (Fresh old) new = IsCreatedIn (state g old) new
 HasRegistry g (Database old) new = OpensOver (state g old) new
 
 -- why what was opened has no registry, and the connection that comes back
@@ -112,8 +112,8 @@ LacksRegistry g (Texts texts) back error = (back ≡ None) × (error ≡ Disk)
 LacksRegistry g Failed back error = (back ≡ None) × (error ≡ Disk)
 LacksRegistry g Empty back error = (back ≡ None) × (error ≡ NotARegistry)
 LacksRegistry g OrphanedLog back error = (back ≡ None) × (error ≡ NotARegistry)
-LacksRegistry g (Fresh old) back error = GivesBack g back (λ new. LacksMade (state g old) new error)
-LacksRegistry g (Database old) back error = GivesBack g back (λ new. LacksFound (state g old) new error)
+LacksRegistry g (Fresh old) back error = ReturnsConnection g back (λ new. CreatesNone (state g old) new error)
+LacksRegistry g (Database old) back error = ReturnsConnection g back (λ new. OpensNone (state g old) new error)
 
 -- what is stored as a session begins, by what was opened
 abbrev pub BeginsWith : {S : Type 0} (g : Ghosts S) → Opened S → Stored → Type 0
@@ -130,7 +130,7 @@ pub record SessionFrom {S : Type 0} (g : Ghosts S) (opened : Opened S) (before a
   pub was : Stored
   pub begins : BeginsWith g opened was
   pub is_open : IsOpenOver (state_in before) was
-  pub leads : Reaches (state_in after) (λ now. Session (ServesDurably before after was now) reader reader' writer writer' ended)
+  pub leads : StoredSatisfies (state_in after) (λ now. Session (ServesDurably before after was now) reader reader' writer writer' ended)
 
 -- so did a session over what was opened, and its connection comes back
 pub record SessionOver {S : Type 0} (g : Ghosts S) (opened : Opened S) (back : Option (Held S)) (reader reader' writer writer' : Option (List ℕ)) (ended : Ended) : Type 0 where
@@ -140,7 +140,7 @@ pub record SessionOver {S : Type 0} (g : Ghosts S) (opened : Opened S) (back : O
   pub holds : HasCleanDisk (state_in after) → SessionFrom g opened before after reader reader' writer writer' ended
 
 -- there was no registry, and nothing was read or written
-pub record RunsOnNothing {S : Type 0} (g : Ghosts S) (opened : Opened S) (back : Option (Held S)) (reader reader' writer writer' : Option (List ℕ)) (error : StoreError) : Type 0 where
+pub record RunsWithoutRegistry {S : Type 0} (g : Ghosts S) (opened : Opened S) (back : Option (Held S)) (reader reader' writer writer' : Option (List ℕ)) (error : StoreError) : Type 0 where
   pub unread : reader' ≡ reader
   pub unwritten : writer' ≡ writer
   pub lacks : LacksRegistry g opened back error
@@ -148,18 +148,18 @@ pub record RunsOnNothing {S : Type 0} (g : Ghosts S) (opened : Opened S) (back :
 -- how a session over what was opened comes out
 abbrev pub RunsOn : {S : Type 0} (g : Ghosts S) → Opened S → Option (Held S) → Option (List ℕ) → Option (List ℕ) → Option (List ℕ) → Option (List ℕ) → Outcome → Type 0
 RunsOn g opened back reader reader' writer writer' (SessionEnded ended) = SessionOver g opened back reader reader' writer writer' ended
-RunsOn g opened back reader reader' writer writer' (Unopened error) = RunsOnNothing g opened back reader reader' writer writer' error
+RunsOn g opened back reader reader' writer writer' (Unopened error) = RunsWithoutRegistry g opened back reader reader' writer writer' error
 RunsOn g opened back reader reader' writer writer' (NotListening port) = ⊥
 RunsOn g opened back reader reader' writer writer' (TextEnded printed) = ⊥
 RunsOn g opened back reader reader' writer writer' (CheckEnded checked) = ⊥
 RunsOn g opened back reader reader' writer writer' (ListEnded listed) = ⊥
-RunsOn g opened back reader reader' writer writer' (Moved printed) = ⊥
+RunsOn g opened back reader reader' writer writer' (Migrated printed) = ⊥
 RunsOn g opened back reader reader' writer writer' (Audited audited) = ⊥
 
 -- how a session comes out that is asked for: over what was opened where the job names a file, and else over a new registry in memory
-abbrev pub RunsAsked : {S : Type 0} (g : Ghosts S) → Opened S → Bool → Option (Held S) → Option (List ℕ) → Option (List ℕ) → Option (List ℕ) → Option (List ℕ) → Outcome → Type 0
-RunsAsked g opened false back reader reader' writer writer' outcome = (back ≡ connection_in opened) × RunsAs reader reader' writer writer' outcome
-RunsAsked g opened true back reader reader' writer writer' outcome = RunsOn g opened back reader reader' writer writer' outcome
+abbrev pub RunsJob : {S : Type 0} (g : Ghosts S) → Opened S → Bool → Option (Held S) → Option (List ℕ) → Option (List ℕ) → Option (List ℕ) → Option (List ℕ) → Outcome → Type 0
+RunsJob g opened false back reader reader' writer writer' outcome = (back ≡ connection_in opened) × RunsInMemory reader reader' writer writer' outcome
+RunsJob g opened true back reader reader' writer writer' outcome = RunsOn g opened back reader reader' writer writer' outcome
 
 -- what was opened is a database, and this holds of it
 abbrev pub OverDatabase : {S : Type 0} (g : Ghosts S) → Opened S → (State → Type 0) → Type 0
@@ -182,7 +182,7 @@ FindsNone g (Fresh old) back error = (back ≡ Some old) × (error ≡ NotARegis
 FindsNone g (Database old) back error = LacksRegistry g (Database old) back error
 
 -- a listing of the registry of a database, which the tables still spell
-pub record ListsOver (old : State) (kind : Listing) (writer writer' : Option (List ℕ)) (listed : ListOutcome) (new : State) : Type 0 where
+pub record ListsOver (old : State) (kind : ListingName) (writer writer' : Option (List ℕ)) (listed : ListOutcome) (new : State) : Type 0 where
   pub was : Stored
   pub begins : SpellsUnopened old.now was
   pub lists : ListsAs (table_of kind) was.registry writer writer' listed
@@ -195,14 +195,14 @@ pub record WritesNothing {S : Type 0} (g : Ghosts S) (opened : Opened S) (back :
   pub lacks : FindsNone g opened back error
 
 -- how a listing of what was opened comes out
-abbrev pub ListsOn : {S : Type 0} (g : Ghosts S) → Opened S → Listing → Option (Held S) → Option (List ℕ) → Option (List ℕ) → Outcome → Type 0
+abbrev pub ListsOn : {S : Type 0} (g : Ghosts S) → Opened S → ListingName → Option (Held S) → Option (List ℕ) → Option (List ℕ) → Outcome → Type 0
 ListsOn g opened kind back writer writer' (SessionEnded ended) = ⊥
 ListsOn g opened kind back writer writer' (Unopened error) = WritesNothing g opened back writer writer' error
 ListsOn g opened kind back writer writer' (NotListening port) = ⊥
 ListsOn g opened kind back writer writer' (TextEnded printed) = ⊥
 ListsOn g opened kind back writer writer' (CheckEnded checked) = ⊥
-ListsOn g opened kind back writer writer' (ListEnded listed) = OverDatabase g opened (λ old. GivesBack g back (ListsOver old kind writer writer' listed))
-ListsOn g opened kind back writer writer' (Moved printed) = ⊥
+ListsOn g opened kind back writer writer' (ListEnded listed) = OverDatabase g opened (λ old. ReturnsConnection g back (ListsOver old kind writer writer' listed))
+ListsOn g opened kind back writer writer' (Migrated printed) = ⊥
 ListsOn g opened kind back writer writer' (Audited audited) = ⊥
 
 -- an audit of what a database has stored, which the tables still spell
@@ -220,48 +220,48 @@ AuditsOn g opened back writer writer' (NotListening port) = ⊥
 AuditsOn g opened back writer writer' (TextEnded printed) = ⊥
 AuditsOn g opened back writer writer' (CheckEnded checked) = ⊥
 AuditsOn g opened back writer writer' (ListEnded listed) = ⊥
-AuditsOn g opened back writer writer' (Moved printed) = ⊥
-AuditsOn g opened back writer writer' (Audited audited) = OverDatabase g opened (λ old. GivesBack g back (AuditsOver old writer writer' audited))
+AuditsOn g opened back writer writer' (Migrated printed) = ⊥
+AuditsOn g opened back writer writer' (Audited audited) = OverDatabase g opened (λ old. ReturnsConnection g back (AuditsOver old writer writer' audited))
 
 -- nothing was opened that could be moved, and nothing was written
-abbrev pub MovesNothing : Option (List ℕ) → Option (List ℕ) → StoreError → Outcome → Type 0
-MovesNothing writer writer' error outcome = (writer' ≡ writer) × (outcome ≡ Unopened error)
+abbrev pub MigratesNothing : Option (List ℕ) → Option (List ℕ) → StoreError → Outcome → Type 0
+MigratesNothing writer writer' error outcome = (writer' ≡ writer) × (outcome ≡ Unopened error)
 
 -- how a move of what was opened comes out, and the connection that comes back: it makes no registry in an empty database, which comes back as it is
-abbrev pub MovesOn : {S : Type 0} (g : Ghosts S) → Opened S → Option (Held S) → Option (List ℕ) → Option (List ℕ) → Outcome → Type 0
-MovesOn g Nothing back writer writer' outcome = (back ≡ None) × MovesNothing writer writer' Disk outcome
-MovesOn g (Texts texts) back writer writer' outcome = (back ≡ None) × MovesNothing writer writer' Disk outcome
-MovesOn g Failed back writer writer' outcome = (back ≡ None) × MovesNothing writer writer' Disk outcome
-MovesOn g Empty back writer writer' outcome = (back ≡ None) × MovesNothing writer writer' NotARegistry outcome
-MovesOn g OrphanedLog back writer writer' outcome = (back ≡ None) × MovesNothing writer writer' NotARegistry outcome
-MovesOn g (Fresh old) back writer writer' outcome = (back ≡ Some old) × MovesNothing writer writer' NotARegistry outcome
-MovesOn g (Database old) back writer writer' outcome = GivesBack g back (λ new. MovesAs (state g old) new writer writer' outcome)
+abbrev pub MigratesOn : {S : Type 0} (g : Ghosts S) → Opened S → Option (Held S) → Option (List ℕ) → Option (List ℕ) → Outcome → Type 0
+MigratesOn g Nothing back writer writer' outcome = (back ≡ None) × MigratesNothing writer writer' Disk outcome
+MigratesOn g (Texts texts) back writer writer' outcome = (back ≡ None) × MigratesNothing writer writer' Disk outcome
+MigratesOn g Failed back writer writer' outcome = (back ≡ None) × MigratesNothing writer writer' Disk outcome
+MigratesOn g Empty back writer writer' outcome = (back ≡ None) × MigratesNothing writer writer' NotARegistry outcome
+MigratesOn g OrphanedLog back writer writer' outcome = (back ≡ None) × MigratesNothing writer writer' NotARegistry outcome
+MigratesOn g (Fresh old) back writer writer' outcome = (back ≡ Some old) × MigratesNothing writer writer' NotARegistry outcome
+MigratesOn g (Database old) back writer writer' outcome = ReturnsConnection g back (λ new. MigratesAs (state g old) new writer writer' outcome)
 
 -- a schema's text was to be printed
-pub record TextsAs (file writer writer' : Option (List ℕ)) (outcome : Outcome) : Type 0 where
+pub record PrintsText (file writer writer' : Option (List ℕ)) (outcome : Outcome) : Type 0 where
   pub printed : TextOutcome
   pub prints : PrintsAs file writer writer' printed
   pub outcome_is : outcome ≡ TextEnded printed
 
 -- two schemas were to be checked
-pub record CheckedAs (reader_file writer_file writer writer' : Option (List ℕ)) (outcome : Outcome) : Type 0 where
+pub record ChecksFiles (reader_file writer_file writer writer' : Option (List ℕ)) (outcome : Outcome) : Type 0 where
   pub checked : CheckOutcome
   pub checks : ChecksAs reader_file writer_file writer writer' checked
   pub outcome_is : outcome ≡ CheckEnded checked
 
 -- how a job comes out, by its kind; one that isn't a session reads nothing
-abbrev pub ComesOut : {S : Type 0} (g : Ghosts S) → Job → Opened S → Option (Held S) → Option (List ℕ) → Option (List ℕ) → Option (List ℕ) → Option (List ℕ) → Outcome → Type 0
-ComesOut g (Run database) opened back reader reader' writer writer' outcome = RunsAsked g opened (is_some database) back reader reader' writer writer' outcome
-ComesOut g (TextJob file) opened back reader reader' writer writer' outcome = (back ≡ connection_in opened) × (reader' ≡ reader) × TextsAs (text_at opened 0) writer writer' outcome
-ComesOut g (CheckJob r w) opened back reader reader' writer writer' outcome = (back ≡ connection_in opened) × (reader' ≡ reader) × CheckedAs (text_at opened 0) (text_at opened 1) writer writer' outcome
-ComesOut g (ListJob database kind) opened back reader reader' writer writer' outcome = (reader' ≡ reader) × ListsOn g opened kind back writer writer' outcome
-ComesOut g (Migrate database) opened back reader reader' writer writer' outcome = (reader' ≡ reader) × MovesOn g opened back writer writer' outcome
-ComesOut g (Audit database) opened back reader reader' writer writer' outcome = (reader' ≡ reader) × AuditsOn g opened back writer writer' outcome
+abbrev pub HasOutcome : {S : Type 0} (g : Ghosts S) → Job → Opened S → Option (Held S) → Option (List ℕ) → Option (List ℕ) → Option (List ℕ) → Option (List ℕ) → Outcome → Type 0
+HasOutcome g (Run database) opened back reader reader' writer writer' outcome = RunsJob g opened (is_some database) back reader reader' writer writer' outcome
+HasOutcome g (TextJob file) opened back reader reader' writer writer' outcome = (back ≡ connection_in opened) × (reader' ≡ reader) × PrintsText (text_at opened 0) writer writer' outcome
+HasOutcome g (CheckJob r w) opened back reader reader' writer writer' outcome = (back ≡ connection_in opened) × (reader' ≡ reader) × ChecksFiles (text_at opened 0) (text_at opened 1) writer writer' outcome
+HasOutcome g (ListJob database kind) opened back reader reader' writer writer' outcome = (reader' ≡ reader) × ListsOn g opened kind back writer writer' outcome
+HasOutcome g (Migrate database) opened back reader reader' writer writer' outcome = (reader' ≡ reader) × MigratesOn g opened back writer writer' outcome
+HasOutcome g (Audit database) opened back reader reader' writer writer' outcome = (reader' ≡ reader) × AuditsOn g opened back writer writer' outcome
 
 -- a job that was done, with the connection that comes back, its line on standard error and the status
-pub record DoesAs {S E : Type 0} (g : Ghosts S) (contents : E → Option (List ℕ)) (job : Job) (opened : Opened S) (back : Option (Held S))
+pub record DoesJob {S E : Type 0} (g : Ghosts S) (contents : E → Option (List ℕ)) (job : Job) (opened : Opened S) (back : Option (Held S))
     (reader reader' writer writer' : Option (List ℕ)) (errors errors' : Errors E) (status : ℕ) : Type 0 where
   pub outcome : Outcome
-  pub comes_out : ComesOut g job opened back reader reader' writer writer' outcome
-  pub tells : TellsFault contents (job_answer job outcome) errors errors'
-  pub status_is : status ≡ status_of (job_answer job outcome)
+  pub has_outcome : HasOutcome g job opened back reader reader' writer writer' outcome
+  pub reports : PrintsFault contents (job_result job outcome) errors errors'
+  pub status_is : status ≡ status_of (job_result job outcome)

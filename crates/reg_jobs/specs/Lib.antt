@@ -7,5 +7,5 @@ pub mod Databases
 pub mod Jobs
 pub mod Listening
 pub mod Listings
-pub mod Moving
+pub mod Migration
 pub mod Opening

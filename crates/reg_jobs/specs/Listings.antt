@@ -6,11 +6,11 @@ use Rattle.reg_store.specs.declared.listing.Listing.{Listing}
 use Rattle.reg_store.specs.declared.listing.Listing.TheVariants.{Subjects, Versions, Schemas}
 use Rattle.reg_store.specs.declared.error.StoreError.{StoreError}
 use Rattle.reg_store.specs.Listings.{listing_lines}
-use Rattle.reg_report.specs.Csv.{IsBegun, header, listing}
+use Rattle.reg_report.specs.Csv.{WritesPrefix, header, listing}
 use Rattle.reg_report.specs.declared.error.ReportError.{ReportError}
 use Rattle.reg_report.specs.declared.error.ReportError.TheVariants.{Store, Write, OutOfMemory as ReportOutOfMemory}
-use Rattle.reg_words.specs.declared.task.Listing.{Listing as Word}
-use Rattle.reg_words.specs.declared.task.Listing.TheVariants.{Subjects as WordSubjects, Versions as WordVersions, Schemas as WordSchemas}
+use Rattle.reg_cli.specs.declared.task.ListingName.{ListingName as Word}
+use Rattle.reg_cli.specs.declared.task.ListingName.TheVariants.{Subjects as WordSubjects, Versions as WordVersions, Schemas as WordSchemas}
 use Rattle.reg_jobs.specs.declared.listings.ListOutcome.{ListOutcome}
 use Rattle.reg_jobs.specs.declared.listings.ListOutcome.TheVariants.{Whole, Unread, NotWritten, OutOfMemory}
 
@@ -31,9 +31,9 @@ listed_as (Err ReportOutOfMemory) = OutOfMemory
 -- refused. What was written before a failed write isn't said.
 abbrev pub ListsAs : Listing → Registry → Option (List ℕ) → Option (List ℕ) → ListOutcome → Type 0
 ListsAs kind g writer writer' Whole = Appends writer writer' (listing kind g)
-ListsAs kind g writer writer' (Unread error) = IsBegun (header kind ∷ listing_lines kind g) writer writer'
+ListsAs kind g writer writer' (Unread error) = WritesPrefix (header kind ∷ listing_lines kind g) writer writer'
 ListsAs kind g writer writer' NotWritten = Unit {0}
-ListsAs kind g writer writer' OutOfMemory = IsBegun (header kind ∷ listing_lines kind g) writer writer'
+ListsAs kind g writer writer' OutOfMemory = WritesPrefix (header kind ∷ listing_lines kind g) writer writer'
 
 -- what holds of the store's error, where the registry couldn't be read
 abbrev pub IfUnread : ListOutcome → (StoreError → Type 0) → Type 0

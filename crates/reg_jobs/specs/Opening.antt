@@ -1,7 +1,7 @@
 -- What is opened for a job.
 use Rattle.std.specs.Prelude.{◌≡◌, ⊤, ℕ, length, None, Some}
-use Rattle.reg_words.specs.declared.task.Job.{Job}
-use Rattle.reg_words.specs.declared.task.Job.TheVariants.{Run, Text as TextJob, Check as CheckJob, List as ListJob, Migrate, Audit}
+use Rattle.reg_cli.specs.declared.task.Job.{Job}
+use Rattle.reg_cli.specs.declared.task.Job.TheVariants.{Run, Text as TextJob, Check as CheckJob, List as ListJob, Migrate, Audit}
 use Rattle.reg_jobs.specs.declared.job.Opened.{Opened}
 use Rattle.reg_jobs.specs.declared.job.Opened.TheVariants.{Nothing, Texts, Failed, Empty, OrphanedLog, Fresh, Database}
 

@@ -11,11 +11,11 @@ use Rattle.reg_jobs.specs.declared.files.FileFault.TheVariants.{CannotRead, NotS
 use Rattle.reg_jobs.specs.declared.files.TextOutcome.TheVariants.{Whole, Nothing as NothingPrinted, NotWritten}
 use Rattle.reg_jobs.specs.declared.files.CheckOutcome.TheVariants.{Verdict, Reader, Writer, OutOfMemory as CheckOutOfMemory, NotWritten as VerdictNotWritten}
 use Rattle.reg_jobs.specs.declared.outcome.Outcome.{Outcome}
-use Rattle.reg_jobs.specs.declared.outcome.Outcome.TheVariants.{Session as SessionEnded, Unopened, NotListening, Text as TextEnded, Check as CheckEnded, List as ListEnded, Moved, Audited}
-use Rattle.reg_jobs.specs.declared.auditing.AuditOutcome.TheVariants.{Verdict as EvidenceTold, Unread as EvidenceUnread, NotWritten as EvidenceNotWritten}
-use Rattle.reg_jobs.specs.declared.moving.MoveOutcome.TheVariants.{Whole as MoveTold, NotWritten as MoveNotWritten}
+use Rattle.reg_jobs.specs.declared.outcome.Outcome.TheVariants.{Session as SessionEnded, Unopened, NotListening, Text as TextEnded, Check as CheckEnded, List as ListEnded, Migrated, Audited}
+use Rattle.reg_jobs.specs.declared.auditing.AuditOutcome.TheVariants.{Verdict as EvidenceVerdict, Unread as EvidenceUnread, NotWritten as EvidenceNotWritten}
+use Rattle.reg_jobs.specs.declared.migration.MigrateOutcome.TheVariants.{Whole as MigrateWhole, NotWritten as MigrateNotWritten}
 use Rattle.reg_jobs.specs.declared.listings.ListOutcome.TheVariants.{Whole as ListedWhole, Unread, NotWritten as ListNotWritten, OutOfMemory as ListOutOfMemory}
-use Rattle.reg_jobs.specs.declared.outcome.Trouble.{Trouble}
+use Rattle.reg_jobs.specs.declared.outcome.JobError.{JobError}
 use Rattle.reg_jobs.specs.declared.outcome.Fault.{Fault}
 use Rattle.reg_jobs.specs.declared.outcome.Fault.TheVariants.{ReadFailed as FaultReadFailed, WriteFailed as FaultWriteFailed, MalformedInput as FaultMalformedInput, OutOfMemory as FaultOutOfMemory, CannotRead as FaultCannotRead, NotSchema as FaultNotSchema, CannotOpen as FaultCannotOpen, NotRegistry as FaultNotRegistry, OldLayout as FaultOldLayout, NewerLayout as FaultNewerLayout, CannotListen, CannotAccept}
 use Rattle.reg_jobs.specs.declared.line.ErrorLine.{ErrorLine}
@@ -37,43 +37,43 @@ fault_of_database (OldLayout layout) = FaultOldLayout layout
 fault_of_database (NewerLayout layout) = FaultNewerLayout layout
 
 -- a trouble's fault and the name of its file
-abbrev pub named : Result ℕ Trouble → Result ℕ (Fault × List ℕ)
-named (Ok status) = Ok status
-named (Err trouble) = Err (trouble.fault, trouble.file.now)
+abbrev pub result_view : Result ℕ JobError → Result ℕ (Fault × List ℕ)
+result_view (Ok status) = Ok status
+result_view (Err job_error) = Err (job_error.fault, job_error.file.now)
 
 -- what a job answers, by how it came out: the program's status, 1 for a verdict of incompatible and for evidence that doesn't hold, or the fault and the file that it is on
-abbrev pub answer_of : Outcome → List ℕ → List ℕ → Result ℕ (Fault × List ℕ)
-answer_of (SessionEnded Closed) file writer = Ok 0
-answer_of (SessionEnded ReadFailed) file writer = Err (FaultReadFailed, file)
-answer_of (SessionEnded WriteFailed) file writer = Err (FaultWriteFailed, file)
-answer_of (SessionEnded Malformed) file writer = Err (FaultMalformedInput, file)
-answer_of (SessionEnded Memory) file writer = Err (FaultOutOfMemory, file)
-answer_of (Unopened error) file writer = Err (fault_of_database error, file)
-answer_of (NotListening port) file writer = Err (CannotListen port, file)
-answer_of (TextEnded Whole) file writer = Ok 0
-answer_of (TextEnded (NothingPrinted fault)) file writer = Err (fault_of_file fault, file)
-answer_of (TextEnded NotWritten) file writer = Err (FaultWriteFailed, file)
-answer_of (CheckEnded (Verdict true)) file writer = Ok 0
-answer_of (CheckEnded (Verdict false)) file writer = Ok 1
-answer_of (CheckEnded (Reader fault)) file writer = Err (fault_of_file fault, file)
-answer_of (CheckEnded (Writer fault)) file writer = Err (fault_of_file fault, writer)
-answer_of (CheckEnded CheckOutOfMemory) file writer = Err (FaultOutOfMemory, file)
-answer_of (CheckEnded VerdictNotWritten) file writer = Err (FaultWriteFailed, file)
-answer_of (ListEnded ListedWhole) file writer = Ok 0
-answer_of (ListEnded (Unread error)) file writer = Err (fault_of_database error, file)
-answer_of (ListEnded ListNotWritten) file writer = Err (FaultWriteFailed, file)
-answer_of (ListEnded ListOutOfMemory) file writer = Err (FaultOutOfMemory, file)
-answer_of (Moved MoveTold) file writer = Ok 0
-answer_of (Moved MoveNotWritten) file writer = Err (FaultWriteFailed, file)
-answer_of (Audited (EvidenceTold true)) file writer = Ok 0
-answer_of (Audited (EvidenceTold false)) file writer = Ok 1
-answer_of (Audited (EvidenceUnread error)) file writer = Err (fault_of_database error, file)
-answer_of (Audited EvidenceNotWritten) file writer = Err (FaultWriteFailed, file)
+abbrev pub result_of : Outcome → List ℕ → List ℕ → Result ℕ (Fault × List ℕ)
+result_of (SessionEnded Closed) file writer = Ok 0
+result_of (SessionEnded ReadFailed) file writer = Err (FaultReadFailed, file)
+result_of (SessionEnded WriteFailed) file writer = Err (FaultWriteFailed, file)
+result_of (SessionEnded Malformed) file writer = Err (FaultMalformedInput, file)
+result_of (SessionEnded Memory) file writer = Err (FaultOutOfMemory, file)
+result_of (Unopened error) file writer = Err (fault_of_database error, file)
+result_of (NotListening port) file writer = Err (CannotListen port, file)
+result_of (TextEnded Whole) file writer = Ok 0
+result_of (TextEnded (NothingPrinted fault)) file writer = Err (fault_of_file fault, file)
+result_of (TextEnded NotWritten) file writer = Err (FaultWriteFailed, file)
+result_of (CheckEnded (Verdict true)) file writer = Ok 0
+result_of (CheckEnded (Verdict false)) file writer = Ok 1
+result_of (CheckEnded (Reader fault)) file writer = Err (fault_of_file fault, file)
+result_of (CheckEnded (Writer fault)) file writer = Err (fault_of_file fault, writer)
+result_of (CheckEnded CheckOutOfMemory) file writer = Err (FaultOutOfMemory, file)
+result_of (CheckEnded VerdictNotWritten) file writer = Err (FaultWriteFailed, file)
+result_of (ListEnded ListedWhole) file writer = Ok 0
+result_of (ListEnded (Unread error)) file writer = Err (fault_of_database error, file)
+result_of (ListEnded ListNotWritten) file writer = Err (FaultWriteFailed, file)
+result_of (ListEnded ListOutOfMemory) file writer = Err (FaultOutOfMemory, file)
+result_of (Migrated MigrateWhole) file writer = Ok 0
+result_of (Migrated MigrateNotWritten) file writer = Err (FaultWriteFailed, file)
+result_of (Audited (EvidenceVerdict true)) file writer = Ok 0
+result_of (Audited (EvidenceVerdict false)) file writer = Ok 1
+result_of (Audited (EvidenceUnread error)) file writer = Err (fault_of_database error, file)
+result_of (Audited EvidenceNotWritten) file writer = Err (FaultWriteFailed, file)
 
 -- the program's status, 2 for each fault
 abbrev pub status_of : Result ℕ (Fault × List ℕ) → ℕ
 status_of (Ok status) = status
-status_of (Err trouble) = 2
+status_of (Err job_error) = 2
 
 -- the line for a fault over a file's name and a number's digits
 abbrev pub line_with : Fault → List ℕ → List ℕ → List ℕ
@@ -110,6 +110,6 @@ abbrev pub text_of_line : ErrorLine → List ℕ
 text_of_line line = line.front.now ++ (shown_name line.name.now ++ text_of_parts line.rest)
 
 -- the line of a fault was put, and without a fault nothing was written or lost
-abbrev pub TellsFault : {E : Type 0} → (E → Option (List ℕ)) → Result ℕ (Fault × List ℕ) → Errors E → Errors E → Type 0
-TellsFault contents (Ok status) old new = new ≡ old
-TellsFault contents (Err trouble) old new = Puts contents old new (line_of trouble.0 trouble.1)
+abbrev pub PrintsFault : {E : Type 0} → (E → Option (List ℕ)) → Result ℕ (Fault × List ℕ) → Errors E → Errors E → Type 0
+PrintsFault contents (Ok status) old new = new ≡ old
+PrintsFault contents (Err job_error) old new = Puts contents old new (line_of job_error.0 job_error.1)

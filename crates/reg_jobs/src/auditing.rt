@@ -5,8 +5,8 @@ ghost use Rattle.sqlite.specs.Held.{state};
 ghost use Rattle.sqlite.specs.State.{HasCleanDisk};
 ghost use Rattle.reg_core.specs.Stored.{Stored};
 ghost use Rattle.reg_store.specs.Spells.{SpellsWhileOpen};
-ghost use Rattle.reg_store.specs.Stores.{has_failed, state_of, SpellsOn};
-ghost use Rattle.reg_jobs.specs.Auditing.{AuditsAs, TellsEvidence, evidence_line};
+ghost use Rattle.reg_store.specs.Stores.{has_failed, state_of, StillSpells};
+ghost use Rattle.reg_jobs.specs.Auditing.{AuditsAs, PrintsEvidence, evidence_line};
 
 use reg_http::write_whole;
 use reg_store::{Store, StoreError};
@@ -37,7 +37,7 @@ fn evidence_line(holds: bool) -> &'static str
 
 /// Prints the line for a verdict.
 fn print_evidence<W: Write>(holds: bool, writer: &mut W) -> AuditOutcome
-    ensures { TellsEvidence (Ok holds) (W.contents writer.old) (W.contents writer.new) result }
+    ensures { PrintsEvidence (Ok holds) (W.contents writer.old) (W.contents writer.new) result }
 {
     if write_whole(writer, evidence_line(holds).as_bytes()) {
         AuditOutcome::Verdict(holds)
@@ -47,8 +47,8 @@ fn print_evidence<W: Write>(holds: bool, writer: &mut W) -> AuditOutcome
 }
 
 /// Prints the line for a verdict, and for an error nothing.
-fn tell_evidence<W: Write>(audited: Result<bool, StoreError>, writer: &mut W) -> AuditOutcome
-    ensures { TellsEvidence audited (W.contents writer.old) (W.contents writer.new) result }
+fn print_audit<W: Write>(audited: Result<bool, StoreError>, writer: &mut W) -> AuditOutcome
+    ensures { PrintsEvidence audited (W.contents writer.old) (W.contents writer.new) result }
 {
     match audited {
         Ok(holds) => print_evidence(holds, writer),
@@ -66,8 +66,8 @@ pub fn audit_store<W: Write, S: Alter>(
     ensures audits { HasCleanDisk (state S.Store result.1) → (was : Stored)
         → SpellsWhileOpen (state_of store) was
         → AuditsAs was (W.contents writer.old) (W.contents writer.new) result.0 }
-    ensures same { HasCleanDisk (state S.Store result.1) → SpellsOn (state_of store) (state S.Store result.1) }
+    ensures same { HasCleanDisk (state S.Store result.1) → StillSpells (state_of store) (state S.Store result.1) }
 {
     let audited = store.audit();
-    (tell_evidence(audited, writer), store.into_connection())
+    (print_audit(audited, writer), store.into_connection())
 }

@@ -5,7 +5,7 @@ ghost use Rattle.sqlite.specs.Held.{state};
 ghost use Rattle.sqlite.specs.State.{HasCleanDisk};
 ghost use Rattle.reg_store.specs.Stores.{has_failed, state_of};
 ghost use Rattle.reg_store.specs.Opening.{OpensOver};
-ghost use Rattle.reg_jobs.specs.Databases.{GivesBack, IsMadeIn, LacksMade, LacksFound, ServesStore};
+ghost use Rattle.reg_jobs.specs.Databases.{ReturnsConnection, IsCreatedIn, CreatesNone, OpensNone, ServesStore};
 
 use reg_http::{Ended, serve};
 use reg_service::Service;
@@ -39,9 +39,9 @@ pub fn create_in<S: Alter>(
     alloc: Global,
     connection: Connection<S>,
 ) -> Result<Store<S>, (StoreError, Option<Connection<S>>)>
-    ensures done { IfOk result (λ store. HasCleanDisk (state_of store) → IsMadeIn (state S.Store connection) (state_of store)) }
+    ensures done { IfOk result (λ store. HasCleanDisk (state_of store) → IsCreatedIn (state S.Store connection) (state_of store)) }
     ensures unfailed { IfOk result (λ store. has_failed store ≡ false) }
-    ensures fault { IfErr result (λ e. GivesBack S.Store e.1 (λ new. LacksMade (state S.Store connection) new e.0)) }
+    ensures fault { IfErr result (λ e. ReturnsConnection S.Store e.1 (λ new. CreatesNone (state S.Store connection) new e.0)) }
 {
     if !connection.is_autocommit() {
         return Err((StoreError::Disk, Some(connection)));
@@ -63,7 +63,7 @@ pub fn open_in<S: Alter>(
 ) -> Result<Store<S>, (StoreError, Option<Connection<S>>)>
     ensures done { IfOk result (λ store. HasCleanDisk (state_of store) → OpensOver (state S.Store connection) (state_of store)) }
     ensures unfailed { IfOk result (λ store. has_failed store ≡ false) }
-    ensures fault { IfErr result (λ e. GivesBack S.Store e.1 (λ new. LacksFound (state S.Store connection) new e.0)) }
+    ensures fault { IfErr result (λ e. ReturnsConnection S.Store e.1 (λ new. OpensNone (state S.Store connection) new e.0)) }
 {
     if !connection.is_autocommit() {
         return Err((StoreError::Disk, Some(connection)));

@@ -2,7 +2,7 @@
 
 ghost use Rattle.std.specs.Prelude.{◌≡◌, MatchResult, option_map};
 ghost use Rattle.avro_nodes.specs.Nodes.{nodes_view};
-ghost use Rattle.reg_jobs.specs.Files.{Holds, FailsAs, PrintsAs, ChecksAs, TellsVerdict, verdict_line};
+ghost use Rattle.reg_jobs.specs.Files.{FileHolds, FailsAs, PrintsAs, ChecksAs, PrintsVerdict, verdict_line};
 
 use avro_resolve::resolves;
 use avro_schema::{Schema, SchemaError};
@@ -34,9 +34,9 @@ pub enum TextOutcome {
 }
 
 /// The schema in a file, given by its bytes if it could be read.
-fn schema_in(alloc: Global, file: Option<&[u8]>) -> Result<Schema, FileFault>
+fn read_schema_file(alloc: Global, file: Option<&[u8]>) -> Result<Schema, FileFault>
     ensures { MatchResult result
-        (λ schema. Holds (option_map (λ bytes. bytes.now) file.entry) (nodes_view schema))
+        (λ schema. FileHolds (option_map (λ bytes. bytes.now) file.entry) (nodes_view schema))
         (FailsAs (option_map (λ bytes. bytes.now) file.entry)) }
 {
     let Some(bytes) = file else {
@@ -59,7 +59,7 @@ pub fn print_text<W: Write>(alloc: Global, file: Option<&[u8]>, writer: &mut W) 
     ensures { PrintsAs (option_map (λ bytes. bytes.now) file.entry)
         (W.contents writer.old) (W.contents writer.new) result }
 {
-    let schema = match schema_in(alloc, file) {
+    let schema = match read_schema_file(alloc, file) {
         Ok(schema) => schema,
         Err(fault) => return TextOutcome::Nothing(fault),
     };
@@ -104,7 +104,7 @@ fn verdict_line(yes: bool) -> &'static str
 
 /// Prints a verdict's line.
 fn print_verdict<W: Write>(yes: bool, writer: &mut W) -> CheckOutcome
-    ensures { TellsVerdict yes (W.contents writer.old) (W.contents writer.new) result }
+    ensures { PrintsVerdict yes (W.contents writer.old) (W.contents writer.new) result }
 {
     if write_whole(writer, verdict_line(yes).as_bytes()) {
         CheckOutcome::Verdict(yes)
@@ -124,11 +124,11 @@ pub fn check<W: Write>(
     ensures { ChecksAs (option_map (λ bytes. bytes.now) reader_file.entry) (option_map (λ bytes. bytes.now) writer_file.entry)
         (W.contents output.old) (W.contents output.new) result }
 {
-    let reader = match schema_in(alloc, reader_file) {
+    let reader = match read_schema_file(alloc, reader_file) {
         Ok(schema) => schema,
         Err(fault) => return CheckOutcome::Reader(fault),
     };
-    let writer = match schema_in(alloc, writer_file) {
+    let writer = match read_schema_file(alloc, writer_file) {
         Ok(schema) => schema,
         Err(fault) => return CheckOutcome::Writer(fault),
     };

@@ -4,20 +4,20 @@ ghost use Rattle.std.specs.Prelude.{◌≡◌, IfOk, IfErr, false, option_map};
 ghost use Rattle.sqlite.specs.State.{HasCleanDisk};
 ghost use Rattle.reg_store.specs.Opening.{OpensOver};
 ghost use Rattle.reg_store.specs.Stores.{has_failed, state_of};
-ghost use Rattle.reg_jobs.specs.Jobs.{AuditsOn, DoesAs, FindsNone, HasRegistry, LacksRegistry, ListsOn, OverDatabase, RunsAs, RunsAsked, RunsOn, MovesOn, file_of, writer_of};
+ghost use Rattle.reg_jobs.specs.Jobs.{AuditsOn, DoesJob, FindsNone, HasRegistry, LacksRegistry, ListsOn, OverDatabase, RunsInMemory, RunsJob, RunsOn, MigratesOn, file_of, writer_file_of};
 
 use crate::auditing::audit_store;
 use crate::database::{create_in, open_in, run_on_store};
 use crate::errors::Errors;
 use crate::files::{check, print_text};
-use crate::line::tell_answer;
+use crate::line::report_result;
 use crate::listings::{list_store, table_of};
-use crate::moving::move_in;
-use crate::outcome::{Outcome, answer_of};
+use crate::migration::migrate_in;
+use crate::outcome::{Outcome, result_of};
+use reg_cli::{Job, ListingName};
 use reg_http::{Ended, serve};
 use reg_service::Service;
 use reg_store::{Store, StoreError};
-use reg_words::{Job, Listing};
 use sqlite::{Alter, Connection};
 use std::alloc::Global;
 use std::io::{Read, Write};
@@ -59,8 +59,8 @@ fn file_of(job: &Job) -> &str
 }
 
 /// The writer's file of a job that names two, or the one that it names.
-fn writer_of(job: &Job) -> &str
-    ensures { result.now ≡ writer_of job.entry.now }
+fn writer_file_of(job: &Job) -> &str
+    ensures { result.now ≡ writer_file_of job.entry.now }
 {
     match job {
         Job::Check { writer, .. } => writer.as_str(),
@@ -98,7 +98,7 @@ impl<S: Alter> Opened<S> {
 
 /// Answers the requests of the reader over a new registry in memory.
 fn run_in_memory<R: Read, W: Write>(alloc: Global, reader: &mut R, writer: &mut W) -> Outcome
-    ensures { RunsAs (R.remaining reader.old) (R.remaining reader.new)
+    ensures { RunsInMemory (R.remaining reader.old) (R.remaining reader.new)
         (W.contents writer.old) (W.contents writer.new) result }
 {
     let Ok(connection) = Connection::open_in_memory(alloc) else {
@@ -118,7 +118,7 @@ fn run_in_memory<R: Read, W: Write>(alloc: Global, reader: &mut R, writer: &mut 
 /// `Disk` if no database was opened. `NotARegistry` for a file that holds nothing yet, for a log without its
 /// database, and for an empty database, which comes back unchanged. Otherwise why the database has no registry,
 /// with the connection.
-fn found_in<S: Alter + Drop>(
+fn open_existing_store<S: Alter + Drop>(
     alloc: Global,
     opened: Opened<S>,
 ) -> Result<Store<S>, (StoreError, Option<Connection<S>>)>
@@ -142,7 +142,7 @@ fn found_in<S: Alter + Drop>(
 ///
 /// `Disk` if no database was opened. `NotARegistry` for a file that holds nothing yet, and for a log without its
 /// database. Otherwise why the database has no registry, with the connection.
-pub fn store_in<S: Alter + Drop>(
+pub fn open_store<S: Alter + Drop>(
     alloc: Global,
     opened: Opened<S>,
 ) -> Result<Store<S>, (StoreError, Option<Connection<S>>)>
@@ -152,7 +152,7 @@ pub fn store_in<S: Alter + Drop>(
 {
     match opened {
         Opened::Fresh(connection) => create_in(alloc, connection),
-        opened => found_in(alloc, opened),
+        opened => open_existing_store(alloc, opened),
     }
 }
 
@@ -167,7 +167,7 @@ fn run_on<S: Alter + Drop, R: Read, W: Write>(
     ensures { RunsOn S.Store opened result.1 (R.remaining reader.old) (R.remaining reader.new)
         (W.contents writer.old) (W.contents writer.new) result.0 }
 {
-    match store_in(alloc, opened) {
+    match open_store(alloc, opened) {
         Ok(store) => {
             let (ended, connection) = run_on_store(alloc, store, reader, writer);
             (Outcome::Session(ended), Some(connection))
@@ -185,7 +185,7 @@ fn run<S: Alter + Drop, R: Read, W: Write>(
     reader: &mut R,
     writer: &mut W,
 ) -> (Outcome, Option<Connection<S>>)
-    ensures { RunsAsked S.Store opened names_file result.1 (R.remaining reader.old)
+    ensures { RunsJob S.Store opened names_file result.1 (R.remaining reader.old)
         (R.remaining reader.new) (W.contents writer.old) (W.contents writer.new) result.0 }
 {
     if names_file {
@@ -200,12 +200,12 @@ fn run<S: Alter + Drop, R: Read, W: Write>(
 fn list_on<S: Alter + Drop, W: Write>(
     alloc: Global,
     opened: Opened<S>,
-    kind: Listing,
+    kind: ListingName,
     writer: &mut W,
 ) -> (Outcome, Option<Connection<S>>)
     ensures { ListsOn S.Store opened kind result.1 (W.contents writer.old) (W.contents writer.new) result.0 }
 {
-    match found_in(alloc, opened) {
+    match open_existing_store(alloc, opened) {
         Ok(store) => {
             let (listed, connection) = list_store(alloc, store, table_of(kind), writer);
             (Outcome::List(listed), Some(connection))
@@ -216,16 +216,16 @@ fn list_on<S: Alter + Drop, W: Write>(
 
 /// Moves the registry of what was opened to this program's layout, and gives the connection back. Where
 /// it isn't moved nothing is written.
-fn move_on<S: Alter + Drop, W: Write>(
+fn migrate_on<S: Alter + Drop, W: Write>(
     alloc: Global,
     opened: Opened<S>,
     writer: &mut W,
 ) -> (Outcome, Option<Connection<S>>)
-    ensures { MovesOn S.Store opened result.1 (W.contents writer.old) (W.contents writer.new) result.0 }
+    ensures { MigratesOn S.Store opened result.1 (W.contents writer.old) (W.contents writer.new) result.0 }
 {
     match opened {
         Opened::Database(connection) => {
-            let (outcome, connection) = move_in(alloc, connection, writer);
+            let (outcome, connection) = migrate_in(alloc, connection, writer);
             (outcome, Some(connection))
         }
         Opened::Fresh(connection) => {
@@ -249,7 +249,7 @@ fn audit_on<S: Alter + Drop, W: Write>(
 ) -> (Outcome, Option<Connection<S>>)
     ensures { AuditsOn S.Store opened result.1 (W.contents writer.old) (W.contents writer.new) result.0 }
 {
-    match found_in(alloc, opened) {
+    match open_existing_store(alloc, opened) {
         Ok(store) => {
             let (audited, connection) = audit_store(store, writer);
             (Outcome::Audited(audited), Some(connection))
@@ -268,7 +268,7 @@ pub fn do_job<S: Alter + Drop, R: Read, W: Write, E: Write + Drop>(
     writer: &mut W,
     errors: &mut Errors<E>,
 ) -> (u8, Option<Connection<S>>)
-    ensures { DoesAs S.Store E.contents job.now opened result.1 (R.remaining reader.old) (R.remaining reader.new)
+    ensures { DoesJob S.Store E.contents job.now opened result.1 (R.remaining reader.old) (R.remaining reader.new)
         (W.contents writer.old) (W.contents writer.new) errors.old errors.new result.0 }
 {
     let (outcome, connection) = match job {
@@ -282,9 +282,9 @@ pub fn do_job<S: Alter + Drop, R: Read, W: Write, E: Write + Drop>(
             (Outcome::Check(checked), opened.into_connection())
         }
         Job::List { kind, .. } => list_on(alloc, opened, *kind, writer),
-        Job::Migrate { .. } => move_on(alloc, opened, writer),
+        Job::Migrate { .. } => migrate_on(alloc, opened, writer),
         Job::Audit { .. } => audit_on(alloc, opened, writer),
     };
-    let answer = answer_of(outcome, file_of(job), writer_of(job));
-    (tell_answer(errors, answer), connection)
+    let answer = result_of(outcome, file_of(job), writer_file_of(job));
+    (report_result(errors, answer), connection)
 }

@@ -3,11 +3,11 @@
 ghost use Rattle.std.specs.Prelude.{◌≡◌};
 ghost use Rattle.reg_jobs.specs.Errors.{Puts};
 ghost use Rattle.reg_jobs.specs.Names.{shown_name};
-ghost use Rattle.reg_jobs.specs.Outcomes.{TellsFault, answer_of, line_of, line_with, named, number_of, status_of, text_of_line, text_of_parts};
+ghost use Rattle.reg_jobs.specs.Outcomes.{PrintsFault, result_of, line_of, line_with, result_view, number_of, status_of, text_of_line, text_of_parts};
 
 use crate::errors::Errors;
 use crate::name::put_name;
-use crate::outcome::{Fault, Outcome, Trouble, answer_of, status_of};
+use crate::outcome::{Fault, JobError, Outcome, result_of, status_of};
 use itoa::Buffer;
 use std::io::Write;
 
@@ -21,7 +21,7 @@ struct ErrorLine<'a> {
 }
 
 /// A line that names nothing.
-fn naming_nothing<'a>(front: &'a str) -> ErrorLine<'a>
+fn bare_line<'a>(front: &'a str) -> ErrorLine<'a>
     ensures { text_of_line result ≡ front.entry.now }
 {
     ErrorLine {
@@ -32,7 +32,7 @@ fn naming_nothing<'a>(front: &'a str) -> ErrorLine<'a>
 }
 
 /// A line that names a file.
-fn naming<'a>(front: &'a str, name: &'a str, rest: [&'a str; 3]) -> ErrorLine<'a>
+fn file_line<'a>(front: &'a str, name: &'a str, rest: [&'a str; 3]) -> ErrorLine<'a>
     ensures { result ≡ record { front = front.entry; name = name.entry; rest = rest.entry } }
 {
     ErrorLine { front, name, rest }
@@ -55,26 +55,30 @@ fn line_of<'a>(fault: Fault, file: &'a str, digits: &'a str) -> ErrorLine<'a>
     ensures { text_of_line result ≡ line_with fault (shown_name file.entry.now) digits.entry.now }
 {
     match fault {
-        Fault::ReadFailed => naming_nothing("avroreg: read failed\n"),
-        Fault::WriteFailed => naming_nothing("avroreg: write failed\n"),
-        Fault::MalformedInput => naming_nothing("avroreg: malformed input\n"),
-        Fault::OutOfMemory => naming_nothing("avroreg: out of memory\n"),
-        Fault::CannotRead => naming("avroreg: cannot read ", file, ["\n", "", ""]),
-        Fault::NotSchema => naming("avroreg: ", file, [" is not a schema\n", "", ""]),
-        Fault::CannotOpen => naming("avroreg: cannot open ", file, ["\n", "", ""]),
-        Fault::NotRegistry => naming("avroreg: ", file, [" is not a registry\n", "", ""]),
-        Fault::OldLayout(_) => naming(
+        Fault::ReadFailed => bare_line("avroreg: read failed\n"),
+        Fault::WriteFailed => bare_line("avroreg: write failed\n"),
+        Fault::MalformedInput => bare_line("avroreg: malformed input\n"),
+        Fault::OutOfMemory => bare_line("avroreg: out of memory\n"),
+        Fault::CannotRead => file_line("avroreg: cannot read ", file, ["\n", "", ""]),
+        Fault::NotSchema => file_line("avroreg: ", file, [" is not a schema\n", "", ""]),
+        Fault::CannotOpen => file_line("avroreg: cannot open ", file, ["\n", "", ""]),
+        Fault::NotRegistry => file_line("avroreg: ", file, [" is not a registry\n", "", ""]),
+        Fault::OldLayout(_) => file_line(
             "avroreg: ",
             file,
             [" has layout ", digits, ", run migrate\n"],
         ),
-        Fault::NewerLayout(_) => naming(
+        Fault::NewerLayout(_) => file_line(
             "avroreg: ",
             file,
             [" has layout ", digits, ", newer than this program\n"],
         ),
-        Fault::CannotListen(_) => naming("avroreg: cannot listen on port ", "", [digits, "\n", ""]),
-        Fault::CannotAccept => naming_nothing("avroreg: cannot accept connections\n"),
+        Fault::CannotListen(_) => file_line(
+            "avroreg: cannot listen on port ",
+            "",
+            [digits, "\n", ""],
+        ),
+        Fault::CannotAccept => bare_line("avroreg: cannot accept connections\n"),
     }
 }
 
@@ -97,21 +101,21 @@ fn put_line<E: Write + Drop>(errors: &mut Errors<E>, line: ErrorLine)
 }
 
 /// Writes the line for trouble.
-pub fn tell<E: Write + Drop>(errors: &mut Errors<E>, trouble: Trouble)
-    ensures { Puts E.contents errors.old errors.new (line_of trouble.entry.fault trouble.entry.file.now) }
+pub fn put_job_error<E: Write + Drop>(errors: &mut Errors<E>, job_error: JobError)
+    ensures { Puts E.contents errors.old errors.new (line_of job_error.entry.fault job_error.entry.file.now) }
 {
     let mut digits = Buffer::new();
-    let number = digits.format(number_of(trouble.fault));
-    put_line(errors, line_of(trouble.fault, trouble.file, number));
+    let number = digits.format(number_of(job_error.fault));
+    put_line(errors, line_of(job_error.fault, job_error.file, number));
 }
 
 /// Writes the line for what a job answers, where that is trouble, and answers the program's status.
-pub fn tell_answer<E: Write + Drop>(errors: &mut Errors<E>, answer: Result<u8, Trouble>) -> u8
-    ensures tells { TellsFault E.contents (named answer.entry) errors.old errors.new }
-    ensures status { result ≡ status_of (named answer.entry) }
+pub fn report_result<E: Write + Drop>(errors: &mut Errors<E>, answer: Result<u8, JobError>) -> u8
+    ensures reports { PrintsFault E.contents (result_view answer.entry) errors.old errors.new }
+    ensures status { result ≡ status_of (result_view answer.entry) }
 {
-    if let Err(trouble) = answer {
-        tell(errors, trouble);
+    if let Err(job_error) = answer {
+        put_job_error(errors, job_error);
     }
     status_of(answer)
 }
@@ -119,9 +123,9 @@ pub fn tell_answer<E: Write + Drop>(errors: &mut Errors<E>, answer: Result<u8, T
 /// Writes the line for an outcome on a file, where it is trouble, and answers the program's status for
 /// it.
 pub fn report<E: Write + Drop>(errors: &mut Errors<E>, outcome: Outcome, file: &str) -> u8
-    ensures tells { TellsFault E.contents (answer_of outcome file.now file.now) errors.old errors.new }
-    ensures status { result ≡ status_of (answer_of outcome file.now file.now) }
+    ensures reports { PrintsFault E.contents (result_of outcome file.now file.now) errors.old errors.new }
+    ensures status { result ≡ status_of (result_of outcome file.now file.now) }
 {
-    let answer = answer_of(outcome, file, file);
-    tell_answer(errors, answer)
+    let answer = result_of(outcome, file, file);
+    report_result(errors, answer)
 }

@@ -3,7 +3,7 @@
 ghost use Rattle.std.specs.Prelude.{◌≤◌, ℕ};
 ghost use Rattle.sqlite.specs.State.{HasCleanDisk};
 ghost use Rattle.reg_service.specs.Services.{state_in};
-ghost use Rattle.reg_http.specs.OverTables.{Over};
+ghost use Rattle.reg_http.specs.Transitions.{StoredTransition};
 ghost use Rattle.reg_jobs.specs.Listening.{ServesNext, ServesUpTo, ReportsAcceptFailures};
 
 mod ending;
@@ -13,7 +13,7 @@ mod queue;
 mod timing;
 
 use crate::errors::Errors;
-use crate::line::tell;
+use crate::line::put_job_error;
 use crate::outcome::Fault;
 use ending::end;
 use halves::{Incoming, Outgoing};
@@ -63,7 +63,7 @@ fn accept_next<C: Clock, E: Write + Drop>(
     if let Ok(stream) = queue.next() {
         return Some(stream);
     }
-    tell(errors, Fault::CannotAccept.on(""));
+    put_job_error(errors, Fault::CannotAccept.on(""));
     retry_accept(clock, queue)
 }
 
@@ -77,7 +77,7 @@ fn serve_next<C: Clock, S: Alter, E: Write + Drop>(
     errors: &mut Errors<E>,
 )
     ensures clean { HasCleanDisk (state_in service.new) → HasCleanDisk (state_in service.old) }
-    ensures session { HasCleanDisk (state_in service.new) → Over (state_in service.old) (state_in service.new)
+    ensures session { HasCleanDisk (state_in service.new) → StoredTransition (state_in service.old) (state_in service.new)
         (ServesNext service.old service.new) }
     ensures reports { ReportsAcceptFailures E.contents 1 errors.old errors.new }
 {
@@ -85,7 +85,7 @@ fn serve_next<C: Clock, S: Alter, E: Write + Drop>(
         return;
     };
     prepare(&stream);
-    queue.ask(!is_last);
+    queue.set_polling(!is_last);
     let timing = Timing::of(clock);
     let mut reader = Incoming::of(&stream, &timing, queue);
     let mut writer = Outgoing::of(&stream, &timing);
@@ -110,7 +110,7 @@ pub fn serve_with_clock<C: Clock, S: Alter, E: Write + Drop>(
 )
     ensures clean { HasCleanDisk (state_in service.new) → HasCleanDisk (state_in service.old) }
     ensures sessions { HasCleanDisk (state_in service.new)
-        → Over (state_in service.old) (state_in service.new) (ServesUpTo connections service.old service.new) }
+        → StoredTransition (state_in service.old) (state_in service.new) (ServesUpTo connections service.old service.new) }
     ensures reports { ReportsAcceptFailures E.contents connections errors.old errors.new }
 {
     let mut queue = Queue::of(listener);
@@ -131,7 +131,7 @@ pub fn serve_on<S: Alter, E: Write + Drop>(
 )
     ensures clean { HasCleanDisk (state_in service.new) → HasCleanDisk (state_in service.old) }
     ensures sessions { HasCleanDisk (state_in service.new)
-        → Over (state_in service.old) (state_in service.new) (ServesUpTo connections service.old service.new) }
+        → StoredTransition (state_in service.old) (state_in service.new) (ServesUpTo connections service.old service.new) }
     ensures reports { ReportsAcceptFailures E.contents connections errors.old errors.new }
 {
     serve_with_clock(alloc, &NoClock, listener, connections, service, errors);

@@ -7,7 +7,7 @@ ghost use Rattle.sqlite.specs.State.{HasCleanDisk};
 ghost use Rattle.reg_core.specs.Stored.{Stored};
 ghost use Rattle.reg_store.specs.Spells.{SpellsWhileOpen};
 ghost use Rattle.reg_store.specs.Failures.{IsFaultOver};
-ghost use Rattle.reg_store.specs.Stores.{has_failed, state_of, SpellsOn};
+ghost use Rattle.reg_store.specs.Stores.{has_failed, state_of, StillSpells};
 ghost use Rattle.reg_jobs.specs.Listings.{IfUnread, ListsAs, listed_as, table_of};
 
 use reg_report::{ReportError, list_in_pieces};
@@ -30,13 +30,13 @@ pub enum ListOutcome {
 }
 
 /// What a listing shows of the tables.
-pub fn table_of(kind: reg_words::Listing) -> Listing
+pub fn table_of(kind: reg_cli::ListingName) -> Listing
     ensures { result ≡ table_of kind }
 {
     match kind {
-        reg_words::Listing::Subjects => Listing::Subjects,
-        reg_words::Listing::Versions => Listing::Versions,
-        reg_words::Listing::Schemas => Listing::Schemas,
+        reg_cli::ListingName::Subjects => Listing::Subjects,
+        reg_cli::ListingName::Versions => Listing::Versions,
+        reg_cli::ListingName::Schemas => Listing::Schemas,
     }
 }
 
@@ -77,7 +77,7 @@ pub fn list_store<W: Write, S: Alter>(
         → ListsAs kind was.registry (W.contents writer.old) (W.contents writer.new) result.0 }
     ensures fault { HasCleanDisk (state S.Store result.1) → has_failed store ≡ false
         → IfUnread result.0 (IsFaultOver (state_of store) (state S.Store result.1)) }
-    ensures same { HasCleanDisk (state S.Store result.1) → SpellsOn (state_of store) (state S.Store result.1) }
+    ensures same { HasCleanDisk (state S.Store result.1) → StillSpells (state_of store) (state S.Store result.1) }
 {
     let printed = list_in_pieces(alloc, &mut store, kind, writer);
     let listed = flush(writer, listed_as(printed));

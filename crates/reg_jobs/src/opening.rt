@@ -5,7 +5,7 @@ ghost use Rattle.reg_jobs.specs.Opening.{OpensFor, OpensToList, OpensToRun};
 
 use crate::job::Opened;
 use avro_nodes::OutOfMemory;
-use reg_words::Job;
+use reg_cli::Job;
 use sqlite::Alter;
 use std::alloc::Global;
 

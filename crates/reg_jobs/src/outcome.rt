@@ -1,12 +1,12 @@
 //! How a job came out, and what it answers then: a status, or what failed and on which file.
 
 ghost use Rattle.std.specs.Prelude.{◌≡◌};
-ghost use Rattle.reg_jobs.specs.Outcomes.{answer_of, fault_of_database, fault_of_file, named, status_of};
+ghost use Rattle.reg_jobs.specs.Outcomes.{result_of, fault_of_database, fault_of_file, result_view, status_of};
 
 use crate::auditing::AuditOutcome;
 use crate::files::{CheckOutcome, FileFault, TextOutcome};
 use crate::listings::ListOutcome;
-use crate::moving::MoveOutcome;
+use crate::migration::MigrateOutcome;
 use reg_http::Ended;
 use reg_store::StoreError;
 
@@ -26,7 +26,7 @@ pub enum Outcome {
     /// A registry was to be listed.
     List(ListOutcome),
     /// A registry was moved to this program's layout, or had it.
-    Moved(MoveOutcome),
+    Migrated(MigrateOutcome),
     /// The evidence of a registry's versions was to be audited.
     Audited(AuditOutcome),
 }
@@ -50,7 +50,7 @@ pub enum Fault {
 
 /// What failed, and on which file.
 #[derive(Clone, Copy)]
-pub struct Trouble<'a> {
+pub struct JobError<'a> {
     /// What failed.
     pub fault: Fault,
     /// The name of the file. The lines of some faults leave it out.
@@ -59,10 +59,10 @@ pub struct Trouble<'a> {
 
 impl Fault {
     /// The fault, on this file.
-    pub fn on(self, file: &str) -> Trouble<'_>
+    pub fn on(self, file: &str) -> JobError<'_>
         ensures { result ≡ record { fault = self; file = file.entry } }
     {
-        Trouble { fault: self, file }
+        JobError { fault: self, file }
     }
 }
 
@@ -96,8 +96,8 @@ fn fault_of_database(error: StoreError) -> Fault
 /// # Errors
 ///
 /// The trouble of each outcome that isn't an end in order: what failed, and on which file.
-pub fn answer_of<'a>(outcome: Outcome, file: &'a str, writer: &'a str) -> Result<u8, Trouble<'a>>
-    ensures { named result ≡ answer_of outcome file.entry.now writer.entry.now }
+pub fn result_of<'a>(outcome: Outcome, file: &'a str, writer: &'a str) -> Result<u8, JobError<'a>>
+    ensures { result_view result ≡ result_of outcome file.entry.now writer.entry.now }
 {
     match outcome {
         Outcome::Session(Ended::Closed) => Ok(0),
@@ -120,8 +120,8 @@ pub fn answer_of<'a>(outcome: Outcome, file: &'a str, writer: &'a str) -> Result
         Outcome::List(ListOutcome::Unread(error)) => Err(fault_of_database(error).on(file)),
         Outcome::List(ListOutcome::NotWritten) => Err(Fault::WriteFailed.on(file)),
         Outcome::List(ListOutcome::OutOfMemory) => Err(Fault::OutOfMemory.on(file)),
-        Outcome::Moved(MoveOutcome::Whole) => Ok(0),
-        Outcome::Moved(MoveOutcome::NotWritten) => Err(Fault::WriteFailed.on(file)),
+        Outcome::Migrated(MigrateOutcome::Whole) => Ok(0),
+        Outcome::Migrated(MigrateOutcome::NotWritten) => Err(Fault::WriteFailed.on(file)),
         Outcome::Audited(AuditOutcome::Verdict(true)) => Ok(0),
         Outcome::Audited(AuditOutcome::Verdict(false)) => Ok(1),
         Outcome::Audited(AuditOutcome::Unread(error)) => Err(fault_of_database(error).on(file)),
@@ -130,8 +130,8 @@ pub fn answer_of<'a>(outcome: Outcome, file: &'a str, writer: &'a str) -> Result
 }
 
 /// The program's status for what a job answers: 2 for trouble.
-pub fn status_of(answer: Result<u8, Trouble>) -> u8
-    ensures { result ≡ status_of (named answer.entry) }
+pub fn status_of(answer: Result<u8, JobError>) -> u8
+    ensures { result ≡ status_of (result_view answer.entry) }
 {
     match answer {
         Ok(status) => status,

@@ -11,7 +11,7 @@ use Rattle.httparse.proofs.GrammarLemmas.{print_request-append}
 use Rattle.reg_core.specs.declared.code.Code.{Code}
 use Rattle.reg_messages.specs.Framing.{framing}
 use Rattle.reg_messages.specs.Messages.{Message, IsMessage, HasHead, HasNoHead, IsPartOfHead, Follows, Part, fields_of}
-use Rattle.reg_messages.specs.MessageLooks.{IsWhole, IsPartUpTo}
+use Rattle.reg_messages.specs.ParseOutcomes.{IsWholeMessage, IsPartialUntil}
 
 -- where two splits are of one list, the shorter front is a front of the longer
 front_of : (a b c d : List ℕ) → a ++ b ≡ c ++ d → length a ≤ length c → (e : List ℕ) × (c ≡ a ++ e)
@@ -107,11 +107,11 @@ pub framed : (front : List ℕ) (headers : List HeaderSpan) (r : RequestSpans) (
 framed front headers r head result x e = sym (e ∙ ap framing x.fields)
 
 -- and the whole message
-pub IsWhole-found : (bytes : List ℕ) (n k : ℕ) (headers : List HeaderSpan) (r : RequestSpans) (head : RequestHead)
+pub IsWholeMessage-found : (bytes : List ℕ) (n k : ℕ) (headers : List HeaderSpan) (r : RequestSpans) (head : RequestHead)
     → n ≤ length bytes → n ≤ 16384 → IsRequestAt (take n bytes) headers r head → IsRequestWithin (take n bytes) headers r
     → framing (fields_of head) ≡ Ok k → k ≤ length bytes - r.len
-    → (message : Message) × IsWhole bytes headers (record { head = r; body = k }) message
-IsWhole-found bytes n k headers r head le small x within f fits =
+    → (message : Message) × IsWholeMessage bytes headers (record { head = r; body = k }) message
+IsWholeMessage-found bytes n k headers r head le small x within f fits =
     let size : length (take n bytes) ≡ n = length-take-le n bytes le in
     let here : r.len ≤ length (take n bytes) = within.section.len_fits in
     let inside : r.len ≤ n = omega arith in
@@ -163,8 +163,8 @@ IsMessage-more bytes rest more message x = record {
 }
 
 -- a part of a head may be whole with the next byte
-pub IsPartUpTo-head : (bytes : List ℕ) → IsPartOfHead bytes → IsPartUpTo bytes (length bytes + 1)
-IsPartUpTo-head bytes h = record {
+pub IsPartialUntil-head : (bytes : List ℕ) → IsPartOfHead bytes → IsPartialUntil bytes (length bytes + 1)
+IsPartialUntil-head bytes h = record {
   short = omega arith;
   fits = omega (arith, h.size);
   part = λ more few.
@@ -177,9 +177,9 @@ IsPartUpTo-head bytes h = record {
     no_bytes (x ∷ more) few = absurd (omega arith)
 
 -- a whole head waits for its body
-pub IsPartUpTo-body : (bytes : List ℕ) (head : RequestHead) (len size : ℕ) → size ≤ 1048576 → HasHead bytes head (drop len bytes) → framing (fields_of head) ≡ Ok size
-    → len ≤ length bytes → len ≡ length (print_request head) → length bytes < len + size → IsPartUpTo bytes (len + size)
-IsPartUpTo-body bytes head len size most x f inside is short = record {
+pub IsPartialUntil-body : (bytes : List ℕ) (head : RequestHead) (len size : ℕ) → size ≤ 1048576 → HasHead bytes head (drop len bytes) → framing (fields_of head) ≡ Ok size
+    → len ≤ length bytes → len ≡ length (print_request head) → length bytes < len + size → IsPartialUntil bytes (len + size)
+IsPartialUntil-body bytes head len size most x f inside is short = record {
   short = short;
   fits = omega (arith, is, x.size, most);
   part = λ more few.

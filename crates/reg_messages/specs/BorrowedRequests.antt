@@ -2,11 +2,11 @@
 use Rattle.std.specs.Prelude.{◌≡◌, List, map}
 use Rattle.httparse.specs.Spans.{header_bytes}
 use Rattle.reg_messages.specs.declared.request.Request.{Request}
-use Rattle.reg_messages.specs.Fields.{Pair}
+use Rattle.reg_messages.specs.Fields.{HeaderField}
 use Rattle.reg_messages.specs.Messages.{Message, fields_of}
 
 -- the names and values of its fields
-abbrev pub fields_in : Request → List Pair
+abbrev pub fields_in : Request → List HeaderField
 fields_in r = map (header_bytes r.head.now) r.fields.now
 
 -- its parts are those of the message

@@ -5,7 +5,7 @@ use Rattle.std.specs.Char.{is_ascii_digit}
 use Rattle.std.specs.Str.Parse.{digits_value}
 use Rattle.reg_core.specs.declared.code.Code.{Code}
 use Rattle.reg_core.specs.declared.code.Code.TheVariants.{MalformedRequest, CodingNotSupported, BodyTooLarge}
-use Rattle.reg_messages.specs.Fields.{Pair, values_named}
+use Rattle.reg_messages.specs.Fields.{HeaderField, values_named}
 
 -- the most bytes of a body (this project's choice)
 abbrev pub max_body : ℕ
@@ -34,5 +34,5 @@ length_unless_coded [] lengths = length_of lengths
 length_unless_coded (coding ∷ more) lengths = Err CodingNotSupported
 
 -- the body's length, or the first fault that the fields have
-unfoldable pub framing : List Pair → Result ℕ Code
+unfoldable pub framing : List HeaderField → Result ℕ Code
 framing fields = length_unless_coded (values_named (codes "Transfer-Encoding") fields) (values_named (codes "Content-Length") fields)

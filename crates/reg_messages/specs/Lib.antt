@@ -1,7 +1,7 @@
 pub mod Fields
 pub mod Framing
 pub mod Messages
-pub mod MessageLooks
+pub mod ParseOutcomes
 pub mod BorrowedRequests
 pub mod Closing
-pub mod Answers
+pub mod Responses

@@ -5,7 +5,7 @@ use Rattle.httparse.specs.Grammar.{RequestHead, print_request, ReadsRequest, Has
 use Rattle.httparse.specs.Spans.{name_and_value}
 use Rattle.reg_core.specs.declared.code.Code.{Code}
 use Rattle.reg_core.specs.declared.code.Code.TheVariants.{MalformedRequest}
-use Rattle.reg_messages.specs.Fields.{Pair}
+use Rattle.reg_messages.specs.Fields.{HeaderField}
 use Rattle.reg_messages.specs.Framing.{framing}
 
 -- the most bytes of a head, with its empty line (this project's choice)
@@ -22,7 +22,7 @@ pub record HasHead (bytes : List ℕ) (head : RequestHead) (rest : List ℕ) : T
   pub size : length (print_request head) ≤ max_head
 
 -- the names and values of the head's fields
-abbrev pub fields_of : RequestHead → List Pair
+abbrev pub fields_of : RequestHead → List HeaderField
 fields_of head = map name_and_value head.fields
 
 -- bytes are the message, and then rest
@@ -31,9 +31,9 @@ pub record IsMessage (bytes : List ℕ) (message : Message) (rest : List ℕ) : 
   pub body : framing (fields_of message.head) ≡ Ok (length message.body)
 
 -- bytes are these messages, and then rest
-abbrev pub Leads : List ℕ → List Message → List ℕ → Type 0
-Leads bytes [] rest = bytes ≡ rest
-Leads bytes (m ∷ ms) rest = (mid : List ℕ) × IsMessage bytes m mid × Leads mid ms rest
+abbrev pub ParsesInto : List ℕ → List Message → List ℕ → Type 0
+ParsesInto bytes [] rest = bytes ≡ rest
+ParsesInto bytes (m ∷ ms) rest = (mid : List ℕ) × IsMessage bytes m mid × ParsesInto mid ms rest
 
 -- no head within the limit is at the front
 abbrev pub HasNoHead : List ℕ → Type 0
@@ -56,8 +56,8 @@ pub record IsPartOfBody (bytes : List ℕ) : Type 0 where
   pub short : length rest < size
 
 -- no bytes can follow that make a head, or the limit is reached without one
-abbrev pub HasNoHeadEver : List ℕ → Type 0
-HasNoHeadEver bytes = NeverHasRequest bytes ⊎ ((max_head ≤ length bytes) × HasNoHead bytes)
+abbrev pub NeverHasHead : List ℕ → Type 0
+NeverHasHead bytes = NeverHasRequest bytes ⊎ ((max_head ≤ length bytes) × HasNoHead bytes)
 
 -- a whole head, whose fields have a fault
 pub record HasFaultyHead (bytes : List ℕ) (code : Code) : Type 0 where
@@ -77,18 +77,18 @@ pub data Tail : Type 0 where
 abbrev pub Follows : List ℕ → Tail → Type 0
 Follows bytes End = bytes ≡ []
 Follows bytes Part = IsPartOfHead bytes ⊎ IsPartOfBody bytes
-Follows bytes (Faulty code) = ((code ≡ MalformedRequest) × HasNoHeadEver bytes) ⊎ HasFaultyHead bytes code
+Follows bytes (Faulty code) = ((code ≡ MalformedRequest) × NeverHasHead bytes) ⊎ HasFaultyHead bytes code
 
 -- the bytes end inside a target, and are read as a part and as a fault: the case that the grammar leaves open
-abbrev pub IsOpen : List ℕ → Tail → Tail → Type 0
-IsOpen bytes t u = EndsInTarget bytes × (t ≡ Part) × (u ≡ Faulty MalformedRequest)
+abbrev pub IsAmbiguous : List ℕ → Tail → Tail → Type 0
+IsAmbiguous bytes t u = EndsInTarget bytes × (t ≡ Part) × (u ≡ Faulty MalformedRequest)
 
 -- two readings of what follows are one, but for that case
 abbrev pub Agree : List ℕ → Tail → Tail → Type 0
-Agree bytes t u = (t ≡ u) ⊎ (IsOpen bytes t u ⊎ IsOpen bytes u t)
+Agree bytes t u = (t ≡ u) ⊎ (IsAmbiguous bytes t u ⊎ IsAmbiguous bytes u t)
 
 -- the whole messages at the front, and what follows them
 pub record Messages (bytes : List ℕ) (messages : List Message) (tail : Tail) : Type 0 where
   pub rest : List ℕ
-  pub leads : Leads bytes messages rest
+  pub leads : ParsesInto bytes messages rest
   pub follows : Follows rest tail

@@ -9,7 +9,7 @@ use httparse::spans::HeaderSpan;
 
 /// What a look for a field's name finds.
 #[derive(Clone, Copy)]
-pub enum Found<'a> {
+pub enum FieldLookup<'a> {
     /// No field has the name.
     Missing,
     /// One field has it, with this value.
@@ -25,27 +25,27 @@ fn is_name(name: &[u8], other: &[u8]) -> bool
     name.eq_ignore_ascii_case(other)
 }
 
-impl<'a> Found<'a> {
-    ghost use Rattle.reg_messages.specs.Fields.{Finds};
+impl<'a> FieldLookup<'a> {
+    ghost use Rattle.reg_messages.specs.Fields.{FindsField};
 
     /// With one more value behind those that were found.
-    fn and(self, value: &'a [u8]) -> Found<'a>
-        ensures { (values : List (List ℕ)) → Finds values self.entry
-            → Finds (values ++ value.now ∷ []) result }
+    fn and(self, value: &'a [u8]) -> FieldLookup<'a>
+        ensures { (values : List (List ℕ)) → FindsField values self.entry
+            → FindsField (values ++ value.now ∷ []) result }
     {
         match self {
-            Found::Missing => Found::Once(value),
-            Found::Once(_) => Found::Repeated,
-            Found::Repeated => Found::Repeated,
+            FieldLookup::Missing => FieldLookup::Once(value),
+            FieldLookup::Once(_) => FieldLookup::Repeated,
+            FieldLookup::Repeated => FieldLookup::Repeated,
         }
     }
 
     /// Looks for a field by its name, whatever the case of its letters.
-    pub fn look(head: &'a [u8], fields: &[HeaderSpan], name: &[u8]) -> Found<'a>
+    pub fn by_name(head: &'a [u8], fields: &[HeaderSpan], name: &[u8]) -> FieldLookup<'a>
         requires { All (IsHeaderWithin (length head.now)) fields.now }
-        ensures { Finds (values_named name.now (map (header_bytes head.now) fields.now)) result }
+        ensures { FindsField (values_named name.now (map (header_bytes head.now) fields.now)) result }
     {
-        let mut found = Found::Missing;
+        let mut found = FieldLookup::Missing;
         for field in fields {
             if is_name(field.name.of(head), name) {
                 found = found.and(field.value.of(head));

@@ -4,7 +4,7 @@ ghost use Rattle.std.specs.Prelude.{◌≡◌, ◌≤◌, IfOk, map, length, All
 ghost use Rattle.httparse.specs.Spans.{IsHeaderWithin, header_bytes};
 ghost use Rattle.reg_messages.specs.Framing.{framing, body_length, max_body};
 
-use crate::fields::Found;
+use crate::fields::FieldLookup;
 use httparse::spans::HeaderSpan;
 use reg_core::Code;
 
@@ -13,7 +13,7 @@ pub const MAX_BODY: u64 = 1_048_576;
 
 /// The length in bytes that a `Content-Length` writes in 1 to 19 digits: `MalformedRequest` where
 /// it doesn't, and `BodyTooLarge` past the limit.
-fn number(text: &[u8]) -> Result<usize, Code>
+fn parse_length(text: &[u8]) -> Result<usize, Code>
     ensures value { result ≡ body_length text.now }
     ensures within { IfOk result (λ length. length ≤ max_body) }
 {
@@ -39,19 +39,19 @@ fn number(text: &[u8]) -> Result<usize, Code>
 ///
 /// `CodingNotSupported` for a `Transfer-Encoding`. Else `MalformedRequest` for two lengths, or for
 /// one that isn't 1 to 19 digits, and `BodyTooLarge` for one above `MAX_BODY`.
-pub fn length_by(head: &[u8], fields: &[HeaderSpan]) -> Result<usize, Code>
+pub fn length_from_fields(head: &[u8], fields: &[HeaderSpan]) -> Result<usize, Code>
     requires { All (IsHeaderWithin (length head.now)) fields.now }
     ensures value { result ≡ framing (map (header_bytes head.now) fields.now) }
     ensures within { IfOk result (λ length. length ≤ max_body) }
 {
-    match Found::look(head, fields, b"Transfer-Encoding") {
-        Found::Missing => {}
-        Found::Once(_) => return Err(Code::CodingNotSupported),
-        Found::Repeated => return Err(Code::CodingNotSupported),
+    match FieldLookup::by_name(head, fields, b"Transfer-Encoding") {
+        FieldLookup::Missing => {}
+        FieldLookup::Once(_) => return Err(Code::CodingNotSupported),
+        FieldLookup::Repeated => return Err(Code::CodingNotSupported),
     }
-    match Found::look(head, fields, b"Content-Length") {
-        Found::Missing => Ok(0),
-        Found::Once(text) => number(text),
-        Found::Repeated => Err(Code::MalformedRequest),
+    match FieldLookup::by_name(head, fields, b"Content-Length") {
+        FieldLookup::Missing => Ok(0),
+        FieldLookup::Once(text) => parse_length(text),
+        FieldLookup::Repeated => Err(Code::MalformedRequest),
     }
 }

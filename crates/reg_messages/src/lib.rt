@@ -2,16 +2,16 @@
 
 #![tactic(auto)]
 
-mod answer;
 mod closing;
 mod fields;
 mod framing;
 mod message;
 mod request;
+mod response;
 
-pub use answer::bytes_of;
-pub use fields::Found;
+pub use fields::FieldLookup;
 pub use framing::MAX_BODY;
-pub use message::{Look, MAX_HEAD, Whole, look_at, one_reading};
+pub use message::{MAX_HEAD, ParseOutcome, Whole, parse_front, parse_is_unique};
 pub use reg_core::OutOfMemory;
 pub use request::Request;
+pub use response::bytes_of;

@@ -1,10 +1,10 @@
 //! Cutting the first message off a stream of bytes (RFC 9112, sections 2 to 6).
 
 ghost use Rattle.std.specs.Prelude.{◌≡◌, ℕ, List, length};
-ghost use Rattle.reg_messages.specs.MessageLooks.{LooksAs};
+ghost use Rattle.reg_messages.specs.ParseOutcomes.{ParsesAs};
 ghost use Rattle.reg_messages.specs.Messages.{Message, Messages, Tail, Agree};
 
-use crate::framing::length_by;
+use crate::framing::length_from_fields;
 use httparse::spans::{HeaderSpan, RequestSpans, parse_request};
 use httparse::{Error, Status};
 use reg_core::Code;
@@ -22,7 +22,7 @@ pub struct Whole {
 
 /// What stands at the front of the bytes.
 #[derive(Clone, Copy)]
-pub enum Look {
+pub enum ParseOutcome {
     /// A whole message.
     Whole(Whole),
     /// No byte.
@@ -36,41 +36,41 @@ pub enum Look {
 }
 
 /// Looks at the front of the bytes, with room for the fields of a head. 16,384 fields are enough.
-pub fn look_at(bytes: &[u8], headers: &mut [HeaderSpan]) -> Look
-    ensures { LooksAs (length headers.old) bytes.now headers.new result }
+pub fn parse_front(bytes: &[u8], headers: &mut [HeaderSpan]) -> ParseOutcome
+    ensures { ParsesAs (length headers.old) bytes.now headers.new result }
 {
     if bytes.is_empty() {
-        return Look::Nothing;
+        return ParseOutcome::Nothing;
     }
     let front = &bytes[..bytes.len().min(MAX_HEAD)];
     match parse_request(front, headers) {
-        Ok(Status::Complete(head)) => match length_by(front, &headers[..head.headers]) {
-            Err(code) => Look::Faulty(code),
+        Ok(Status::Complete(head)) => match length_from_fields(front, &headers[..head.headers]) {
+            Err(code) => ParseOutcome::Faulty(code),
             Ok(body) => {
                 if bytes.len() - head.len < body {
-                    Look::Part(head.len + body)
+                    ParseOutcome::Part(head.len + body)
                 } else {
-                    Look::Whole(Whole { head, body })
+                    ParseOutcome::Whole(Whole { head, body })
                 }
             }
         },
         Ok(Status::Partial) => {
             if bytes.len() < MAX_HEAD {
-                Look::Part(bytes.len() + 1)
+                ParseOutcome::Part(bytes.len() + 1)
             } else {
-                Look::Faulty(Code::MalformedRequest)
+                ParseOutcome::Faulty(Code::MalformedRequest)
             }
         }
         Err(error) => match error {
-            Error::TooManyHeaders => Look::TooManyFields,
-            _ => Look::Faulty(Code::MalformedRequest),
+            Error::TooManyHeaders => ParseOutcome::TooManyFields,
+            _ => ParseOutcome::Faulty(Code::MalformedRequest),
         },
     }
 }
 
 /// A law: a stream of bytes has one list of whole messages, and one of what follows them, but where
 /// it ends inside a target. So what is answered is determined.
-pub fn one_reading()
+pub fn parse_is_unique()
     ensures { (bytes : List ℕ) (ms ks : List Message) (t u : Tail)
         → (one : Messages bytes ms t) → Messages bytes ks u → (ms ≡ ks) × Agree one.rest t u }
 {}

@@ -25,14 +25,14 @@ pub struct Request<'a> {
 }
 
 impl<'a> Request<'a> {
-    ghost use Rattle.reg_messages.specs.MessageLooks.{IsWhole};
+    ghost use Rattle.reg_messages.specs.ParseOutcomes.{IsWholeMessage};
     ghost use Rattle.reg_messages.specs.Messages.{Message};
     ghost use Rattle.reg_messages.specs.BorrowedRequests.{Borrows};
 
     /// The whole message at the front of the bytes.
     pub fn of(bytes: &'a [u8], headers: &'a [HeaderSpan], whole: Whole) -> Request<'a>
-        requires { (message : Message) × IsWhole bytes.now headers.now whole message }
-        ensures { (message : Message) → IsWhole bytes.entry.now headers.entry.now whole message
+        requires { (message : Message) × IsWholeMessage bytes.now headers.now whole message }
+        ensures { (message : Message) → IsWholeMessage bytes.entry.now headers.entry.now whole message
             → Borrows result message }
     {
         let (head, rest) = bytes.split_at(whole.head.len);

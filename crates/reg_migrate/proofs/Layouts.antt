@@ -7,14 +7,14 @@ use Rattle.sqlite.specs.Effect.{Database}
 use Rattle.sqlite.specs.State.{State}
 use Rattle.sqlite.specs.declared.error.Error.{Error}
 use Rattle.reg_tables.specs.Layout.{layout_one, layout_one_unindexed, layout_two, IsLayoutOne}
-use Rattle.reg_tables.specs.Contents.{HoldsIn}
-use Rattle.reg_tables.specs.Changes.{numbered_layout_two}
+use Rattle.reg_tables.specs.Contents.{HoldsContents}
+use Rattle.reg_tables.specs.Changes.{marked_layout_two}
 use Rattle.reg_tables.specs.FailedCalls.{IsWriteFault, IsInsertFault}
-use Rattle.reg_migrate.specs.Inside.{CanMove, HasLayoutOne, HoldsMoved, MovesBy, TakesMoved}
+use Rattle.reg_migrate.specs.Inside.{CanMigrate, HasLayoutOne, HoldsMigrated, MigratesFrom, TreesHoldMigrated}
 
 -- what is held under one schema of layout 1 is held under the one that the database has
-pub holds_under : (schema : Schema) (db : Database) → db.schema ≡ schema → (it : HasLayoutOne db) → HoldsIn schema db it.contents
-holds_under schema db is it = subst (λ x. HoldsIn x db it.contents) (sym it.holds.declared ∙ is) it.holds
+pub holds_under : (schema : Schema) (db : Database) → db.schema ≡ schema → (it : HasLayoutOne db) → HoldsContents schema db it.contents
+holds_under schema db is it = subst (λ x. HoldsContents x db it.contents) (sym it.holds.declared ∙ is) it.holds
 
 -- layout 1 without the index missing has it
 pub is_indexed : (db : Database) → db.schema ≢ layout_one_unindexed → HasLayoutOne db → db.schema ≡ layout_one
@@ -29,19 +29,19 @@ one_of_two schema (inl has) other = has
 one_of_two schema (inr lacks) other = absurd (other lacks)
 
 -- what was moved from the schema that the database has was moved from either
-pub moves_both : (schema : Schema) (before now : Database) → ((other : Schema) → IsLayoutOne other → before.schema ≡ other → other ≡ schema) → MovesBy schema before now → HoldsMoved before now
-moves_both schema before now one moves other known contents holds = moves contents (subst (λ x. HoldsIn x before contents) (one other known holds.declared) holds)
+pub moves_both : (schema : Schema) (before now : Database) → ((other : Schema) → IsLayoutOne other → before.schema ≡ other → other ≡ schema) → MigratesFrom schema before now → HoldsMigrated before now
+moves_both schema before now one moves other known contents holds = moves contents (subst (λ x. HoldsContents x before contents) (one other known holds.declared) holds)
 
 -- over a connection that is shut a write fails by a fault, and over an open one as it says
 pub fails_either : {X : Type 0} (old new : State) (r : Result X Error) → IfErr r (λ e. IsTrue old.is_open ⊎ IsWriteFault old new e)
-    → IfErr r (λ e. HasLayoutOne old.now → IsInsertFault old new e) → IfErr r (λ e. CanMove old → IsInsertFault old new e)
+    → IfErr r (λ e. HasLayoutOne old.now → IsInsertFault old new e) → IfErr r (λ e. CanMigrate old → IsInsertFault old new e)
 fails_either old new (Ok x) shut fails = tt
 fails_either old new (Err e) (inl is_open) fails = λ can. fails (can is_open)
 fails_either old new (Err e) (inr fault) fails = λ can. inl (inl fault)
 
 -- trees that hold what layout 1 held do so after a crash
-pub taken_if_held : (before now : Database) (db : Trees) → db ≡ now.trees → HoldsMoved before now → TakesMoved before db
+pub taken_if_held : (before now : Database) (db : Trees) → db ≡ now.trees → HoldsMigrated before now → TreesHoldMigrated before db
 taken_if_held before now db is moves schema known contents holds =
     let it = moves schema known contents holds in
-    subst (λ d. HoldsIn layout_two (record { schema = layout_two; trees = d }) (numbered_layout_two contents)) (sym is)
-    (subst (λ x. HoldsIn layout_two (record { schema = x; trees = now.trees }) (numbered_layout_two contents)) it.declared it)
+    subst (λ d. HoldsContents layout_two (record { schema = layout_two; trees = d }) (marked_layout_two contents)) (sym is)
+    (subst (λ x. HoldsContents layout_two (record { schema = x; trees = now.trees }) (marked_layout_two contents)) it.declared it)

@@ -1,5 +1,5 @@
 mod Layouts
-mod Told
+mod ErrorLemmas
 mod Spelled
 mod NoEvidence
-mod Moves
+mod Migrates

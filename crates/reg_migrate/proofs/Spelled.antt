@@ -9,40 +9,40 @@ use Rattle.reg_core.specs.Stored.{Stored}
 use Rattle.reg_tables.specs.Contents.{text_cmp, TextMap, Contents}
 use Rattle.reg_tables.specs.Layout.{layout_two}
 use Rattle.reg_tables.proofs.Opening.{nothing_held}
-use Rattle.reg_tables.specs.Changes.{meta_as, numbered_meta, numbered_layout_two}
+use Rattle.reg_tables.specs.Changes.{meta_of_layout, meta_before_level, marked_layout_two}
 use Rattle.reg_tables.proofs.MapLemmas.{get-insert-same, get-insert-other, same_or_not}
 use Rattle.reg_tables.proofs.KeyedTables.{text_order}
-use Rattle.reg_store.specs.Spells.{IsSpelledEvidence, IsSpelledLayoutOne, IsSpelledLayoutTwo, Leaves, Spells, SpellsLayoutOne, layout_two_meta}
+use Rattle.reg_store.specs.Spells.{IsSpelledEvidence, IsSpelledLayoutOne, IsSpelledLayoutTwo, RecoversTo, Spells, SpellsLayoutOne, layout_two_meta}
 use Rattle.reg_store.proofs.Evidence.{no_evidence}
-use Rattle.reg_migrate.specs.Inside.{HoldsMoved, TakesMoved}
+use Rattle.reg_migrate.specs.Inside.{HoldsMigrated, TreesHoldMigrated}
 
 -- the layout's number alone is another one
 module _ (level : List ℕ) where
   -- no other row depends on the number
-  elsewhere : (number q : List ℕ) → q ≢ codes "layout" → q ≢ codes "global" → get (meta_as number level) q ≡ get (insert {R = text_cmp} empty (codes "format") (codes "avroreg")) q
+  elsewhere : (number q : List ℕ) → q ≢ codes "layout" → q ≢ codes "global" → get (meta_of_layout number level) q ≡ get (insert {R = text_cmp} empty (codes "format") (codes "avroreg")) q
   elsewhere number q other more =
-      get-insert-other text_cmp text_order (numbered_meta number) (codes "global") level q more
+      get-insert-other text_cmp text_order (meta_before_level number) (codes "global") level q more
       ∙ get-insert-other text_cmp text_order (insert empty (codes "format") (codes "avroreg")) (codes "layout") number q other
 
-  renumbered : insert (meta_as (codes "1") level) (codes "layout") (codes "2") ≡ meta_as (codes "2") level
+  renumbered : insert (meta_of_layout (codes "1") level) (codes "layout") (codes "2") ≡ meta_of_layout (codes "2") level
   renumbered = same_map text_order.total text_order.antisymmetric _ _ (λ q. elim (same_or_not text_cmp text_order q (codes "layout")) [
     | inl e ↦
-        ap (get (insert (meta_as (codes "1") level) (codes "layout") (codes "2"))) e
-        ∙ get-insert-same text_cmp text_order (meta_as (codes "1") level) (codes "layout") (codes "2")
-        ∙ sym (ap (get (meta_as (codes "2") level)) e ∙ (get-insert text_order.total (numbered_meta (codes "2")) (codes "global") level (codes "layout")
+        ap (get (insert (meta_of_layout (codes "1") level) (codes "layout") (codes "2"))) e
+        ∙ get-insert-same text_cmp text_order (meta_of_layout (codes "1") level) (codes "layout") (codes "2")
+        ∙ sym (ap (get (meta_of_layout (codes "2") level)) e ∙ (get-insert text_order.total (meta_before_level (codes "2")) (codes "global") level (codes "layout")
         ∙ get-insert-same text_cmp text_order (insert empty (codes "format") (codes "avroreg")) (codes "layout") (codes "2")))
     | inr other ↦
-        get-insert-other text_cmp text_order (meta_as (codes "1") level) (codes "layout") (codes "2") q other
+        get-insert-other text_cmp text_order (meta_of_layout (codes "1") level) (codes "layout") (codes "2") q other
         ∙ elim (same_or_not text_cmp text_order q (codes "global")) [
           | inl e ↦
-              ap (get (meta_as (codes "1") level)) e ∙ get-insert-same text_cmp text_order (numbered_meta (codes "1")) (codes "global") level
-              ∙ sym (ap (get (meta_as (codes "2") level)) e ∙ get-insert-same text_cmp text_order (numbered_meta (codes "2")) (codes "global") level)
+              ap (get (meta_of_layout (codes "1") level)) e ∙ get-insert-same text_cmp text_order (meta_before_level (codes "1")) (codes "global") level
+              ∙ sym (ap (get (meta_of_layout (codes "2") level)) e ∙ get-insert-same text_cmp text_order (meta_before_level (codes "2")) (codes "global") level)
           | inr more ↦ elsewhere (codes "1") q other more ∙ sym (elsewhere (codes "2") q other more)
         ]
   ])
 
 -- what layout 1 spells, its contents spell in layout 2
-pub moved_spelled : (contents : Contents) (was : Stored) → (contents.modes ≡ empty) × (contents.evidence ≡ empty) × (contents.against ≡ empty) → IsSpelledLayoutOne contents was → IsSpelledLayoutTwo (numbered_layout_two contents) was
+pub moved_spelled : (contents : Contents) (was : Stored) → (contents.modes ≡ empty) × (contents.evidence ≡ empty) × (contents.against ≡ empty) → IsSpelledLayoutOne contents was → IsSpelledLayoutTwo (marked_layout_two contents) was
 moved_spelled contents was none s = record {
   base = record {
     registry = s.base.registry;
@@ -60,19 +60,19 @@ moved_spelled contents was none s = record {
       ∙ ap (λ mode. layout_two_meta (level_text was.registry.global) (mode_text mode)) (sym s.modes.global);
   modes = λ subject. ap (λ m. get m subject) none.0 ∙ get-empty text_cmp subject ∙ sym (ap (option_map mode_text) (s.modes.own subject));
   owners = λ subject mode there. absurd (let none = sym (s.modes.own subject) ∙ there in cc);
-  evidence = subst (IsSpelledEvidence (numbered_layout_two contents)) (sym s.evidence) (no_evidence (numbered_layout_two contents) none.1 none.2);
+  evidence = subst (IsSpelledEvidence (marked_layout_two contents)) (sym s.evidence) (no_evidence (marked_layout_two contents) none.1 none.2);
 }
 
 -- a database to which the tables were moved spells what they spelled
-pub spells_moved : (before now : Database) (was : Stored) → HoldsMoved before now → SpellsLayoutOne before was → Spells now was
+pub spells_moved : (before now : Database) (was : Stored) → HoldsMigrated before now → SpellsLayoutOne before was → Spells now was
 spells_moved before now was moves s = record {
   schema = layout_two;
   known = inl refl;
-  contents = numbered_layout_two s.contents;
+  contents = marked_layout_two s.contents;
   holds = moves s.schema s.known s.contents s.holds;
   spelled = moved_spelled s.contents was (nothing_held s.schema s.known before.trees s.contents s.holds.shows) s.spelled;
 }
 
 -- so do trees that a crash leaves
-pub leaves_moved : (before : Database) (db : Trees) (was : Stored) → TakesMoved before db → SpellsLayoutOne before was → Leaves db was
+pub leaves_moved : (before : Database) (db : Trees) (was : Stored) → TreesHoldMigrated before db → SpellsLayoutOne before was → RecoversTo db was
 leaves_moved before db was takes s = record { schema = layout_two; spells = spells_moved before (record { schema = layout_two; trees = db }) was takes s }

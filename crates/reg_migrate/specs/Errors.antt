@@ -9,17 +9,17 @@ use Rattle.reg_tables.specs.FailedCalls.{HasDiskFault}
 use Rattle.reg_store.specs.declared.error.StoreError.{StoreError}
 use Rattle.reg_store.specs.declared.error.StoreError.TheVariants as store
 use Rattle.reg_store.specs.Opening.{NamesLayout, ShowsLayout}
-use Rattle.reg_store.specs.Stores.{LeavesCommit, LeavesNoMore}
+use Rattle.reg_store.specs.Stores.{RecoversLastCommit, AddsNoCrashState}
 use Rattle.reg_migrate.specs.declared.error.MigrateError.{MigrateError}
 use Rattle.reg_migrate.specs.declared.error.MigrateError.TheVariants.{Memory, Disk, NotARegistry, AlreadyNew, NewerLayout}
 
 -- the error for what `check_first` returns: a layout above 1 is this program's or newer
-abbrev pub told_as : StoreError → MigrateError
-told_as store.Memory = Memory
-told_as store.Disk = Disk
-told_as store.NotARegistry = NotARegistry
-told_as (store.OldLayout number) = NotARegistry
-told_as (store.NewerLayout number) = if number == 2 then AlreadyNew else NewerLayout number
+abbrev pub migrate_error_of : StoreError → MigrateError
+migrate_error_of store.Memory = Memory
+migrate_error_of store.Disk = Disk
+migrate_error_of store.NotARegistry = NotARegistry
+migrate_error_of (store.OldLayout number) = NotARegistry
+migrate_error_of (store.NewerLayout number) = if number == 2 then AlreadyNew else NewerLayout number
 
 -- the error is `Memory` or `Disk`
 abbrev pub is_fault : MigrateError → Bool
@@ -28,37 +28,37 @@ is_fault Disk = true
 is_fault _ = false
 
 -- if the error is `Disk`, a disk fault is the cause
-abbrev pub IsTold : State → State → MigrateError → Type 0
-IsTold old new Disk = HasDiskFault old new
-IsTold old new _ = Unit {0}
+abbrev pub HasDiskCause : State → State → MigrateError → Type 0
+HasDiskCause old new Disk = HasDiskFault old new
+HasDiskCause old new _ = Unit {0}
 
 -- an error with a number, or for layout 2, has the number from the rows of `meta`
-abbrev pub IsRefusedBy : Database → MigrateError → Type 0
-IsRefusedBy db AlreadyNew = ShowsLayout db 2 × (HasFiveTables db.schema → NamesLayout db 2)
-IsRefusedBy db (NewerLayout number) = (2 < number) × ShowsLayout db number × (HasFiveTables db.schema → NamesLayout db number)
-IsRefusedBy db _ = Unit {0}
+abbrev pub HasMetaNumber : Database → MigrateError → Type 0
+HasMetaNumber db AlreadyNew = ShowsLayout db 2 × (HasFiveTables db.schema → NamesLayout db 2)
+HasMetaNumber db (NewerLayout number) = (2 < number) × ShowsLayout db number × (HasFiveTables db.schema → NamesLayout db number)
+HasMetaNumber db _ = Unit {0}
 
 -- the error for a layout above 1 with this number
-abbrev pub IsToldAs : ℕ → MigrateError → Type 0
-IsToldAs number AlreadyNew = number ≡ 2
-IsToldAs number (NewerLayout told) = told ≡ number
-IsToldAs number _ = ⊥
+abbrev pub IsErrorForLayout : ℕ → MigrateError → Type 0
+IsErrorForLayout number AlreadyNew = number ≡ 2
+IsErrorForLayout number (NewerLayout told) = told ≡ number
+IsErrorForLayout number _ = ⊥
 
 -- If the database begins with the five tables and `meta` can be read and names a layout above 1, the error reports that layout, or memory or the disk failed.
 -- The other rows don't matter.
-abbrev pub TellsNewer : State → MigrateError → Type 0
-TellsNewer s e = (number : ℕ) → IsTrue s.is_open → 1 < number → HoldsMeta s.now → NamesLayout s.now number → IsToldAs number e ⊎ IsTrue (is_fault e)
+abbrev pub ReportsNewer : State → MigrateError → Type 0
+ReportsNewer s e = (number : ℕ) → IsTrue s.is_open → 1 < number → HoldsMeta s.now → NamesLayout s.now number → IsErrorForLayout number e ⊎ IsTrue (is_fault e)
 
 -- After an error other than `Disk`, a crash leaves only what it left before. If allocation fails, the disk may fail too.
-abbrev pub LeavesBefore : State → State → MigrateError → Type 0
-LeavesBefore old new Disk = Unit {0}
-LeavesBefore old new Memory = LeavesNoMore old new ⊎ MoreFaults old.faults new.faults
-LeavesBefore old new _ = LeavesNoMore old new
+abbrev pub KeepsCrashStates : State → State → MigrateError → Type 0
+KeepsCrashStates old new Disk = Unit {0}
+KeepsCrashStates old new Memory = AddsNoCrashState old new ⊎ MoreFaults old.faults new.faults
+KeepsCrashStates old new _ = AddsNoCrashState old new
 
 -- What `migrate` leaves of the connection, for every result. After an error nothing has changed; after an error other than `Disk`, nothing has changed after a
 -- crash either. Only a disk fault closes the connection.
-pub record LeavesConnection {T : Type 0} (old new : State) (result : Result T MigrateError) : Type 0 where
+pub record KeepsConnection {T : Type 0} (old new : State) (result : Result T MigrateError) : Type 0 where
   pub nothing : HasCleanDisk new → OnErr result (OnlyReads old new)
-  pub before : HasCleanDisk new → IfErr result (λ e. IsTrue old.is_open → LeavesBefore old new e)
+  pub before : HasCleanDisk new → IfErr result (λ e. IsTrue old.is_open → KeepsCrashStates old new e)
   pub closes : HasCleanDisk new → IsTrue old.is_open → IsTrue new.is_open ⊎ MoreFaults old.faults new.faults
-  pub settled : LeavesCommit new
+  pub settled : RecoversLastCommit new

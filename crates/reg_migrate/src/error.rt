@@ -1,7 +1,7 @@
 //! Why a migration fails.
 
 ghost use Rattle.std.specs.Prelude.{◌≡◌};
-ghost use Rattle.reg_migrate.specs.Errors.{told_as};
+ghost use Rattle.reg_migrate.specs.Errors.{migrate_error_of};
 
 use reg_store::StoreError;
 use thiserror::Error;
@@ -28,9 +28,9 @@ pub enum MigrateError {
 
 impl From<StoreError> for MigrateError {
     ghost use Rattle.std.specs.Prelude.{◌≡◌};
-    ghost use Rattle.reg_migrate.specs.Errors.{told_as};
+    ghost use Rattle.reg_migrate.specs.Errors.{migrate_error_of};
 
-    ghost from_gives = { λ error failure. failure ≡ told_as error };
+    ghost from_gives = { λ error failure. failure ≡ migrate_error_of error };
 
     fn from(error: StoreError) -> MigrateError {
         match error {

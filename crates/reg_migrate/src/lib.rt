@@ -6,7 +6,7 @@
 
 mod error;
 mod migrating;
-mod moving;
+mod statements;
 
 pub use error::MigrateError;
 pub use migrating::{Report, migrate};

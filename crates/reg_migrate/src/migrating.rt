@@ -5,14 +5,14 @@ ghost use Rattle.sqlite.specs.Tree.{Trees};
 ghost use Rattle.sqlite.specs.Held.{state};
 ghost use Rattle.sqlite.specs.State.{HasCleanDisk, Survives};
 ghost use Rattle.reg_tables.specs.Reads.{OnlyReads};
-ghost use Rattle.reg_migrate.specs.Errors.{LeavesBefore, LeavesConnection, is_fault};
-ghost use Rattle.reg_migrate.specs.Inside.{CanMove, IsMovedOver, TakesMoved};
-ghost use Rattle.reg_migrate.specs.Migrations.{IsReasonOver, LeavesMoved, LosesNothing, Moves};
+ghost use Rattle.reg_migrate.specs.Errors.{KeepsCrashStates, KeepsConnection, is_fault};
+ghost use Rattle.reg_migrate.specs.Inside.{CanMigrate, IsMigratedOver, TreesHoldMigrated};
+ghost use Rattle.reg_migrate.specs.Migrations.{IsReasonOver, RecoversToMigrated, CrashKeepsStored, Migrates};
 
 use crate::error::MigrateError;
-use crate::moving::move_all;
+use crate::statements::migrate_all;
 use reg_store::{StoreError, check_first};
-use reg_tables::Idle;
+use reg_tables::AutocommitConnection;
 use sqlite::{Alter, Connection};
 use std::alloc::Global;
 
@@ -24,7 +24,7 @@ pub struct Report {
 }
 
 /// Migrates the tables of layout 1, and reports this number of versions.
-fn move_connection<S: Alter>(
+fn migrate_connection<S: Alter>(
     connection: Connection<S>,
     versions: u64,
 ) -> (Result<Report, MigrateError>, Connection<S>)
@@ -32,23 +32,23 @@ fn move_connection<S: Alter>(
     requires unlimited { connection.step_limit ≡ None }
     ensures counted { IfOk result.0 (λ report. report.versions ≡ versions) }
     ensures done { HasCleanDisk (state S.Store result.1)
-        → OnOk result.0 (IsMovedOver (state S.Store connection) (state S.Store result.1)) }
+        → OnOk result.0 (IsMigratedOver (state S.Store connection) (state S.Store result.1)) }
     ensures fault { HasCleanDisk (state S.Store result.1) → IfErr result.0 (λ e.
-        CanMove (state S.Store connection) → IsTrue (is_fault e)) }
+        CanMigrate (state S.Store connection) → IsTrue (is_fault e)) }
     ensures idle { result.1.in_transaction ≡ false }
     ensures nothing { HasCleanDisk (state S.Store result.1)
         → OnErr result.0 (OnlyReads (state S.Store connection) (state S.Store result.1)) }
     ensures before { HasCleanDisk (state S.Store result.1) → IfErr result.0 (λ e.
         IsTrue (state S.Store connection).is_open
-        → LeavesBefore (state S.Store connection) (state S.Store result.1) e) }
+        → KeepsCrashStates (state S.Store connection) (state S.Store result.1) e) }
     ensures survives { Survives (state S.Store connection) (state S.Store result.1)
-        (λ left. IsTrue (state S.Store connection).is_open × TakesMoved (state S.Store connection).now left) }
+        (λ left. IsTrue (state S.Store connection).is_open × TreesHoldMigrated (state S.Store connection).now left) }
 {
-    let mut db = Idle { conn: connection };
-    let moved = move_all(&mut db);
+    let mut db = AutocommitConnection { conn: connection };
+    let migrated = migrate_all(&mut db);
     let _idle = db.conn.is_autocommit();
-    let Idle { conn } = db;
-    match moved {
+    let AutocommitConnection { conn } = db;
+    match migrated {
         Ok(()) => (Ok(Report { versions }), conn),
         Err(error) => (Err(MigrateError::from(StoreError::from(error))), conn),
     }
@@ -69,26 +69,26 @@ pub fn migrate<S: Alter>(
 ) -> (Result<Report, MigrateError>, Connection<S>)
     requires { connection.in_transaction ≡ false }
     ensures done { HasCleanDisk (state S.Store result.1) → IfOk result.0 (λ report.
-        Moves (state S.Store connection) (state S.Store result.1) report.versions) }
+        Migrates (state S.Store connection) (state S.Store result.1) report.versions) }
     ensures reason { HasCleanDisk (state S.Store result.1)
         → IfErr result.0 (IsReasonOver (state S.Store connection) (state S.Store result.1)) }
     ensures idle { result.1.in_transaction ≡ false }
-    ensures leaves { LeavesConnection (state S.Store connection) (state S.Store result.1) result.0 }
+    ensures leaves { KeepsConnection (state S.Store connection) (state S.Store result.1) result.0 }
 
     // After `Ok` a crash leaves layout 2. After an error it leaves that or what it left before; if
     // layout 1 spelled no registry, only the latter. No result loses anything.
     ensures crash_after { HasCleanDisk (state S.Store result.1) → OnOk result.0 ((db : Trees)
-        → (state S.Store result.1).may_leave db → LeavesMoved (state S.Store connection).now db) }
+        → (state S.Store result.1).may_leave db → RecoversToMigrated (state S.Store connection).now db) }
     ensures crash { HasCleanDisk (state S.Store result.1) → (db : Trees)
         → (state S.Store result.1).may_leave db
-        → (state S.Store connection).may_leave db ⊎ LeavesMoved (state S.Store connection).now db }
+        → (state S.Store connection).may_leave db ⊎ RecoversToMigrated (state S.Store connection).now db }
     ensures found { HasCleanDisk (state S.Store result.1)
-        → LosesNothing (state S.Store connection) (state S.Store result.1) }
+        → CrashKeepsStored (state S.Store connection) (state S.Store result.1) }
 {
     let _idle = connection.is_autocommit();
     let (counted, connection) = check_first(alloc, connection);
     match counted {
-        Ok(versions) => move_connection(connection, versions),
+        Ok(versions) => migrate_connection(connection, versions),
         Err(error) => (Err(MigrateError::from(error)), connection),
     }
 }

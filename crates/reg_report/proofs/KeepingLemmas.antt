@@ -7,25 +7,25 @@ use Rattle.reg_core.specs.Stored.{Stored}
 use Rattle.reg_store.specs.declared.error.StoreError.{StoreError}
 use Rattle.reg_store.specs.declared.store.Store.{Store}
 use Rattle.reg_store.specs.Failures.{IsFaultOver}
-use Rattle.reg_store.specs.Stores.{state_of, has_failed, KeepsOpen, KeepsLent, LeavesCommit, LeavesNoMore, SpellsOn, TellsStored}
+use Rattle.reg_store.specs.Stores.{state_of, has_failed, KeepsOpen, KeepsBorrowed, RecoversLastCommit, AddsNoCrashState, StillSpells, AnswersFromStored}
 use Rattle.reg_store.proofs.Failing.{by_since}
 use Rattle.reg_store.proofs.Keeping.{Settles}
 use Rattle.reg_report.specs.declared.error.ReportError.{ReportError}
-use Rattle.reg_report.specs.Keeping.{KeepsListed}
+use Rattle.reg_report.specs.Keeping.{PreservesListed}
 
 -- the same, whatever is answered
 pub record Keeps {S : Type 0} {g : Ghosts S} (old new : Store S g) : Type 0 where
   pub failed : has_failed new ≡ has_failed old
   pub clean : HasCleanDisk (state_of new) → HasCleanDisk (state_of old)
   pub connection : KeepsOpen (state_of old) (state_of new)
-  pub settled : LeavesCommit (state_of new)
-  pub same : HasCleanDisk (state_of new) → SpellsOn (state_of old) (state_of new)
-  pub crash : HasCleanDisk (state_of new) → LeavesNoMore (state_of old) (state_of new)
+  pub settled : RecoversLastCommit (state_of new)
+  pub same : HasCleanDisk (state_of new) → StillSpells (state_of old) (state_of new)
+  pub crash : HasCleanDisk (state_of new) → AddsNoCrashState (state_of old) (state_of new)
 
 opens_then : (a b c : State) → (HasCleanDisk c → HasCleanDisk b) → KeepsOpen a b → KeepsOpen b c → KeepsOpen a c
 opens_then a b c clean_before p q = record {
   counts = omega (arith, p.counts, q.counts);
-  stays_shut = λ clean is_open. p.stays_shut (clean_before clean) (q.stays_shut clean is_open);
+  stays_closed = λ clean is_open. p.stays_closed (clean_before clean) (q.stays_closed clean is_open);
   closes = λ clean is_open. elim (p.closes (clean_before clean) is_open) [
     | inl still ↦ elim (q.closes clean still) [ inl after ↦ inl after | inr more ↦ inr (omega (arith, p.counts, more)) ]
     | inr more ↦ inr (omega (arith, q.counts, more))
@@ -38,14 +38,14 @@ module _ {S : Type 0} {g : Ghosts S} where
   keeps_still settles s = record {
     failed = refl;
     clean = λ clean. clean;
-    connection = record { counts = omega arith; stays_shut = λ _ is_open. is_open; closes = λ _ is_open. inl is_open };
+    connection = record { counts = omega arith; stays_closed = λ _ is_open. is_open; closes = λ _ is_open. inl is_open };
     settled = λ is_open db it. settles s.db.idle.conn.store db is_open it;
     same = λ _ was over. over;
     crash = λ _ db it. it;
   }
 
   -- one call after others
-  pub keeps_then : {T Goes : Type 0} {Tells : Stored → T → Type 0} (a b c : Store S g) (r : Result T StoreError) → Keeps a b → KeepsLent b c r → (HasCleanDisk (state_of c) → TellsStored (state_of b) (state_of c) Goes r Tells) → Keeps a c
+  pub keeps_then : {T Goes : Type 0} {Tells : Stored → T → Type 0} (a b c : Store S g) (r : Result T StoreError) → Keeps a b → KeepsBorrowed b c r → (HasCleanDisk (state_of c) → AnswersFromStored (state_of b) (state_of c) Goes r Tells) → Keeps a c
   keeps_then a b c r p q tells = record {
     failed = q.failed ∙ p.failed;
     clean = λ clean. p.clean (q.clean clean);
@@ -56,11 +56,11 @@ module _ {S : Type 0} {g : Ghosts S} where
   }
 
   -- what they answer succeeds over an open connection alone
-  pub keeps_listed : {T : Type 0} (old new : Store S g) (r : Result T ReportError) → Keeps old new → (HasCleanDisk (state_of new) → OnOk r (IsTrue (state_of old).is_open)) → KeepsListed old new r
+  pub keeps_listed : {T : Type 0} (old new : Store S g) (r : Result T ReportError) → Keeps old new → (HasCleanDisk (state_of new) → OnOk r (IsTrue (state_of old).is_open)) → PreservesListed old new r
   keeps_listed old new r p was_open = record { failed = p.failed; clean = p.clean; was_open = was_open; connection = p.connection; settled = p.settled }
 
   -- a fault that the last call tells is one of all
-  pub fault_on : {T Goes : Type 0} {Tells : Stored → T → Type 0} (a b c : Store S g) (e : StoreError) → Keeps a b → KeepsLent {T = T} b c (Err e) → HasCleanDisk (state_of c) → TellsStored {T = T} (state_of b) (state_of c) Goes (Err e) Tells → Goes
+  pub fault_on : {T Goes : Type 0} {Tells : Stored → T → Type 0} (a b c : Store S g) (e : StoreError) → Keeps a b → KeepsBorrowed {T = T} b c (Err e) → HasCleanDisk (state_of c) → AnswersFromStored {T = T} (state_of b) (state_of c) Goes (Err e) Tells → Goes
       → IsFaultOver (state_of a) (state_of c) e
   fault_on a b c e p q clean tells going was over =
       let early = q.clean clean in

@@ -1,4 +1,4 @@
 pub mod CsvLemmas
-pub mod HeldLemmas
+pub mod BufferLemmas
 pub mod KeepingLemmas
 pub mod PrintingLemmas

@@ -14,41 +14,41 @@ use Rattle.reg_store.specs.declared.error.StoreError.TheVariants.{Disk}
 use Rattle.reg_store.specs.declared.listing.Listing.{Listing}
 use Rattle.reg_store.specs.declared.store.cursor.Cursor.{Cursor}
 use Rattle.reg_store.specs.declared.store.Store.{Store}
-use Rattle.reg_store.specs.declared.store.lent.Lines.{Lines}
+use Rattle.reg_store.specs.declared.store.line_iterator.Lines.{Lines}
 use Rattle.reg_store.specs.Failures.{IsFaultOver}
-use Rattle.reg_store.specs.Handing.{HasHanded}
+use Rattle.reg_store.specs.NextLines.{HasYielded}
 use Rattle.reg_store.specs.Listings.{Fields, listing_lines}
 use Rattle.reg_store.specs.Spells.{SpellsWhileOpen}
 use Rattle.reg_store.specs.Stores.{state_of, has_failed}
 use Rattle.reg_store.proofs.Keeping.{Settles}
-use Rattle.reg_report.specs.Csv.{IsBegun, csv_text, header, listing}
-use Rattle.reg_report.specs.Holding.{PutsBehind, WritesHeld}
-use Rattle.reg_report.specs.Printing.{Lists}
-use Rattle.reg_report.specs.StoreAnswers.{store_answer}
+use Rattle.reg_report.specs.Csv.{WritesPrefix, csv_text, header, listing}
+use Rattle.reg_report.specs.Buffering.{Buffers, FlushesBuffer}
+use Rattle.reg_report.specs.Printing.{PrintsListing}
+use Rattle.reg_report.specs.StoreResults.{store_result}
 use Rattle.reg_report.specs.declared.error.ReportError.{ReportError}
 use Rattle.reg_report.specs.declared.error.ReportError.TheVariants.{Store as Stops, Write}
-use Rattle.reg_report.proofs.HeldLemmas.{held_all, PutsBehind-begun, PutsBehind-no_fault}
+use Rattle.reg_report.proofs.BufferLemmas.{buffer_flushed, Buffers-begun, Buffers-no_fault}
 use Rattle.reg_report.proofs.KeepingLemmas.{Keeps, keeps_still, keeps_listed}
 
 -- no line was written yet
-pub begun_none : (lines : List Fields) (w : Option (List ℕ)) → IsBegun lines w w
+pub begun_none : (lines : List Fields) (w : Option (List ℕ)) → WritesPrefix lines w w
 unfolding csv_text
 begun_none lines w = (0, appends-none w)
 
 module _ {S : Type 0} {g : Ghosts S} where
   -- the header and the lines that were handed out
-  pub begun_handed : (kind : Listing) (lines : Lines S Cursor g) (registry : Registry) (w w' : Option (List ℕ)) → (done : List Fields) × HasHanded lines kind registry done × Appends w w' (csv_text (header kind ∷ done))
-      → IsBegun (header kind ∷ listing_lines kind registry) w w'
+  pub begun_handed : (kind : Listing) (lines : Lines S Cursor g) (registry : Registry) (w w' : Option (List ℕ)) → (done : List Fields) × HasYielded lines kind registry done × Appends w w' (csv_text (header kind ∷ done))
+      → WritesPrefix (header kind ∷ listing_lines kind registry) w w'
   begun_handed kind lines registry w w' it = (suc it.1.count, subst (λ rest. Appends w w' (csv_text (header kind ∷ rest))) it.1.begins it.2)
 
   -- it ended with an error
   pub lists_early : (kind : Listing) (a b : Store S g) (w w' : Option (List ℕ)) (r : Result (Unit {0}) ReportError) (e : ReportError) → has_failed a ≡ false → Keeps a b
       → IsErrAnd r (λ failure. failure ≡ e)
-      → (HasCleanDisk (state_of b) → e ≢ Write → (was : Stored) → SpellsWhileOpen (state_of a) was → IsBegun (header kind ∷ listing_lines kind was.registry) w w')
-      → (HasCleanDisk (state_of b) → IfErr (store_answer {T = Unit {0}} (Err e)) (IsFaultOver (state_of a) (state_of b))) → Lists kind a b w w' r
+      → (HasCleanDisk (state_of b) → e ≢ Write → (was : Stored) → SpellsWhileOpen (state_of a) was → WritesPrefix (header kind ∷ listing_lines kind was.registry) w w')
+      → (HasCleanDisk (state_of b) → IfErr (store_result {T = Unit {0}} (Err e)) (IsFaultOver (state_of a) (state_of b))) → PrintsListing kind a b w w' r
   lists_early kind a b w w' (Ok x) e unfailed keeps is begun fault = absurd is
   lists_early kind a b w w' (Err failure) e unfailed keeps is begun fault =
-      subst (λ (f : ReportError). Lists kind a b w w' (Err f)) (sym is) (record {
+      subst (λ (f : ReportError). PrintsListing kind a b w w' (Err f)) (sym is) (record {
         frame = keeps_listed a b (Err e) keeps (λ _. tt);
         refused = λ failed. cc;
         ok = λ _. tt;
@@ -60,15 +60,15 @@ module _ {S : Type 0} {g : Ghosts S} where
 
   -- memory was refused, or a write failed, as bytes were put behind so many lines
   pub lists_cut : (kind : Listing) (a b : Store S g) (w mid w' : Option (List ℕ)) (bytes : List ℕ) (r : Result (Unit {0}) ReportError) (e : ReportError) → has_failed a ≡ false → Keeps a b
-      → IsErrAnd r (λ failure. failure ≡ e) → PutsBehind (Err e) mid w' bytes
-      → (HasCleanDisk (state_of b) → (was : Stored) → SpellsWhileOpen (state_of a) was → IsBegun (header kind ∷ listing_lines kind was.registry) w mid) → Lists kind a b w w' r
+      → IsErrAnd r (λ failure. failure ≡ e) → Buffers (Err e) mid w' bytes
+      → (HasCleanDisk (state_of b) → (was : Stored) → SpellsWhileOpen (state_of a) was → WritesPrefix (header kind ∷ listing_lines kind was.registry) w mid) → PrintsListing kind a b w w' r
   lists_cut kind a b w mid w' bytes r e unfailed keeps is put begun =
-      lists_early kind a b w w' r e unfailed keeps is (λ clean unless was over. PutsBehind-begun _ w mid w' bytes e put unless (begun clean was over))
-      (λ _. PutsBehind-no_fault mid w' bytes e _ put)
+      lists_early kind a b w w' r e unfailed keeps is (λ clean unless was over. Buffers-begun _ w mid w' bytes e put unless (begun clean was over))
+      (λ _. Buffers-no_fault mid w' bytes e _ put)
 
   -- all lines were put
   pub lists_whole : (kind : Listing) (a b : Store S g) (w w' : Option (List ℕ)) → has_failed a ≡ false → Keeps a b → (HasCleanDisk (state_of b) → IsTrue (state_of a).is_open)
-      → (HasCleanDisk (state_of b) → (was : Stored) → SpellsWhileOpen (state_of a) was → Appends w w' (listing kind was.registry)) → Lists kind a b w w' (Ok tt)
+      → (HasCleanDisk (state_of b) → (was : Stored) → SpellsWhileOpen (state_of a) was → Appends w w' (listing kind was.registry)) → PrintsListing kind a b w w' (Ok tt)
   lists_whole kind a b w w' unfailed keeps was_open whole = record {
     frame = keeps_listed a b (Ok tt) keeps was_open;
     refused = λ failed. cc;
@@ -83,10 +83,10 @@ module _ {S : Type 0} {g : Ghosts S} where
 
   -- the store had answered a fault of the disk before
   pub lists_refused : (kind : Listing) (a : Store S g) (w : Option (List ℕ)) (r : Result (Unit {0}) ReportError) (e : StoreError) → Settles g → IsTrue (has_failed a) → e ≡ Disk
-      → IsErrAnd r (λ failure. failure ≡ Stops e) → Lists kind a a w w r
+      → IsErrAnd r (λ failure. failure ≡ Stops e) → PrintsListing kind a a w w r
   lists_refused kind a w (Ok x) e settles failed disk is = absurd is
   lists_refused kind a w (Err failure) e settles failed disk is =
-      subst (λ (f : ReportError). Lists kind a a w w (Err f)) (sym is) (subst (λ (told : StoreError). Lists kind a a w w (Err (Stops told))) (sym disk) (record {
+      subst (λ (f : ReportError). PrintsListing kind a a w w (Err f)) (sym is) (subst (λ (told : StoreError). PrintsListing kind a a w w (Err (Stops told))) (sym disk) (record {
         frame = keeps_listed a a (Err (Stops Disk)) (keeps_still settles a) (λ _. tt);
         refused = λ _. (refl, refl, refl);
         ok = λ _. tt;
@@ -98,9 +98,9 @@ module _ {S : Type 0} {g : Ghosts S} where
 
   -- what was held is written too, or a write failed
   pub lists_ended : (kind : Listing) (a b : Store S g) (w mid w' : Option (List ℕ)) (put r : Result (Unit {0}) ReportError) → has_failed a ≡ false
-      → Lists kind a b (append_known w []) mid put → WritesHeld put mid w' r → Lists kind a b w w' r
+      → PrintsListing kind a b (append_known w []) mid put → FlushesBuffer put mid w' r → PrintsListing kind a b w w' r
   lists_ended kind a b w mid w' put r unfailed lists (inl failed) =
-      subst (Lists kind a b w w') (sym failed) (record {
+      subst (PrintsListing kind a b w w') (sym failed) (record {
         frame = record { failed = lists.frame.failed; clean = lists.frame.clean; was_open = λ _. tt; connection = lists.frame.connection; settled = lists.frame.settled };
         refused = λ again. cc;
         ok = λ _. tt;
@@ -110,11 +110,11 @@ module _ {S : Type 0} {g : Ghosts S} where
         crash = lists.crash;
       })
   lists_ended kind a b w mid w' put r unfailed lists (inr ended) =
-      subst (Lists kind a b w w') (sym ended.0) (record {
+      subst (PrintsListing kind a b w w') (sym ended.0) (record {
         frame = lists.frame;
         refused = λ again. cc;
-        ok = λ clean. on_ok_weaker put (λ whole was over. held_all w mid w' _ (whole was over) ended.1) (lists.ok clean);
-        begun = λ clean unless was over. (let it = lists.begun clean unless was over in (it.0, held_all w mid w' _ it.1 ended.1));
+        ok = λ clean. on_ok_weaker put (λ whole was over. buffer_flushed w mid w' _ (whole was over) ended.1) (lists.ok clean);
+        begun = λ clean unless was over. (let it = lists.begun clean unless was over in (it.0, buffer_flushed w mid w' _ it.1 ended.1));
         fault = lists.fault;
         same = lists.same;
         crash = lists.crash;

@@ -23,5 +23,5 @@ abbrev pub listing : Listing → Registry → List ℕ
 listing kind g = csv_text (header kind ∷ listing_lines kind g)
 
 -- so many of these lines were written, from the first on, each of them whole
-abbrev pub IsBegun : List Fields → Option (List ℕ) → Option (List ℕ) → Type 0
-IsBegun lines writer writer' = (count : ℕ) × Appends writer writer' (csv_text (take count lines))
+abbrev pub WritesPrefix : List Fields → Option (List ℕ) → Option (List ℕ) → Type 0
+WritesPrefix lines writer writer' = (count : ℕ) × Appends writer writer' (csv_text (take count lines))

@@ -1,5 +1,5 @@
 pub mod Csv
-pub mod StoreAnswers
-pub mod Holding
+pub mod StoreResults
+pub mod Buffering
 pub mod Keeping
 pub mod Printing

@@ -9,15 +9,15 @@ use Rattle.reg_store.specs.declared.error.StoreError.TheVariants.{Disk}
 use Rattle.reg_store.specs.declared.listing.Listing.{Listing}
 use Rattle.reg_store.specs.declared.store.cursor.Cursor.{Cursor}
 use Rattle.reg_store.specs.declared.store.Store.{Store}
-use Rattle.reg_store.specs.declared.store.lent.Lines.{Lines}
+use Rattle.reg_store.specs.declared.store.line_iterator.Lines.{Lines}
 use Rattle.reg_store.specs.Failures.{IsFaultOver}
-use Rattle.reg_store.specs.Handing.{store_of, failure_in, HasHanded}
+use Rattle.reg_store.specs.NextLines.{store_of, failure_in, HasYielded}
 use Rattle.reg_store.specs.Listings.{listing_lines}
 use Rattle.reg_store.specs.Spells.{SpellsWhileOpen}
-use Rattle.reg_store.specs.Stores.{state_of, has_failed, LeavesNoMore, SpellsOn}
-use Rattle.reg_report.specs.Csv.{IsBegun, header, listing}
-use Rattle.reg_report.specs.Keeping.{KeepsListed}
-use Rattle.reg_report.specs.StoreAnswers.{store_answer}
+use Rattle.reg_store.specs.Stores.{state_of, has_failed, AddsNoCrashState, StillSpells}
+use Rattle.reg_report.specs.Csv.{WritesPrefix, header, listing}
+use Rattle.reg_report.specs.Keeping.{PreservesListed}
+use Rattle.reg_report.specs.StoreResults.{store_result}
 use Rattle.reg_report.specs.declared.error.ReportError.{ReportError}
 use Rattle.reg_report.specs.declared.error.ReportError.TheVariants.{Write}
 
@@ -25,19 +25,19 @@ use Rattle.reg_report.specs.declared.error.ReportError.TheVariants.{Write}
 pub record IsAtStart {S : Type 0} {g : Ghosts S} (kind : Listing) (lines : Lines S Cursor g) : Type 0 where
   pub going : failure_in lines ≡ None
   pub unfailed : has_failed (store_of lines) ≡ false
-  pub starts : (registry : Registry) → HasHanded lines kind registry []
+  pub starts : (registry : Registry) → HasYielded lines kind registry []
 
 -- this project's choice: a listing of what a store has is written, whatever is answered
-pub record Lists {S : Type 0} {g : Ghosts S} (kind : Listing) (old new : Store S g) (writer writer' : Option (List ℕ)) (result : Result (Unit {0}) ReportError) : Type 0 where
-  pub frame : KeepsListed old new result
+pub record PrintsListing {S : Type 0} {g : Ghosts S} (kind : Listing) (old new : Store S g) (writer writer' : Option (List ℕ)) (result : Result (Unit {0}) ReportError) : Type 0 where
+  pub frame : PreservesListed old new result
   -- after a fault of the disk the store gives no line, and nothing is written
-  pub refused : IsTrue (has_failed old) → (store_answer result ≡ Err Disk) × (new ≡ old) × (writer' ≡ writer)
+  pub refused : IsTrue (has_failed old) → (store_result result ≡ Err Disk) × (new ≡ old) × (writer' ≡ writer)
   -- all of it is written
   pub ok : HasCleanDisk (state_of new) → OnOk result ((was : Stored) → SpellsWhileOpen (state_of old) was → Appends writer writer' (listing kind was.registry))
   -- so many whole lines are, from the header on, unless a write failed
   pub begun : HasCleanDisk (state_of new) → result ≢ Err Write → (was : Stored) → SpellsWhileOpen (state_of old) was
-      → IsBegun (header kind ∷ listing_lines kind was.registry) writer writer'
+      → WritesPrefix (header kind ∷ listing_lines kind was.registry) writer writer'
   -- over tables that spell a registry the store's error comes for want of memory or a fault of the disk alone
-  pub fault : HasCleanDisk (state_of new) → has_failed old ≡ false → IfErr (store_answer result) (IsFaultOver (state_of old) (state_of new))
-  pub same : HasCleanDisk (state_of new) → SpellsOn (state_of old) (state_of new)
-  pub crash : HasCleanDisk (state_of new) → LeavesNoMore (state_of old) (state_of new)
+  pub fault : HasCleanDisk (state_of new) → has_failed old ≡ false → IfErr (store_result result) (IsFaultOver (state_of old) (state_of new))
+  pub same : HasCleanDisk (state_of new) → StillSpells (state_of old) (state_of new)
+  pub crash : HasCleanDisk (state_of new) → AddsNoCrashState (state_of old) (state_of new)

@@ -2,8 +2,8 @@
 
 #![tactic(auto)]
 
+mod buffer;
 mod error;
-mod held;
 mod lines;
 mod reports;
 

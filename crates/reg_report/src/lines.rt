@@ -2,13 +2,13 @@
 
 ghost use Rattle.std.specs.Prelude.{◌≡◌, ◌<◌, ◌-◌, ◌^◌, [], IfOk, length, map};
 ghost use Rattle.csv.specs.Writing.{default_writer, row_text};
-ghost use Rattle.reg_store.specs.Handing.{store_of};
+ghost use Rattle.reg_store.specs.NextLines.{store_of};
 ghost use Rattle.reg_report.specs.Csv.{header};
-ghost use Rattle.reg_report.specs.Holding.{PutsBehind, held_contents};
-ghost use Rattle.reg_report.specs.Printing.{IsAtStart, Lists};
+ghost use Rattle.reg_report.specs.Buffering.{Buffers, buffered_contents};
+ghost use Rattle.reg_report.specs.Printing.{IsAtStart, PrintsListing};
 
+use crate::buffer::OutputBuffer;
 use crate::error::ReportError;
-use crate::held::Held;
 use csv::WriterBuilder;
 use reg_core::OutOfMemory;
 use reg_store::{Lines, Listing};
@@ -22,21 +22,21 @@ use std::io::Write;
 pub(crate) fn put_lines<W: Write, S: Alter>(
     alloc: Global,
     writer: &mut W,
-    held: &mut Held,
+    buffer: &mut OutputBuffer,
     kind: Listing,
     lines: &mut Lines<'_, S>,
 ) -> Result<(), ReportError>
     requires { IsAtStart kind lines.old }
     ensures same_reference { lines.new.store.ghost_name ≡ lines.old.store.ghost_name }
-    ensures lists { Lists kind (store_of lines.old) (store_of lines.new)
-        (held_contents W.contents writer.old held.old) (held_contents W.contents writer.new held.new) result }
+    ensures lists { PrintsListing kind (store_of lines.old) (store_of lines.new)
+        (buffered_contents W.contents writer.old buffer.old) (buffered_contents W.contents writer.new buffer.new) result }
 {
-    put_header(alloc, writer, held, kind)?;
+    put_header(alloc, writer, buffer, kind)?;
     for _ in 0..u64::MAX {
         let Some(line) = lines.next()? else {
             return Ok(());
         };
-        put_line(alloc, writer, held, line.as_slice())?;
+        put_line(alloc, writer, buffer, line.as_slice())?;
     }
     // No memory holds so many lines.
     Err(ReportError::OutOfMemory)
@@ -46,18 +46,18 @@ pub(crate) fn put_lines<W: Write, S: Alter>(
 fn put_header<W: Write>(
     alloc: Global,
     writer: &mut W,
-    held: &mut Held,
+    buffer: &mut OutputBuffer,
     kind: Listing,
 ) -> Result<(), ReportError>
-    ensures { PutsBehind result (held_contents W.contents writer.old held.old)
-        (held_contents W.contents writer.new held.new) (row_text default_writer (header kind)) }
+    ensures { Buffers result (buffered_contents W.contents writer.old buffer.old)
+        (buffered_contents W.contents writer.new buffer.new) (row_text default_writer (header kind)) }
 {
     match kind {
         Listing::Subjects => {
             put_line(
                 alloc,
                 writer,
-                held,
+                buffer,
                 &["subject", "level", "live", "deleted"],
             )
         }
@@ -65,11 +65,11 @@ fn put_header<W: Write>(
             put_line(
                 alloc,
                 writer,
-                held,
+                buffer,
                 &["subject", "version", "id", "deleted"],
             )
         }
-        Listing::Schemas => put_line(alloc, writer, held, &["id", "text"]),
+        Listing::Schemas => put_line(alloc, writer, buffer, &["id", "text"]),
     }
 }
 
@@ -77,15 +77,15 @@ fn put_header<W: Write>(
 fn put_line<W: Write, T: AsSlice<u8>>(
     alloc: Global,
     writer: &mut W,
-    held: &mut Held,
+    buffer: &mut OutputBuffer,
     fields: &[T],
 ) -> Result<(), ReportError>
     requires { length fields.now < 2 ^ 64 - 1 }
-    ensures { PutsBehind result (held_contents W.contents writer.old held.old)
-        (held_contents W.contents writer.new held.new) (row_text default_writer (map T.items fields.now)) }
+    ensures { Buffers result (buffered_contents W.contents writer.old buffer.old)
+        (buffered_contents W.contents writer.new buffer.new) (row_text default_writer (map T.items fields.now)) }
 {
     let text = line_text(alloc, fields)?;
-    held.put(writer, text.as_slice())
+    buffer.put(writer, text.as_slice())
 }
 
 /// The text of the line that has these fields.

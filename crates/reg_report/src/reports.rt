@@ -1,12 +1,12 @@
 //! Listings, written to a writer.
 
 ghost use Rattle.std.specs.Prelude.{◌≡◌};
-ghost use Rattle.reg_store.specs.Handing.{store_of};
+ghost use Rattle.reg_store.specs.NextLines.{store_of};
 ghost use Rattle.reg_store.specs.declared.listing.Listing.TheVariants.{Schemas, Subjects, Versions};
-ghost use Rattle.reg_report.specs.Printing.{IsAtStart, Lists};
+ghost use Rattle.reg_report.specs.Printing.{IsAtStart, PrintsListing};
 
+use crate::buffer::OutputBuffer;
 use crate::error::ReportError;
-use crate::held::Held;
 use crate::lines::put_lines;
 use reg_store::{Lines, Listing, Store};
 use sqlite::Alter;
@@ -15,7 +15,7 @@ use std::io::Write;
 
 /// How many bytes are collected for a write where a listing is written in pieces: so many that the
 /// writes cost little beside the reads of the lines.
-const PIECE: usize = 65_536;
+const BUFFER_SIZE: usize = 65_536;
 
 /// Writes as CSV the subjects that have versions, each with its own level, and how many of its
 /// versions are live and how many are soft-deleted.
@@ -30,7 +30,7 @@ pub fn list_subjects<W: Write, S: Alter>(
     store: &mut Store<S>,
     writer: &mut W,
 ) -> Result<(), ReportError>
-    ensures { Lists Subjects store.old store.new (W.contents writer.old) (W.contents writer.new) result }
+    ensures { PrintsListing Subjects store.old store.new (W.contents writer.old) (W.contents writer.new) result }
 {
     list(alloc, store, Listing::Subjects, writer)
 }
@@ -47,7 +47,7 @@ pub fn list_versions<W: Write, S: Alter>(
     store: &mut Store<S>,
     writer: &mut W,
 ) -> Result<(), ReportError>
-    ensures { Lists Versions store.old store.new (W.contents writer.old) (W.contents writer.new) result }
+    ensures { PrintsListing Versions store.old store.new (W.contents writer.old) (W.contents writer.new) result }
 {
     list(alloc, store, Listing::Versions, writer)
 }
@@ -64,7 +64,7 @@ pub fn list_schemas<W: Write, S: Alter>(
     store: &mut Store<S>,
     writer: &mut W,
 ) -> Result<(), ReportError>
-    ensures { Lists Schemas store.old store.new (W.contents writer.old) (W.contents writer.new) result }
+    ensures { PrintsListing Schemas store.old store.new (W.contents writer.old) (W.contents writer.new) result }
 {
     list(alloc, store, Listing::Schemas, writer)
 }
@@ -82,9 +82,9 @@ pub fn list<W: Write, S: Alter>(
     kind: Listing,
     writer: &mut W,
 ) -> Result<(), ReportError>
-    ensures { Lists kind store.old store.new (W.contents writer.old) (W.contents writer.new) result }
+    ensures { PrintsListing kind store.old store.new (W.contents writer.old) (W.contents writer.new) result }
 {
-    list_holding(alloc, store, kind, writer, 0)
+    list_buffered(alloc, store, kind, writer, 0)
 }
 
 /// Writes the listing as CSV, with a header line: in pieces of 64 KiB and more, of which the last one
@@ -101,39 +101,39 @@ pub fn list_in_pieces<W: Write, S: Alter>(
     kind: Listing,
     writer: &mut W,
 ) -> Result<(), ReportError>
-    ensures { Lists kind store.old store.new (W.contents writer.old) (W.contents writer.new) result }
+    ensures { PrintsListing kind store.old store.new (W.contents writer.old) (W.contents writer.new) result }
 {
-    list_holding(alloc, store, kind, writer, PIECE)
+    list_buffered(alloc, store, kind, writer, BUFFER_SIZE)
 }
 
 /// Writes the listing, and holds at most so many bytes before a write.
-fn list_holding<W: Write, S: Alter>(
+fn list_buffered<W: Write, S: Alter>(
     alloc: Global,
     store: &mut Store<S>,
     kind: Listing,
     writer: &mut W,
-    room: usize,
+    capacity: usize,
 ) -> Result<(), ReportError>
-    ensures { Lists kind store.old store.new (W.contents writer.old) (W.contents writer.new) result }
+    ensures { PrintsListing kind store.old store.new (W.contents writer.old) (W.contents writer.new) result }
 {
     let mut lines = store.lines(kind)?;
-    put_listing(alloc, writer, room, kind, &mut lines)
+    put_listing(alloc, writer, capacity, kind, &mut lines)
 }
 
 /// Writes the header line of the listing, and the lines that the store lends.
 fn put_listing<W: Write, S: Alter>(
     alloc: Global,
     writer: &mut W,
-    room: usize,
+    capacity: usize,
     kind: Listing,
     lines: &mut Lines<'_, S>,
 ) -> Result<(), ReportError>
     requires { IsAtStart kind lines.old }
     ensures same_reference { lines.new.store.ghost_name ≡ lines.old.store.ghost_name }
-    ensures lists { Lists kind (store_of lines.old) (store_of lines.new)
+    ensures lists { PrintsListing kind (store_of lines.old) (store_of lines.new)
         (W.contents writer.old) (W.contents writer.new) result }
 {
-    let mut held = Held::new(alloc, room);
-    let put = put_lines(alloc, writer, &mut held, kind, lines);
-    held.end(writer, put)
+    let mut buffer = OutputBuffer::new(alloc, capacity);
+    let put = put_lines(alloc, writer, &mut buffer, kind, lines);
+    buffer.finish(writer, put)
 }

@@ -1,3 +1,3 @@
 pub mod Adding
 pub mod Keys
-pub mod Refusals
+pub mod Rejections

@@ -7,16 +7,16 @@ use Rattle.serde_json.specs.Find.{get, as_str}
 use Rattle.reg_routes.specs.declared.body.SentSchema.{SentSchema}
 
 -- the value of a body that is JSON
-unfoldable pub json_in : List ℕ → Option Data
-json_in body = if is_utf8 body then read body else None
+unfoldable pub body_json : List ℕ → Option Data
+body_json body = if is_utf8 body then read body else None
 
 -- the string under a name in an object
-abbrev pub string_at : List ℕ → Data → Option (List ℕ)
-string_at name value = option_and_then as_str (get name value)
+abbrev pub string_member : List ℕ → Data → Option (List ℕ)
+string_member name value = option_and_then as_str (get name value)
 
 -- the string that a body sends under a name
-abbrev pub string_sent : List ℕ → List ℕ → Option (List ℕ)
-string_sent name body = option_and_then (string_at name) (json_in body)
+abbrev pub body_string : List ℕ → List ℕ → Option (List ℕ)
+body_string name body = option_and_then (string_member name) (body_json body)
 
 -- a `schemaType` that is supported: none, null or Avro
 abbrev pub is_avro : Option Data → Bool
@@ -40,9 +40,9 @@ abbrev pub is_supported : Data → Bool
 is_supported value = is_avro (get (codes "schemaType") value) && has_no_references (get (codes "references") value)
 
 -- the schema that an object sends
-abbrev pub schema_in : Data → Option SentSchema
-schema_in value = option_map (λ text. record { text = text; supported = is_supported value }) (string_at (codes "schema") value)
+abbrev pub schema_member : Data → Option SentSchema
+schema_member value = option_map (λ text. record { text = text; supported = is_supported value }) (string_member (codes "schema") value)
 
 -- the schema that a body sends
-abbrev pub schema_sent : List ℕ → Option SentSchema
-schema_sent body = option_and_then schema_in (json_in body)
+abbrev pub body_schema : List ℕ → Option SentSchema
+body_schema body = option_and_then schema_member (body_json body)

@@ -4,24 +4,24 @@
 use Rattle.std.specs.Prelude.{ℕ, Bool, List, codes, Option, Some, option_map, option_and_then}
 use Rattle.reg_core.specs.declared.command.Command.{Command}
 use Rattle.reg_core.specs.declared.command.Command.TheVariants.{SetGlobal, SetLevel, Register, DeleteVersion, DeleteSubject, Global, LevelOf, Lookup, Subjects, Versions, Version, Text, ById, VersionsOfId, Types, Check, CheckAll, SetGlobalMode, SetMode, GlobalMode, ModeOf}
-use Rattle.reg_routes.specs.declared.resource.Asked.{Asked}
-use Rattle.reg_routes.specs.declared.resource.Asked.TheVariants as asks
-use Rattle.reg_routes.specs.declared.command.Sent.{Sent}
-use Rattle.reg_routes.specs.Targets.{text_at, subject_at}
+use Rattle.reg_routes.specs.declared.resource.Operation.{Operation}
+use Rattle.reg_routes.specs.declared.resource.Operation.TheVariants as op
+use Rattle.reg_routes.specs.declared.command.RequestParts.{RequestParts}
+use Rattle.reg_routes.specs.Targets.{path_text, path_subject}
 use Rattle.reg_routes.specs.Queries.{is_on}
-use Rattle.reg_routes.specs.Bodies.{string_sent, schema_sent}
+use Rattle.reg_routes.specs.Bodies.{body_string, body_schema}
 
 -- with the subject of a part
 abbrev pub for_subject : ℕ → List ℕ → (List ℕ → Option Command) → Option Command
-for_subject n path then = option_and_then then (subject_at n path)
+for_subject n path then = option_and_then then (path_subject n path)
 
 -- with the text of a part
 abbrev pub for_text : ℕ → List ℕ → (List ℕ → Option Command) → Option Command
-for_text n path then = option_and_then then (text_at n path)
+for_text n path then = option_and_then then (path_text n path)
 
 -- with the string under a name of a body
 abbrev pub for_string : List ℕ → List ℕ → (List ℕ → Command) → Option Command
-for_string name body then = option_map then (string_sent name body)
+for_string name body then = option_map then (body_string name body)
 
 -- with the level of a body
 abbrev pub for_level : List ℕ → (List ℕ → Command) → Option Command
@@ -33,7 +33,7 @@ for_mode = for_string (codes "mode")
 
 -- with the schema of a body, and whether it is supported
 abbrev pub for_schema : List ℕ → (List ℕ → Bool → Command) → Option Command
-for_schema body then = option_map (λ schema. then schema.text schema.supported) (schema_sent body)
+for_schema body then = option_map (λ schema. then schema.text schema.supported) (body_schema body)
 
 abbrev pub deleted : List ℕ → Bool
 deleted query = is_on query (codes "deleted")
@@ -44,34 +44,34 @@ permanent query = is_on query (codes "permanent")
 abbrev pub default_to_global : List ℕ → Bool
 default_to_global query = is_on query (codes "defaultToGlobal")
 
-abbrev pub command_sent : Asked → List ℕ → List ℕ → List ℕ → Option Command
-command_sent asks.SetGlobal path query body = for_level body SetGlobal
-command_sent asks.SetLevel path query body = for_subject 2 path (λ subject. for_level body (SetLevel subject))
-command_sent asks.Register path query body = for_subject 2 path (λ subject. for_schema body (Register subject))
-command_sent asks.DeleteVersion path query body =
+abbrev pub command_from : Operation → List ℕ → List ℕ → List ℕ → Option Command
+command_from op.SetGlobal path query body = for_level body SetGlobal
+command_from op.SetLevel path query body = for_subject 2 path (λ subject. for_level body (SetLevel subject))
+command_from op.Register path query body = for_subject 2 path (λ subject. for_schema body (Register subject))
+command_from op.DeleteVersion path query body =
     for_subject 2 path (λ subject. for_text 4 path (λ version. Some (DeleteVersion subject version (permanent query))))
-command_sent asks.DeleteSubject path query body = for_subject 2 path (λ subject. Some (DeleteSubject subject (permanent query)))
-command_sent asks.Global path query body = Some Global
-command_sent asks.LevelOf path query body = for_subject 2 path (λ subject. Some (LevelOf subject (default_to_global query)))
-command_sent asks.Lookup path query body =
+command_from op.DeleteSubject path query body = for_subject 2 path (λ subject. Some (DeleteSubject subject (permanent query)))
+command_from op.Global path query body = Some Global
+command_from op.LevelOf path query body = for_subject 2 path (λ subject. Some (LevelOf subject (default_to_global query)))
+command_from op.Lookup path query body =
     for_subject 2 path (λ subject. for_schema body (λ text supported. Lookup subject text supported (deleted query)))
-command_sent asks.Subjects path query body = Some (Subjects (deleted query))
-command_sent asks.Versions path query body = for_subject 2 path (λ subject. Some (Versions subject (deleted query)))
-command_sent asks.Version path query body =
+command_from op.Subjects path query body = Some (Subjects (deleted query))
+command_from op.Versions path query body = for_subject 2 path (λ subject. Some (Versions subject (deleted query)))
+command_from op.Version path query body =
     for_subject 2 path (λ subject. for_text 4 path (λ version. Some (Version subject version (deleted query))))
-command_sent asks.Text path query body =
+command_from op.Text path query body =
     for_subject 2 path (λ subject. for_text 4 path (λ version. Some (Text subject version (deleted query))))
-command_sent asks.ById path query body = for_text 3 path (λ id. Some (ById id))
-command_sent asks.VersionsOfId path query body = for_text 3 path (λ id. Some (VersionsOfId id (deleted query)))
-command_sent asks.Types path query body = Some Types
-command_sent asks.Check path query body =
+command_from op.ById path query body = for_text 3 path (λ id. Some (ById id))
+command_from op.VersionsOfId path query body = for_text 3 path (λ id. Some (VersionsOfId id (deleted query)))
+command_from op.Types path query body = Some Types
+command_from op.Check path query body =
     for_subject 3 path (λ subject. for_text 5 path (λ version. for_schema body (Check subject version)))
-command_sent asks.CheckAll path query body = for_subject 3 path (λ subject. for_schema body (CheckAll subject))
-command_sent asks.SetGlobalMode path query body = for_mode body SetGlobalMode
-command_sent asks.SetMode path query body = for_subject 2 path (λ subject. for_mode body (SetMode subject))
-command_sent asks.GlobalMode path query body = Some GlobalMode
-command_sent asks.ModeOf path query body = for_subject 2 path (λ subject. Some (ModeOf subject (default_to_global query)))
+command_from op.CheckAll path query body = for_subject 3 path (λ subject. for_schema body (CheckAll subject))
+command_from op.SetGlobalMode path query body = for_mode body SetGlobalMode
+command_from op.SetMode path query body = for_subject 2 path (λ subject. for_mode body (SetMode subject))
+command_from op.GlobalMode path query body = Some GlobalMode
+command_from op.ModeOf path query body = for_subject 2 path (λ subject. Some (ModeOf subject (default_to_global query)))
 
 -- what a borrowed message sends
-abbrev pub command_in : Asked → Sent → Option Command
-command_in asked sent = command_sent asked sent.target.path.now sent.target.query.now sent.body.now
+abbrev pub command_in : Operation → RequestParts → Option Command
+command_in operation parts = command_from operation parts.target.path.now parts.target.query.now parts.body.now

@@ -12,11 +12,11 @@ abbrev pub is_key : List ℕ → Bool
 is_key text = nat_lt 0 (length text) && nat_le (length text) 64 && list_all is_key_byte text
 
 -- the retry key by the values of its field: none, or one that is a key
-abbrev pub key_of : List (List ℕ) → Result (Option (List ℕ)) Code
-key_of [] = Ok None
-key_of (text ∷ []) = if is_key text then Ok (Some text) else Err MalformedRequest
-key_of (text ∷ other ∷ more) = Err MalformedRequest
+abbrev pub retry_key_of : List (List ℕ) → Result (Option (List ℕ)) Code
+retry_key_of [] = Ok None
+retry_key_of (text ∷ []) = if is_key text then Ok (Some text) else Err MalformedRequest
+retry_key_of (text ∷ other ∷ more) = Err MalformedRequest
 
 -- A read's field isn't looked at.
-abbrev pub key_for : Command → List (List ℕ) → Result (Option (List ℕ)) Code
-key_for command values = if is_write command then key_of values else Ok None
+abbrev pub retry_key_for : Command → List (List ℕ) → Result (Option (List ℕ)) Code
+retry_key_for command values = if is_write command then retry_key_of values else Ok None

@@ -10,8 +10,8 @@ use Rattle.matchit.specs.Router.{RouteOf, route_from}
 use Rattle.matchit.specs.declared.error.InsertError.{InsertError}
 use Rattle.reg_routes.specs.declared.resource.Resource.{Resource}
 use Rattle.reg_routes.specs.declared.resource.Resource.TheVariants as resource
-use Rattle.reg_routes.specs.declared.resource.Asked.{Asked}
-use Rattle.reg_routes.specs.declared.resource.Asked.TheVariants as asks
+use Rattle.reg_routes.specs.declared.resource.Operation.{Operation}
+use Rattle.reg_routes.specs.declared.resource.Operation.TheVariants as op
 
 -- ---- the paths
 
@@ -60,33 +60,33 @@ abbrev pub delete : List ℕ
 delete = codes "DELETE"
 
 -- the methods of a resource in the order of their bytes, and what each asks for
-abbrev pub methods_of : Resource → List (List ℕ × Asked)
-methods_of resource.Subjects = (get, asks.Subjects) ∷ []
-methods_of resource.Subject = (delete, asks.DeleteSubject) ∷ (post, asks.Lookup) ∷ []
-methods_of resource.Versions = (get, asks.Versions) ∷ (post, asks.Register) ∷ []
-methods_of resource.Version = (delete, asks.DeleteVersion) ∷ (get, asks.Version) ∷ []
-methods_of resource.Text = (get, asks.Text) ∷ []
-methods_of resource.Types = (get, asks.Types) ∷ []
-methods_of resource.Id = (get, asks.ById) ∷ []
-methods_of resource.VersionsOfId = (get, asks.VersionsOfId) ∷ []
-methods_of resource.Config = (get, asks.Global) ∷ (put, asks.SetGlobal) ∷ []
-methods_of resource.ConfigOf = (get, asks.LevelOf) ∷ (put, asks.SetLevel) ∷ []
-methods_of resource.Compatibility = (post, asks.CheckAll) ∷ []
-methods_of resource.CompatibilityOf = (post, asks.Check) ∷ []
-methods_of resource.Mode = (get, asks.GlobalMode) ∷ (put, asks.SetGlobalMode) ∷ []
-methods_of resource.ModeOf = (get, asks.ModeOf) ∷ (put, asks.SetMode) ∷ []
+abbrev pub methods_of : Resource → List (List ℕ × Operation)
+methods_of resource.Subjects = (get, op.Subjects) ∷ []
+methods_of resource.Subject = (delete, op.DeleteSubject) ∷ (post, op.Lookup) ∷ []
+methods_of resource.Versions = (get, op.Versions) ∷ (post, op.Register) ∷ []
+methods_of resource.Version = (delete, op.DeleteVersion) ∷ (get, op.Version) ∷ []
+methods_of resource.Text = (get, op.Text) ∷ []
+methods_of resource.Types = (get, op.Types) ∷ []
+methods_of resource.Id = (get, op.ById) ∷ []
+methods_of resource.VersionsOfId = (get, op.VersionsOfId) ∷ []
+methods_of resource.Config = (get, op.Global) ∷ (put, op.SetGlobal) ∷ []
+methods_of resource.ConfigOf = (get, op.LevelOf) ∷ (put, op.SetLevel) ∷ []
+methods_of resource.Compatibility = (post, op.CheckAll) ∷ []
+methods_of resource.CompatibilityOf = (post, op.Check) ∷ []
+methods_of resource.Mode = (get, op.GlobalMode) ∷ (put, op.SetGlobalMode) ∷ []
+methods_of resource.ModeOf = (get, op.ModeOf) ∷ (put, op.SetMode) ∷ []
 
 -- what a method asks for; the case of its letters counts (RFC 9110, section 9.1)
-abbrev pub asked_among : List ℕ → List (List ℕ × Asked) → Option Asked
-asked_among method [] = None
-asked_among method (m ∷ ms) = cond (bytes_eq method m.0) (Some m.1) (asked_among method ms)
+abbrev pub operation_for : List ℕ → List (List ℕ × Operation) → Option Operation
+operation_for method [] = None
+operation_for method (m ∷ ms) = cond (bytes_eq method m.0) (Some m.1) (operation_for method ms)
 
 -- names, with a comma and a blank between them
-abbrev pub listed : List (List ℕ) → List ℕ
-listed [] = []
-listed (name ∷ []) = name
-listed (name ∷ other ∷ names) = name ++ codes ", " ++ listed (other ∷ names)
+abbrev pub comma_separated : List (List ℕ) → List ℕ
+comma_separated [] = []
+comma_separated (name ∷ []) = name
+comma_separated (name ∷ other ∷ names) = name ++ codes ", " ++ comma_separated (other ∷ names)
 
 -- a resource's methods, as an `Allow` field names them (RFC 9110, section 10.2.1)
 abbrev pub allow_of : Resource → List ℕ
-allow_of resource = listed (map (λ m. m.0) (methods_of resource))
+allow_of resource = comma_separated (map (λ m. m.0) (methods_of resource))

@@ -15,21 +15,21 @@ abbrev pub query_of : List ℕ → List ℕ
 query_of target = after_first (λ byte. byte == 63) target
 
 -- bytes as a text, where they are UTF-8
-abbrev pub utf8_in : List ℕ → Option (List ℕ)
-utf8_in bytes = if is_utf8 bytes then Some bytes else None
+abbrev pub valid_utf8 : List ℕ → Option (List ℕ)
+valid_utf8 bytes = if is_utf8 bytes then Some bytes else None
 
 -- a part's text, with its escapes decoded once (RFC 3986, section 2.1)
-abbrev pub text_of : List ℕ → Option (List ℕ)
-text_of part = utf8_in (percent_decode part)
+abbrev pub decoded_part : List ℕ → Option (List ℕ)
+decoded_part part = valid_utf8 (percent_decode part)
 
 -- the text of the part behind so many slashes
-abbrev pub text_at : ℕ → List ℕ → Option (List ℕ)
-text_at n path = text_of (part_at n path)
+abbrev pub path_text : ℕ → List ℕ → Option (List ℕ)
+path_text n path = decoded_part (part_at n path)
 
 -- a text as a subject
-abbrev pub subject_in : List ℕ → Option (List ℕ)
-subject_in text = if is_subject text then Some text else None
+abbrev pub valid_subject : List ℕ → Option (List ℕ)
+valid_subject text = if is_subject text then Some text else None
 
 -- the subject in the part behind so many slashes
-abbrev pub subject_at : ℕ → List ℕ → Option (List ℕ)
-subject_at n path = option_and_then subject_in (text_at n path)
+abbrev pub path_subject : ℕ → List ℕ → Option (List ℕ)
+path_subject n path = option_and_then valid_subject (path_text n path)

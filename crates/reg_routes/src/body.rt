@@ -4,7 +4,7 @@
 ghost use Rattle.std.specs.Prelude.{◌≡◌, IfOk, Some, option_and_then, option_map};
 ghost use Rattle.serde_json.specs.Find.{as_str};
 ghost use Rattle.serde_json.specs.View.{view};
-ghost use Rattle.reg_routes.specs.Bodies.{has_no_references, is_avro, is_supported, json_in, schema_sent, string_at, string_sent};
+ghost use Rattle.reg_routes.specs.Bodies.{has_no_references, is_avro, is_supported, body_json, body_schema, string_member, body_string};
 
 use reg_core::{OutOfMemory, Text};
 use serde_json::Value;
@@ -18,8 +18,8 @@ pub struct SentSchema {
 }
 
 /// The value of a body that is JSON.
-fn json_in(alloc: Global, body: &[u8]) -> Result<Option<Value>, OutOfMemory>
-    ensures { IfOk result (λ value. option_map view value ≡ json_in body.now) }
+fn body_json(alloc: Global, body: &[u8]) -> Result<Option<Value>, OutOfMemory>
+    ensures { IfOk result (λ value. option_map view value ≡ body_json body.now) }
 {
     match Value::from_slice(alloc, body) {
         Ok(value) => Ok(Some(value)),
@@ -34,7 +34,7 @@ fn json_in(alloc: Global, body: &[u8]) -> Result<Option<Value>, OutOfMemory>
 }
 
 /// The value's text, where it is a string.
-fn text_in(value: Option<Value>) -> Option<Text>
+fn as_string(value: Option<Value>) -> Option<Text>
     ensures { result ≡ option_and_then as_str (option_map view value) }
 {
     match value? {
@@ -44,11 +44,11 @@ fn text_in(value: Option<Value>) -> Option<Text>
 }
 
 /// The string under this name, where the value is an object that has it.
-fn string_at(name: &str, value: Value) -> Option<Text>
-    ensures { result ≡ string_at name.now (view value) }
+fn string_member(name: &str, value: Value) -> Option<Text>
+    ensures { result ≡ string_member name.now (view value) }
 {
     match value {
-        Value::Object(mut members) => text_in(members.remove(name)),
+        Value::Object(mut members) => as_string(members.remove(name)),
         _ => None,
     }
 }
@@ -65,7 +65,7 @@ fn is_avro(kind: Option<&Value>) -> bool
 }
 
 /// Whether the value lists no references to other schemas.
-fn lists_nothing(value: &Value) -> bool
+fn is_null_or_empty(value: &Value) -> bool
     ensures { result ≡ has_no_references (Some (view value.now)) }
 {
     match value {
@@ -81,7 +81,7 @@ fn has_no_references(references: Option<&Value>) -> bool
 {
     match references {
         None => true,
-        Some(value) => lists_nothing(value),
+        Some(value) => is_null_or_empty(value),
     }
 }
 
@@ -97,11 +97,11 @@ fn is_supported(value: &Value) -> bool
 /// # Errors
 ///
 /// `OutOfMemory` where memory for the value is refused.
-pub fn string_sent(alloc: Global, name: &str, body: &[u8]) -> Result<Option<Text>, OutOfMemory>
-    ensures { IfOk result (λ text. text ≡ string_sent name.now body.now) }
+pub fn body_string(alloc: Global, name: &str, body: &[u8]) -> Result<Option<Text>, OutOfMemory>
+    ensures { IfOk result (λ text. text ≡ body_string name.now body.now) }
 {
-    match json_in(alloc, body)? {
-        Some(value) => Ok(string_at(name, value)),
+    match body_json(alloc, body)? {
+        Some(value) => Ok(string_member(name, value)),
         None => Ok(None),
     }
 }
@@ -113,14 +113,14 @@ pub fn string_sent(alloc: Global, name: &str, body: &[u8]) -> Result<Option<Text
 /// # Errors
 ///
 /// `OutOfMemory` where memory for the value is refused.
-pub fn schema_sent(alloc: Global, body: &[u8]) -> Result<Option<SentSchema>, OutOfMemory>
-    ensures { IfOk result (λ schema. schema ≡ schema_sent body.now) }
+pub fn body_schema(alloc: Global, body: &[u8]) -> Result<Option<SentSchema>, OutOfMemory>
+    ensures { IfOk result (λ schema. schema ≡ body_schema body.now) }
 {
-    let Some(value) = json_in(alloc, body)? else {
+    let Some(value) = body_json(alloc, body)? else {
         return Ok(None);
     };
     let supported = is_supported(&value);
-    match string_at("schema", value) {
+    match string_member("schema", value) {
         Some(text) => Ok(Some(SentSchema { text, supported })),
         None => Ok(None),
     }

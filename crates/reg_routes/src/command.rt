@@ -2,50 +2,50 @@
 
 ghost use Rattle.std.specs.Prelude.{◌≡◌, IfOk};
 ghost use Rattle.reg_routes.specs.Commands.{command_in};
-ghost use Rattle.reg_routes.specs.declared.resource.Asked.TheVariants as asks;
+ghost use Rattle.reg_routes.specs.declared.resource.Operation.TheVariants as op;
 
-use crate::body::{SentSchema, schema_sent, string_sent};
-use crate::resource::Asked;
+use crate::body::{SentSchema, body_schema, body_string};
+use crate::resource::Operation;
 use crate::target::Target;
 use reg_core::{Command, OutOfMemory};
 use std::alloc::Global;
 
 /// What a message sends: its target and its body.
 #[derive(Clone, Copy)]
-pub struct Sent<'a> {
+pub struct RequestParts<'a> {
     pub target: Target<'a>,
     pub body: &'a [u8],
 }
 
-impl<'a> Sent<'a> {
+impl<'a> RequestParts<'a> {
     fn set_global(&self, alloc: Global) -> Result<Option<Command>, OutOfMemory>
-        ensures { IfOk result (λ command. command ≡ command_in asks.SetGlobal self.now) }
+        ensures { IfOk result (λ command. command ≡ command_in op.SetGlobal self.now) }
     {
-        let Some(level) = string_sent(alloc, "compatibility", self.body)? else {
+        let Some(level) = body_string(alloc, "compatibility", self.body)? else {
             return Ok(None);
         };
         Ok(Some(Command::SetGlobal { level }))
     }
 
     fn set_level(&self, alloc: Global) -> Result<Option<Command>, OutOfMemory>
-        ensures { IfOk result (λ command. command ≡ command_in asks.SetLevel self.now) }
+        ensures { IfOk result (λ command. command ≡ command_in op.SetLevel self.now) }
     {
-        let Some(subject) = self.target.subject_at(alloc, 2)? else {
+        let Some(subject) = self.target.path_subject(alloc, 2)? else {
             return Ok(None);
         };
-        let Some(level) = string_sent(alloc, "compatibility", self.body)? else {
+        let Some(level) = body_string(alloc, "compatibility", self.body)? else {
             return Ok(None);
         };
         Ok(Some(Command::SetLevel { subject, level }))
     }
 
     fn register(&self, alloc: Global) -> Result<Option<Command>, OutOfMemory>
-        ensures { IfOk result (λ command. command ≡ command_in asks.Register self.now) }
+        ensures { IfOk result (λ command. command ≡ command_in op.Register self.now) }
     {
-        let Some(subject) = self.target.subject_at(alloc, 2)? else {
+        let Some(subject) = self.target.path_subject(alloc, 2)? else {
             return Ok(None);
         };
-        let Some(SentSchema { text, supported }) = schema_sent(alloc, self.body)? else {
+        let Some(SentSchema { text, supported }) = body_schema(alloc, self.body)? else {
             return Ok(None);
         };
         Ok(Some(Command::Register {
@@ -56,12 +56,12 @@ impl<'a> Sent<'a> {
     }
 
     fn delete_version(&self, alloc: Global) -> Result<Option<Command>, OutOfMemory>
-        ensures { IfOk result (λ command. command ≡ command_in asks.DeleteVersion self.now) }
+        ensures { IfOk result (λ command. command ≡ command_in op.DeleteVersion self.now) }
     {
-        let Some(subject) = self.target.subject_at(alloc, 2)? else {
+        let Some(subject) = self.target.path_subject(alloc, 2)? else {
             return Ok(None);
         };
-        let Some(version) = self.target.text_at(alloc, 4)? else {
+        let Some(version) = self.target.path_text(alloc, 4)? else {
             return Ok(None);
         };
         let permanent = self.target.is_on(alloc, "permanent")?;
@@ -73,9 +73,9 @@ impl<'a> Sent<'a> {
     }
 
     fn delete_subject(&self, alloc: Global) -> Result<Option<Command>, OutOfMemory>
-        ensures { IfOk result (λ command. command ≡ command_in asks.DeleteSubject self.now) }
+        ensures { IfOk result (λ command. command ≡ command_in op.DeleteSubject self.now) }
     {
-        let Some(subject) = self.target.subject_at(alloc, 2)? else {
+        let Some(subject) = self.target.path_subject(alloc, 2)? else {
             return Ok(None);
         };
         let permanent = self.target.is_on(alloc, "permanent")?;
@@ -83,9 +83,9 @@ impl<'a> Sent<'a> {
     }
 
     fn level_of(&self, alloc: Global) -> Result<Option<Command>, OutOfMemory>
-        ensures { IfOk result (λ command. command ≡ command_in asks.LevelOf self.now) }
+        ensures { IfOk result (λ command. command ≡ command_in op.LevelOf self.now) }
     {
-        let Some(subject) = self.target.subject_at(alloc, 2)? else {
+        let Some(subject) = self.target.path_subject(alloc, 2)? else {
             return Ok(None);
         };
         let default_to_global = self.target.is_on(alloc, "defaultToGlobal")?;
@@ -96,12 +96,12 @@ impl<'a> Sent<'a> {
     }
 
     fn lookup(&self, alloc: Global) -> Result<Option<Command>, OutOfMemory>
-        ensures { IfOk result (λ command. command ≡ command_in asks.Lookup self.now) }
+        ensures { IfOk result (λ command. command ≡ command_in op.Lookup self.now) }
     {
-        let Some(subject) = self.target.subject_at(alloc, 2)? else {
+        let Some(subject) = self.target.path_subject(alloc, 2)? else {
             return Ok(None);
         };
-        let Some(SentSchema { text, supported }) = schema_sent(alloc, self.body)? else {
+        let Some(SentSchema { text, supported }) = body_schema(alloc, self.body)? else {
             return Ok(None);
         };
         let deleted = self.target.is_on(alloc, "deleted")?;
@@ -114,16 +114,16 @@ impl<'a> Sent<'a> {
     }
 
     fn subjects(&self, alloc: Global) -> Result<Option<Command>, OutOfMemory>
-        ensures { IfOk result (λ command. command ≡ command_in asks.Subjects self.now) }
+        ensures { IfOk result (λ command. command ≡ command_in op.Subjects self.now) }
     {
         let deleted = self.target.is_on(alloc, "deleted")?;
         Ok(Some(Command::Subjects { deleted }))
     }
 
     fn versions(&self, alloc: Global) -> Result<Option<Command>, OutOfMemory>
-        ensures { IfOk result (λ command. command ≡ command_in asks.Versions self.now) }
+        ensures { IfOk result (λ command. command ≡ command_in op.Versions self.now) }
     {
-        let Some(subject) = self.target.subject_at(alloc, 2)? else {
+        let Some(subject) = self.target.path_subject(alloc, 2)? else {
             return Ok(None);
         };
         let deleted = self.target.is_on(alloc, "deleted")?;
@@ -131,12 +131,12 @@ impl<'a> Sent<'a> {
     }
 
     fn version(&self, alloc: Global) -> Result<Option<Command>, OutOfMemory>
-        ensures { IfOk result (λ command. command ≡ command_in asks.Version self.now) }
+        ensures { IfOk result (λ command. command ≡ command_in op.Version self.now) }
     {
-        let Some(subject) = self.target.subject_at(alloc, 2)? else {
+        let Some(subject) = self.target.path_subject(alloc, 2)? else {
             return Ok(None);
         };
-        let Some(version) = self.target.text_at(alloc, 4)? else {
+        let Some(version) = self.target.path_text(alloc, 4)? else {
             return Ok(None);
         };
         let deleted = self.target.is_on(alloc, "deleted")?;
@@ -148,12 +148,12 @@ impl<'a> Sent<'a> {
     }
 
     fn text(&self, alloc: Global) -> Result<Option<Command>, OutOfMemory>
-        ensures { IfOk result (λ command. command ≡ command_in asks.Text self.now) }
+        ensures { IfOk result (λ command. command ≡ command_in op.Text self.now) }
     {
-        let Some(subject) = self.target.subject_at(alloc, 2)? else {
+        let Some(subject) = self.target.path_subject(alloc, 2)? else {
             return Ok(None);
         };
-        let Some(version) = self.target.text_at(alloc, 4)? else {
+        let Some(version) = self.target.path_text(alloc, 4)? else {
             return Ok(None);
         };
         let deleted = self.target.is_on(alloc, "deleted")?;
@@ -165,18 +165,18 @@ impl<'a> Sent<'a> {
     }
 
     fn by_id(&self, alloc: Global) -> Result<Option<Command>, OutOfMemory>
-        ensures { IfOk result (λ command. command ≡ command_in asks.ById self.now) }
+        ensures { IfOk result (λ command. command ≡ command_in op.ById self.now) }
     {
-        let Some(id) = self.target.text_at(alloc, 3)? else {
+        let Some(id) = self.target.path_text(alloc, 3)? else {
             return Ok(None);
         };
         Ok(Some(Command::ById { id }))
     }
 
     fn versions_of_id(&self, alloc: Global) -> Result<Option<Command>, OutOfMemory>
-        ensures { IfOk result (λ command. command ≡ command_in asks.VersionsOfId self.now) }
+        ensures { IfOk result (λ command. command ≡ command_in op.VersionsOfId self.now) }
     {
-        let Some(id) = self.target.text_at(alloc, 3)? else {
+        let Some(id) = self.target.path_text(alloc, 3)? else {
             return Ok(None);
         };
         let deleted = self.target.is_on(alloc, "deleted")?;
@@ -184,15 +184,15 @@ impl<'a> Sent<'a> {
     }
 
     fn check(&self, alloc: Global) -> Result<Option<Command>, OutOfMemory>
-        ensures { IfOk result (λ command. command ≡ command_in asks.Check self.now) }
+        ensures { IfOk result (λ command. command ≡ command_in op.Check self.now) }
     {
-        let Some(subject) = self.target.subject_at(alloc, 3)? else {
+        let Some(subject) = self.target.path_subject(alloc, 3)? else {
             return Ok(None);
         };
-        let Some(version) = self.target.text_at(alloc, 5)? else {
+        let Some(version) = self.target.path_text(alloc, 5)? else {
             return Ok(None);
         };
-        let Some(SentSchema { text, supported }) = schema_sent(alloc, self.body)? else {
+        let Some(SentSchema { text, supported }) = body_schema(alloc, self.body)? else {
             return Ok(None);
         };
         Ok(Some(Command::Check {
@@ -204,12 +204,12 @@ impl<'a> Sent<'a> {
     }
 
     fn check_all(&self, alloc: Global) -> Result<Option<Command>, OutOfMemory>
-        ensures { IfOk result (λ command. command ≡ command_in asks.CheckAll self.now) }
+        ensures { IfOk result (λ command. command ≡ command_in op.CheckAll self.now) }
     {
-        let Some(subject) = self.target.subject_at(alloc, 3)? else {
+        let Some(subject) = self.target.path_subject(alloc, 3)? else {
             return Ok(None);
         };
-        let Some(SentSchema { text, supported }) = schema_sent(alloc, self.body)? else {
+        let Some(SentSchema { text, supported }) = body_schema(alloc, self.body)? else {
             return Ok(None);
         };
         Ok(Some(Command::CheckAll {
@@ -220,30 +220,30 @@ impl<'a> Sent<'a> {
     }
 
     fn set_global_mode(&self, alloc: Global) -> Result<Option<Command>, OutOfMemory>
-        ensures { IfOk result (λ command. command ≡ command_in asks.SetGlobalMode self.now) }
+        ensures { IfOk result (λ command. command ≡ command_in op.SetGlobalMode self.now) }
     {
-        let Some(mode) = string_sent(alloc, "mode", self.body)? else {
+        let Some(mode) = body_string(alloc, "mode", self.body)? else {
             return Ok(None);
         };
         Ok(Some(Command::SetGlobalMode { mode }))
     }
 
     fn set_mode(&self, alloc: Global) -> Result<Option<Command>, OutOfMemory>
-        ensures { IfOk result (λ command. command ≡ command_in asks.SetMode self.now) }
+        ensures { IfOk result (λ command. command ≡ command_in op.SetMode self.now) }
     {
-        let Some(subject) = self.target.subject_at(alloc, 2)? else {
+        let Some(subject) = self.target.path_subject(alloc, 2)? else {
             return Ok(None);
         };
-        let Some(mode) = string_sent(alloc, "mode", self.body)? else {
+        let Some(mode) = body_string(alloc, "mode", self.body)? else {
             return Ok(None);
         };
         Ok(Some(Command::SetMode { subject, mode }))
     }
 
     fn mode_of(&self, alloc: Global) -> Result<Option<Command>, OutOfMemory>
-        ensures { IfOk result (λ command. command ≡ command_in asks.ModeOf self.now) }
+        ensures { IfOk result (λ command. command ≡ command_in op.ModeOf self.now) }
     {
-        let Some(subject) = self.target.subject_at(alloc, 2)? else {
+        let Some(subject) = self.target.path_subject(alloc, 2)? else {
             return Ok(None);
         };
         let default_to_global = self.target.is_on(alloc, "defaultToGlobal")?;
@@ -259,31 +259,35 @@ impl<'a> Sent<'a> {
     /// # Errors
     ///
     /// `OutOfMemory` where memory for what is decoded or read is refused.
-    pub fn command(&self, alloc: Global, asked: Asked) -> Result<Option<Command>, OutOfMemory>
-        ensures { IfOk result (λ command. command ≡ command_in asked self.now) }
+    pub fn command(
+        &self,
+        alloc: Global,
+        operation: Operation,
+    ) -> Result<Option<Command>, OutOfMemory>
+        ensures { IfOk result (λ command. command ≡ command_in operation self.now) }
     {
-        match asked {
-            Asked::Global => Ok(Some(Command::Global)),
-            Asked::Types => Ok(Some(Command::Types)),
-            Asked::SetGlobal => self.set_global(alloc),
-            Asked::SetLevel => self.set_level(alloc),
-            Asked::Register => self.register(alloc),
-            Asked::DeleteVersion => self.delete_version(alloc),
-            Asked::DeleteSubject => self.delete_subject(alloc),
-            Asked::LevelOf => self.level_of(alloc),
-            Asked::Lookup => self.lookup(alloc),
-            Asked::Subjects => self.subjects(alloc),
-            Asked::Versions => self.versions(alloc),
-            Asked::Version => self.version(alloc),
-            Asked::Text => self.text(alloc),
-            Asked::ById => self.by_id(alloc),
-            Asked::VersionsOfId => self.versions_of_id(alloc),
-            Asked::Check => self.check(alloc),
-            Asked::CheckAll => self.check_all(alloc),
-            Asked::SetGlobalMode => self.set_global_mode(alloc),
-            Asked::SetMode => self.set_mode(alloc),
-            Asked::GlobalMode => Ok(Some(Command::GlobalMode)),
-            Asked::ModeOf => self.mode_of(alloc),
+        match operation {
+            Operation::Global => Ok(Some(Command::Global)),
+            Operation::Types => Ok(Some(Command::Types)),
+            Operation::SetGlobal => self.set_global(alloc),
+            Operation::SetLevel => self.set_level(alloc),
+            Operation::Register => self.register(alloc),
+            Operation::DeleteVersion => self.delete_version(alloc),
+            Operation::DeleteSubject => self.delete_subject(alloc),
+            Operation::LevelOf => self.level_of(alloc),
+            Operation::Lookup => self.lookup(alloc),
+            Operation::Subjects => self.subjects(alloc),
+            Operation::Versions => self.versions(alloc),
+            Operation::Version => self.version(alloc),
+            Operation::Text => self.text(alloc),
+            Operation::ById => self.by_id(alloc),
+            Operation::VersionsOfId => self.versions_of_id(alloc),
+            Operation::Check => self.check(alloc),
+            Operation::CheckAll => self.check_all(alloc),
+            Operation::SetGlobalMode => self.set_global_mode(alloc),
+            Operation::SetMode => self.set_mode(alloc),
+            Operation::GlobalMode => Ok(Some(Command::GlobalMode)),
+            Operation::ModeOf => self.mode_of(alloc),
         }
     }
 }

@@ -1,22 +1,22 @@
 //! The delivery that a message asks for, or why it asks for none.
 
 ghost use Rattle.std.specs.Prelude.{◌≡◌, ◌⊎◌, MatchResult, option_map, if◌then◌else◌};
-ghost use Rattle.reg_routes.specs.Keys.{is_key, key_for, key_of};
-ghost use Rattle.reg_routes.specs.Deliveries.{asked_by, delivered, keys_in, IsRefused};
+ghost use Rattle.reg_routes.specs.Keys.{is_key, retry_key_for, retry_key_of};
+ghost use Rattle.reg_routes.specs.Deliveries.{requested_by, delivery_from, keys_in, IsRejected};
 ghost use Rattle.reg_messages.specs.BorrowedRequests.{fields_in};
 ghost use Rattle.reg_routes.specs.Commands.{command_in};
 
-use crate::command::Sent;
-use crate::resource::Asked;
+use crate::command::RequestParts;
+use crate::resource::Operation;
 use crate::routes::Routes;
 use crate::target::Target;
 use reg_core::{Code, Command, Delivery, Key, OutOfMemory};
-use reg_messages::{Found, Request};
+use reg_messages::{FieldLookup, Request};
 use std::alloc::Global;
 use std::str;
 
 /// The text as a retry key, where it is one.
-fn key_from(text: &[u8]) -> Option<Key<'_>>
+fn parse_key(text: &[u8]) -> Option<Key<'_>>
     ensures { result ≡ (if is_key text.entry.now then Some text.entry.now else None) }
 {
     match str::from_utf8(text) {
@@ -26,37 +26,41 @@ fn key_from(text: &[u8]) -> Option<Key<'_>>
 }
 
 /// The retry key of a write, or `MalformedRequest` where its field stands twice or holds no key.
-fn key_of<'a>(request: &Request<'a>) -> Result<Option<Key<'a>>, Code>
-    ensures { result ≡ key_of (keys_in (fields_in request.entry.now)) }
+fn retry_key_of<'a>(request: &Request<'a>) -> Result<Option<Key<'a>>, Code>
+    ensures { result ≡ retry_key_of (keys_in (fields_in request.entry.now)) }
 {
-    match Found::look(request.head, request.fields, b"Registry-Retry-Key") {
-        Found::Missing => Ok(None),
-        Found::Once(text) => match key_from(text) {
+    match FieldLookup::by_name(request.head, request.fields, b"Registry-Retry-Key") {
+        FieldLookup::Missing => Ok(None),
+        FieldLookup::Once(text) => match parse_key(text) {
             Some(key) => Ok(Some(key)),
             None => Err(Code::MalformedRequest),
         },
-        Found::Repeated => Err(Code::MalformedRequest),
+        FieldLookup::Repeated => Err(Code::MalformedRequest),
     }
 }
 
 /// The retry key that counts beside the command: that of a write.
-fn key_for<'a>(command: &Command, request: &Request<'a>) -> Result<Option<Key<'a>>, Code>
-    ensures { result ≡ key_for command.now (keys_in (fields_in request.entry.now)) }
+fn retry_key_for<'a>(command: &Command, request: &Request<'a>) -> Result<Option<Key<'a>>, Code>
+    ensures { result ≡ retry_key_for command.now (keys_in (fields_in request.entry.now)) }
 {
     if command.is_write() {
-        key_of(request)
+        retry_key_of(request)
     } else {
         Ok(None)
     }
 }
 
 /// The command that is asked for, or `MalformedRequest`; `BackendFault` for want of memory.
-fn command_for(alloc: Global, asked: Asked, sent: &Sent<'_>) -> Result<Command, Code>
-    ensures { MatchResult result (λ command. command_in asked sent.now ≡ Some command)
+fn command_for(
+    alloc: Global,
+    operation: Operation,
+    parts: &RequestParts<'_>,
+) -> Result<Command, Code>
+    ensures { MatchResult result (λ command. command_in operation parts.now ≡ Some command)
         (λ code. (code ≡ Code.BackendFault)
-        ⊎ ((code ≡ Code.MalformedRequest) × (command_in asked sent.now ≡ None))) }
+        ⊎ ((code ≡ Code.MalformedRequest) × (command_in operation parts.now ≡ None))) }
 {
-    match sent.command(alloc, asked) {
+    match parts.command(alloc, operation) {
         Ok(Some(command)) => Ok(command),
         Ok(None) => Err(Code::MalformedRequest),
         Err(_) => Err(Code::BackendFault),
@@ -66,17 +70,17 @@ fn command_for(alloc: Global, asked: Asked, sent: &Sent<'_>) -> Result<Command, 
 /// The delivery of what is asked for, with its retry key, or the code of its fault.
 fn delivery_for<'a>(
     alloc: Global,
-    asked: Asked,
-    sent: &Sent<'_>,
+    operation: Operation,
+    parts: &RequestParts<'_>,
     request: &Request<'a>,
 ) -> Result<Delivery<'a>, Code>
     ensures { MatchResult result
-        (λ delivery. delivered (command_in asked sent.now) (fields_in request.entry.now) ≡ Ok delivery)
+        (λ delivery. delivery_from (command_in operation parts.now) (fields_in request.entry.now) ≡ Ok delivery)
         (λ code. (code ≡ Code.BackendFault)
-        ⊎ (delivered (command_in asked sent.now) (fields_in request.entry.now) ≡ Err code)) }
+        ⊎ (delivery_from (command_in operation parts.now) (fields_in request.entry.now) ≡ Err code)) }
 {
-    let command = command_for(alloc, asked, sent)?;
-    let key = key_for(&command, request)?;
+    let command = command_for(alloc, operation, parts)?;
+    let key = retry_key_for(&command, request)?;
     Ok(Delivery { key, command })
 }
 
@@ -92,21 +96,21 @@ pub fn command_of<'a>(
     routes: &Routes,
     request: &Request<'a>,
 ) -> Result<Delivery<'a>, (Code, Option<&'static str>)>
-    ensures { MatchResult result (λ delivery. asked_by request.entry.now ≡ Ok delivery)
-        (λ refusal. IsRefused (asked_by request.entry.now) refusal.0 (option_map (λ text. text.now) refusal.1)) }
+    ensures { MatchResult result (λ delivery. requested_by request.entry.now ≡ Ok delivery)
+        (λ rejection. IsRejected (requested_by request.entry.now) rejection.0 (option_map (λ text. text.now) rejection.1)) }
 {
     let target = Target::of(request.target);
     let Some(resource) = routes.resource_of(target.path) else {
         return Err((Code::NotFound, None));
     };
-    let Some(asked) = resource.asked(request.method) else {
+    let Some(operation) = resource.operation(request.method) else {
         return Err((Code::MethodNotAllowed, Some(resource.allow())));
     };
-    let sent = Sent {
+    let parts = RequestParts {
         target,
         body: request.body,
     };
-    match delivery_for(alloc, asked, &sent, request) {
+    match delivery_for(alloc, operation, &parts, request) {
         Ok(delivery) => Ok(delivery),
         Err(code) => Err((code, None)),
     }

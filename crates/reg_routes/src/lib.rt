@@ -4,15 +4,15 @@
 
 mod body;
 mod command;
-mod cut;
 mod delivery;
 mod path_parts;
 mod query;
 mod resource;
 mod routes;
+mod split_at_byte;
 mod target;
 
 pub use delivery::command_of;
 pub use reg_core::OutOfMemory;
-pub use resource::{Asked, Resource};
+pub use resource::{Operation, Resource};
 pub use routes::Routes;

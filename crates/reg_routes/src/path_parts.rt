@@ -3,7 +3,7 @@
 ghost use Rattle.std.specs.Prelude.{◌≡◌};
 ghost use Rattle.reg_routes.specs.PathParts.{part_at};
 
-use crate::cut::cut;
+use crate::split_at_byte::split_at_byte;
 
 /// The part behind so many slashes.
 pub fn part_at(path: &[u8], count: u32) -> &[u8]
@@ -11,7 +11,7 @@ pub fn part_at(path: &[u8], count: u32) -> &[u8]
 {
     let mut rest = path;
     for _ in 0..count {
-        rest = cut(rest, b'/').1;
+        rest = split_at_byte(rest, b'/').1;
     }
-    cut(rest, b'/').0
+    split_at_byte(rest, b'/').0
 }

@@ -1,7 +1,7 @@
 //! The resources of the API: what each method of a path asks for.
 
 ghost use Rattle.std.specs.Prelude.{◌≡◌, [], ◌∷◌, bytes_eq};
-ghost use Rattle.reg_routes.specs.Routes.{allow_of, asked_among, get, methods_of, put};
+ghost use Rattle.reg_routes.specs.Routes.{allow_of, operation_for, get, methods_of, put};
 
 use http::Method;
 
@@ -41,7 +41,7 @@ pub enum Resource {
 
 /// What a method of a resource asks for: the kind of a command.
 #[derive(Clone, Copy, Debug, PartialEq, Eq)]
-pub enum Asked {
+pub enum Operation {
     SetGlobal,
     SetLevel,
     Register,
@@ -66,11 +66,11 @@ pub enum Asked {
 }
 
 /// What the method asks for, where it is the only one.
-fn only(method: &[u8], name: &Method, asked: Asked) -> Option<Asked>
-    ensures { result ≡ asked_among method.now ((name.now, asked) ∷ []) }
+fn only(method: &[u8], name: &Method, operation: Operation) -> Option<Operation>
+    ensures { result ≡ operation_for method.now ((name.now, operation) ∷ []) }
 {
     if method == name.as_str().as_bytes() {
-        Some(asked)
+        Some(operation)
     } else {
         None
     }
@@ -80,65 +80,65 @@ fn only(method: &[u8], name: &Method, asked: Asked) -> Option<Asked>
 fn either(
     method: &[u8],
     first: &Method,
-    first_asked: Asked,
+    first_operation: Operation,
     second: &Method,
-    second_asked: Asked,
-) -> Option<Asked>
-    ensures { result ≡ asked_among method.now
-        ((first.now, first_asked) ∷ (second.now, second_asked) ∷ []) }
+    second_operation: Operation,
+) -> Option<Operation>
+    ensures { result ≡ operation_for method.now
+        ((first.now, first_operation) ∷ (second.now, second_operation) ∷ []) }
 {
     if method == first.as_str().as_bytes() {
-        Some(first_asked)
+        Some(first_operation)
     } else {
-        only(method, second, second_asked)
+        only(method, second, second_operation)
     }
 }
 
 /// What the method asks for, where one is shown and set.
-fn get_or_put(method: &[u8], shown: Asked, set: Asked) -> Option<Asked>
-    ensures { result ≡ asked_among method.now ((get, shown) ∷ (put, set) ∷ []) }
+fn get_or_put(method: &[u8], shown: Operation, set: Operation) -> Option<Operation>
+    ensures { result ≡ operation_for method.now ((get, shown) ∷ (put, set) ∷ []) }
 {
     either(method, &Method::GET, shown, &Method::PUT, set)
 }
 
 impl Resource {
     /// What the method asks for on this resource, its case regarded.
-    pub fn asked(self, method: &[u8]) -> Option<Asked>
-        ensures { result ≡ asked_among method.now (methods_of self) }
+    pub fn operation(self, method: &[u8]) -> Option<Operation>
+        ensures { result ≡ operation_for method.now (methods_of self) }
     {
         match self {
-            Resource::Subjects => only(method, &Method::GET, Asked::Subjects),
+            Resource::Subjects => only(method, &Method::GET, Operation::Subjects),
             Resource::Subject => either(
                 method,
                 &Method::DELETE,
-                Asked::DeleteSubject,
+                Operation::DeleteSubject,
                 &Method::POST,
-                Asked::Lookup,
+                Operation::Lookup,
             ),
             Resource::Versions => either(
                 method,
                 &Method::GET,
-                Asked::Versions,
+                Operation::Versions,
                 &Method::POST,
-                Asked::Register,
+                Operation::Register,
             ),
             Resource::Version => either(
                 method,
                 &Method::DELETE,
-                Asked::DeleteVersion,
+                Operation::DeleteVersion,
                 &Method::GET,
-                Asked::Version,
+                Operation::Version,
             ),
-            Resource::Text => only(method, &Method::GET, Asked::Text),
-            Resource::Types => only(method, &Method::GET, Asked::Types),
-            Resource::Id => only(method, &Method::GET, Asked::ById),
-            Resource::VersionsOfId => only(method, &Method::GET, Asked::VersionsOfId),
-            Resource::Config => get_or_put(method, Asked::Global, Asked::SetGlobal),
-            Resource::ConfigOf => get_or_put(method, Asked::LevelOf, Asked::SetLevel),
-            Resource::Compatibility => only(method, &Method::POST, Asked::CheckAll),
-            Resource::CompatibilityOf => only(method, &Method::POST, Asked::Check),
-            Resource::Mode => get_or_put(method, Asked::GlobalMode, Asked::SetGlobalMode),
-            Resource::ModeOf => get_or_put(method, Asked::ModeOf, Asked::SetMode),
+            Resource::Text => only(method, &Method::GET, Operation::Text),
+            Resource::Types => only(method, &Method::GET, Operation::Types),
+            Resource::Id => only(method, &Method::GET, Operation::ById),
+            Resource::VersionsOfId => only(method, &Method::GET, Operation::VersionsOfId),
+            Resource::Config => get_or_put(method, Operation::Global, Operation::SetGlobal),
+            Resource::ConfigOf => get_or_put(method, Operation::LevelOf, Operation::SetLevel),
+            Resource::Compatibility => only(method, &Method::POST, Operation::CheckAll),
+            Resource::CompatibilityOf => only(method, &Method::POST, Operation::Check),
+            Resource::Mode => get_or_put(method, Operation::GlobalMode, Operation::SetGlobalMode),
+            Resource::ModeOf => get_or_put(method, Operation::ModeOf, Operation::SetMode),
         }
     }
 

@@ -95,7 +95,7 @@ impl Routes {
     }
 
     /// The resource of a text.
-    fn look(&self, path: &str) -> Option<Resource>
+    fn lookup(&self, path: &str) -> Option<Resource>
         ensures { MatchOption result (first paths path.now ≡ None)
             (λ resource. (found : _) × (first paths path.now ≡ Some found) × (found.value ≡ resource)) }
     {
@@ -110,7 +110,7 @@ impl Routes {
         ensures { result ≡ resource_of path.now }
     {
         match str::from_utf8(path) {
-            Ok(path) => self.look(path),
+            Ok(path) => self.lookup(path),
             Err(_) => None,
         }
     }

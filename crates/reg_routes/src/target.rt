@@ -2,11 +2,11 @@
 
 ghost use Rattle.std.specs.Prelude.{◌≡◌, IfOk};
 ghost use Rattle.reg_routes.specs.Queries.{is_on};
-ghost use Rattle.reg_routes.specs.Targets.{path_of, query_of, subject_at, text_at, text_of};
+ghost use Rattle.reg_routes.specs.Targets.{path_of, query_of, path_subject, path_text, decoded_part};
 
-use crate::cut::cut;
 use crate::path_parts::part_at;
 use crate::query::is_on;
+use crate::split_at_byte::split_at_byte;
 use percent_encoding::percent_decode;
 use reg_core::{OutOfMemory, Subject, Text};
 use std::alloc::Global;
@@ -19,8 +19,8 @@ pub struct Target<'a> {
 }
 
 /// The text of a part, its escapes decoded, where that is UTF-8.
-fn text_of(alloc: Global, part: &[u8]) -> Result<Option<Text>, OutOfMemory>
-    ensures { IfOk result (λ text. text ≡ text_of part.now) }
+fn decoded_part(alloc: Global, part: &[u8]) -> Result<Option<Text>, OutOfMemory>
+    ensures { IfOk result (λ text. text ≡ decoded_part part.now) }
 {
     let mut bytes = Vec::new(alloc);
     percent_decode(part).append_to(&mut bytes)?;
@@ -36,7 +36,7 @@ impl<'a> Target<'a> {
         ensures path { result.path.now ≡ path_of target.entry.now }
         ensures query { result.query.now ≡ query_of target.entry.now }
     {
-        let (path, query) = cut(target, b'?');
+        let (path, query) = split_at_byte(target, b'?');
         Target { path, query }
     }
 
@@ -45,10 +45,10 @@ impl<'a> Target<'a> {
     /// # Errors
     ///
     /// `OutOfMemory` where memory for the text is refused.
-    pub fn text_at(&self, alloc: Global, count: u32) -> Result<Option<Text>, OutOfMemory>
-        ensures { IfOk result (λ text. text ≡ text_at count self.now.path.now) }
+    pub fn path_text(&self, alloc: Global, count: u32) -> Result<Option<Text>, OutOfMemory>
+        ensures { IfOk result (λ text. text ≡ path_text count self.now.path.now) }
     {
-        text_of(alloc, part_at(self.path, count))
+        decoded_part(alloc, part_at(self.path, count))
     }
 
     /// The same part as a subject, where it is one.
@@ -56,10 +56,10 @@ impl<'a> Target<'a> {
     /// # Errors
     ///
     /// `OutOfMemory` where memory for the text is refused.
-    pub fn subject_at(&self, alloc: Global, count: u32) -> Result<Option<Subject>, OutOfMemory>
-        ensures { IfOk result (λ subject. subject ≡ subject_at count self.now.path.now) }
+    pub fn path_subject(&self, alloc: Global, count: u32) -> Result<Option<Subject>, OutOfMemory>
+        ensures { IfOk result (λ subject. subject ≡ path_subject count self.now.path.now) }
     {
-        match self.text_at(alloc, count)? {
+        match self.path_text(alloc, count)? {
             Some(text) => Ok(Subject::new(text.into_string())),
             None => Ok(None),
         }

@@ -1,3 +1,3 @@
 pub mod EachRow
 pub mod LastTests
-pub mod PlaceLemmas
+pub mod PositionLemmas

@@ -1,4 +1,4 @@
 pub mod Inside
 pub mod Meta
-pub mod Places
+pub mod Positions
 pub mod Spelling

@@ -3,30 +3,30 @@ use Rattle.std.specs.Prelude.{ℕ, ◌&&◌, Bool, false, List, [], ◌∷◌, c
 use Rattle.std.specs.List.{list_any, list_all}
 use Rattle.reg_core.specs.Levels.{level_of}
 use Rattle.reg_core.specs.Modes.{mode_of}
-use Rattle.reg_core.specs.Numbers.{number_up_to}
+use Rattle.reg_core.specs.Numbers.{parse_number}
 
 -- a name and its value
-abbrev pub Pair : Type 0
-Pair = List ℕ × List ℕ
+abbrev pub MetaPair : Type 0
+MetaPair = List ℕ × List ℕ
 
 -- the value of the first row of the name
-abbrev pub value_at : List ℕ → List Pair → Option (List ℕ)
+abbrev pub value_at : List ℕ → List MetaPair → Option (List ℕ)
 value_at name [] = None
 value_at name (row ∷ rows) = if bytes_eq row.0 name then Some row.1 else value_at name rows
 
 -- the names of the rows in layout 1
-abbrev pub names : List (List ℕ)
-names = codes "format" ∷ codes "layout" ∷ codes "global" ∷ []
+abbrev pub layout_one_names : List (List ℕ)
+layout_one_names = codes "format" ∷ codes "layout" ∷ codes "global" ∷ []
 
 -- and in layout 2
-abbrev pub second_names : List (List ℕ)
-second_names = codes "format" ∷ codes "layout" ∷ codes "global" ∷ codes "mode" ∷ []
+abbrev pub layout_two_names : List (List ℕ)
+layout_two_names = codes "format" ∷ codes "layout" ∷ codes "global" ∷ codes "mode" ∷ []
 
 abbrev pub is_name : List (List ℕ) → List ℕ → Bool
 is_name known name = list_any (bytes_eq name) known
 
-abbrev pub names_known : List (List ℕ) → List Pair → Bool
-names_known known rows = list_all (λ row. is_name known row.0) rows
+abbrev pub has_only_known_names : List (List ℕ) → List MetaPair → Bool
+has_only_known_names known rows = list_all (λ row. is_name known row.0) rows
 
 abbrev pub has_value : List ℕ → Option (List ℕ) → Bool
 has_value text None = false
@@ -42,20 +42,20 @@ has_mode (Some value) = is_some (mode_of value)
 
 -- a number from 1 to 999,999,999 in decimal digits without a leading zero
 abbrev pub number_in : List ℕ → Option ℕ
-number_in text = number_up_to 999999999 text
+number_in text = parse_number 999999999 text
 
 -- the number of the layout that the rows name beside this format, if they name one
-abbrev pub layout_in : List Pair → Option ℕ
+abbrev pub layout_in : List MetaPair → Option ℕ
 layout_in rows = if has_value (codes "avroreg") (value_at (codes "format") rows) then option_and_then number_in (value_at (codes "layout") rows) else None
 
 -- the format, this number of the layout, and a global level
-abbrev pub has_common : List ℕ → List Pair → Bool
+abbrev pub has_common : List ℕ → List MetaPair → Bool
 has_common number rows = has_value (codes "avroreg") (value_at (codes "format") rows) && has_value number (value_at (codes "layout") rows) && has_level (value_at (codes "global") rows)
 
 -- layout 1: these, and no other row
-abbrev pub is_meta : List Pair → Bool
-is_meta rows = has_common (codes "1") rows && names_known names rows
+abbrev pub is_layout_one_meta : List MetaPair → Bool
+is_layout_one_meta rows = has_common (codes "1") rows && has_only_known_names layout_one_names rows
 
 -- layout 2: these and a global mode, and no other row
-abbrev pub is_second_meta : List Pair → Bool
-is_second_meta rows = has_common (codes "2") rows && has_mode (value_at (codes "mode") rows) && names_known second_names rows
+abbrev pub is_layout_two_meta : List MetaPair → Bool
+is_layout_two_meta rows = has_common (codes "2") rows && has_mode (value_at (codes "mode") rows) && has_only_known_names layout_two_names rows

@@ -12,8 +12,8 @@ use Rattle.reg_core.specs.Modes.{mode_of}
 use Rattle.reg_core.specs.Replies.{IsKeptStatus}
 use Rattle.reg_core.specs.Registry.{RowKey, max_number}
 use Rattle.reg_core.specs.Subjects.{is_subject}
-use Rattle.reg_rows.specs.Meta.{Pair, is_meta, is_second_meta}
-use Rattle.reg_rows.specs.Places.{Place, ArePositions, HaveEvidence}
+use Rattle.reg_rows.specs.Meta.{MetaPair, is_layout_one_meta, is_layout_two_meta}
+use Rattle.reg_rows.specs.Positions.{VersionPosition, AreContiguous, HaveEvidence}
 use Rattle.reg_rows.specs.declared.tables.Tables.{Tables}
 
 -- a text, as a row has it
@@ -94,13 +94,13 @@ IsEvidenceRow row = FitsEvidence (string_bytes row.2)
 abbrev pub version_of : Text × ℕ × Text → RowKey
 version_of row = (string_bytes row.0, row.1)
 
-abbrev pub place_of : Text × ℕ × ℕ × ℕ → Place
-place_of row = ((string_bytes row.0, row.1), row.2)
+abbrev pub version_position : Text × ℕ × ℕ × ℕ → VersionPosition
+version_position row = ((string_bytes row.0, row.1), row.2)
 
 -- ---- what the database is
 
-abbrev pub pair_of : Text × Text → Pair
-pair_of row = (string_bytes row.0, string_bytes row.1)
+abbrev pub meta_pair : Text × Text → MetaPair
+meta_pair row = (string_bytes row.0, string_bytes row.1)
 
 -- ---- all of them
 
@@ -135,20 +135,20 @@ pub record FitsBase (rows : Rows) : Type 0 where
   pub kept : AllByRecursion IsKeptRow rows.kept
 
 -- layout 1 has no modes and no evidence
-pub record FitsFirst (rows : Rows) : Type 0 where
-  pub meta : IsTrue (is_meta (map pair_of rows.meta))
+pub record FitsLayoutOne (rows : Rows) : Type 0 where
+  pub meta : IsTrue (is_layout_one_meta (map meta_pair rows.meta))
   pub modes : rows.modes ≡ []
   pub evidence : rows.evidence ≡ []
   pub against : rows.against ≡ []
 
-pub record FitsSecond (rows : Rows) : Type 0 where
-  pub meta : IsTrue (is_second_meta (map pair_of rows.meta))
+pub record FitsLayoutTwo (rows : Rows) : Type 0 where
+  pub meta : IsTrue (is_layout_two_meta (map meta_pair rows.meta))
   pub modes : AllByRecursion IsModeRow rows.modes
   pub evidence : AllByRecursion IsEvidenceRow rows.evidence
-  pub tested : HaveEvidence (map version_of rows.evidence) (map place_of rows.against)
-  pub positions : ArePositions (map place_of rows.against)
+  pub tested : HaveEvidence (map version_of rows.evidence) (map version_position rows.against)
+  pub positions : AreContiguous (map version_position rows.against)
 
 -- the rows hold a registry of layout 1 or of layout 2, and what is kept beside it
 pub record IsSpelling (rows : Rows) : Type 0 where
   pub base : FitsBase rows
-  pub layout : FitsFirst rows ⊎ FitsSecond rows
+  pub layout : FitsLayoutOne rows ⊎ FitsLayoutTwo rows

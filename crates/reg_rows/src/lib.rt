@@ -4,13 +4,13 @@
 #![tactic(auto)]
 
 mod meta;
-mod places;
+mod positions;
 mod rows;
 mod tables;
 mod texts;
 
-pub use meta::{is_meta, is_second_meta, layout_of};
-pub use places::are_positions;
+pub use meta::{is_layout_one_meta, is_layout_two_meta, layout_of};
+pub use positions::are_contiguous;
 pub use reg_core::OutOfMemory;
 pub use rows::{fits_evidence, fits_kept, fits_levels, fits_modes, fits_versions};
 pub use tables::{Tables, spells};

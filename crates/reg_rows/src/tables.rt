@@ -1,11 +1,11 @@
 //! The rows of all tables.
 
 ghost use Rattle.std.specs.Prelude.{◌≡◌, ◌⊎◌, ◌↔◌, IfOk, IsTrue, map};
-ghost use Rattle.reg_rows.specs.Places.{HaveEvidence, ArePositions, version_in, place_in};
-ghost use Rattle.reg_rows.specs.Spelling.{FitsBase, FitsFirst, FitsSecond, IsSpelling, version_of, place_of, rows_in};
+ghost use Rattle.reg_rows.specs.Positions.{HaveEvidence, AreContiguous, version_view, position_view};
+ghost use Rattle.reg_rows.specs.Spelling.{FitsBase, FitsLayoutOne, FitsLayoutTwo, IsSpelling, version_of, version_position, rows_in};
 
-use crate::meta::{is_meta, is_second_meta};
-use crate::places::{are_positions, have_evidence};
+use crate::meta::{is_layout_one_meta, is_layout_two_meta};
+use crate::positions::{are_contiguous, have_evidence};
 use crate::rows::{
     are_evidence_rows, are_kept_rows, are_level_rows, are_mode_rows, are_version_rows,
 };
@@ -36,10 +36,10 @@ pub struct Tables {
 }
 
 /// Whether the rows that differ by layout are those of layout 1.
-fn fits_first(tables: &Tables) -> bool
-    ensures { IsTrue result ↔ FitsFirst (rows_in tables.now) }
+fn fits_layout_one(tables: &Tables) -> bool
+    ensures { IsTrue result ↔ FitsLayoutOne (rows_in tables.now) }
 {
-    is_meta(&tables.meta)
+    is_layout_one_meta(&tables.meta)
         && tables.modes.is_empty()
         && tables.evidence.is_empty()
         && tables.against.is_empty()
@@ -49,7 +49,7 @@ fn versions_of(
     alloc: Global,
     rows: &[(String, u32, String)],
 ) -> Result<Vec<(&str, u32)>, AllocError>
-    ensures { IfOk result (λ v. map version_in v.items ≡ map version_of rows.now) }
+    ensures { IfOk result (λ v. map version_view v.items ≡ map version_of rows.now) }
 {
     let mut versions = Vec::with_capacity(alloc, rows.len())?;
     for row in rows {
@@ -58,57 +58,57 @@ fn versions_of(
     Ok(versions)
 }
 
-fn places_of(
+fn positions_of(
     alloc: Global,
     rows: &[(String, u32, u32, u32)],
 ) -> Result<Vec<(&str, u32, u32)>, AllocError>
-    ensures { IfOk result (λ v. map place_in v.items ≡ map place_of rows.now) }
+    ensures { IfOk result (λ v. map position_view v.items ≡ map version_position rows.now) }
 {
-    let mut places = Vec::with_capacity(alloc, rows.len())?;
+    let mut positions = Vec::with_capacity(alloc, rows.len())?;
     for row in rows {
-        places.push((row.0.as_str(), row.1, row.2))?;
+        positions.push((row.0.as_str(), row.1, row.2))?;
     }
-    Ok(places)
+    Ok(positions)
 }
 
 /// Whether each version that was tested against others has evidence, and its places are numbered
 /// from 1.
-fn are_tested(
+fn fits_against(
     alloc: Global,
     evidence: &[(String, u32, String)],
     against: &[(String, u32, u32, u32)],
 ) -> Result<bool, AllocError>
     ensures { IfOk result (λ yes. IsTrue yes
-        ↔ (HaveEvidence (map version_of evidence.now) (map place_of against.now)
-        × ArePositions (map place_of against.now))) }
+        ↔ (HaveEvidence (map version_of evidence.now) (map version_position against.now)
+        × AreContiguous (map version_position against.now))) }
 {
     let versions = versions_of(alloc, evidence)?;
-    let places = places_of(alloc, against)?;
-    Ok(have_evidence(versions, &places) && are_positions(places))
+    let positions = positions_of(alloc, against)?;
+    Ok(have_evidence(versions, &positions) && are_contiguous(positions))
 }
 
 /// Whether the rows that differ by layout are those of layout 2.
-fn fits_second(alloc: Global, tables: &Tables) -> Result<bool, AllocError>
-    ensures { IfOk result (λ yes. IsTrue yes ↔ FitsSecond (rows_in tables.now)) }
+fn fits_layout_two(alloc: Global, tables: &Tables) -> Result<bool, AllocError>
+    ensures { IfOk result (λ yes. IsTrue yes ↔ FitsLayoutTwo (rows_in tables.now)) }
 {
-    if !is_second_meta(&tables.meta)
+    if !is_layout_two_meta(&tables.meta)
         || !are_mode_rows(&tables.modes)
         || !are_evidence_rows(&tables.evidence)
     {
         return Ok(false);
     }
-    are_tested(alloc, &tables.evidence, &tables.against)
+    fits_against(alloc, &tables.evidence, &tables.against)
 }
 
 /// Whether the rows that differ by layout are those of the layout that `meta` names.
 fn fits_layout(alloc: Global, tables: &Tables) -> Result<bool, AllocError>
     ensures { IfOk result (λ yes. IsTrue yes
-        ↔ (FitsFirst (rows_in tables.now) ⊎ FitsSecond (rows_in tables.now))) }
+        ↔ (FitsLayoutOne (rows_in tables.now) ⊎ FitsLayoutTwo (rows_in tables.now))) }
 {
-    if fits_first(tables) {
+    if fits_layout_one(tables) {
         return Ok(true);
     }
-    fits_second(alloc, tables)
+    fits_layout_two(alloc, tables)
 }
 
 /// Whether the rows that are the same in both layouts hold a registry and kept replies.

@@ -6,11 +6,11 @@ use Rattle.std.specs.Bool.{Decides}
 use Rattle.std.proofs.lemmas.Slice.Eq.{bytes_eq-Decides}
 use Rattle.reg_core.specs.CommandTexts.{command_text}
 use Rattle.reg_core.specs.Machine.{is_write}
-use Rattle.reg_core.specs.Replies.{Told}
+use Rattle.reg_core.specs.Replies.{ReplyView}
 use Rattle.reg_core.specs.declared.delivery.Delivery.{Delivery}
-use Rattle.reg_core.specs.KeptReplies.{Kept, Entry}
+use Rattle.reg_core.specs.KeptReplies.{Kept, KeptEntry}
 use Rattle.reg_core.specs.Stored.{Stored}
-use Rattle.reg_service.specs.Deliveries.{Exchange, key_of, has_key, entry_of, kept_after, is_first, is_new, IsDue, Answers, RepeatsAgree, NoOtherAnswers}
+use Rattle.reg_service.specs.Deliveries.{Exchange, key_of, has_key, exchange_entry, kept_after, is_first, is_new, IsDue, Answers, RepeatsAgree, NoOtherAnswers}
 use Rattle.reg_service.proofs.JoinedExchanges.{kept_after-append, is_none-kept_after}
 
 -- two texts are the same, or they aren't
@@ -22,15 +22,15 @@ same_or_other a b = by (bytes_eq a b) (bytes_eq-Decides a b)
     by false d = inr (λ e. true≢false (sym (d.1 e)))
 
 -- what is kept stays
-kept_stays : (k : Kept) (xs : List Exchange) (key : List ℕ) (entry : Entry) → k key ≡ Some entry → kept_after k xs key ≡ Some entry
-kept_stays k xs key entry e = ap (λ o. option_or o (option_map entry_of (find (λ x. has_key key x.0) xs))) e
+kept_stays : (k : Kept) (xs : List Exchange) (key : List ℕ) (entry : KeptEntry) → k key ≡ Some entry → kept_after k xs key ≡ Some entry
+kept_stays k xs key entry e = ap (λ o. option_or o (option_map exchange_entry (find (λ x. has_key key x.0) xs))) e
 
 -- a write whose key is free leaves its own entry
 kept_here : (k : Kept) (x : Exchange) (xs : List Exchange) (key : List ℕ) → key_of x.0 ≡ Some key → k key ≡ None
-    → kept_after k (x ∷ xs) key ≡ Some (entry_of x)
+    → kept_after k (x ∷ xs) key ≡ Some (exchange_entry x)
 kept_here k x xs key some none =
     let found : has_key key x.0 ≡ true = ap (λ o. option_map_or (bytes_eq key) o false) some ∙ (bytes_eq-Decides key key).1 refl in
-    λ i. option_or (none i) (option_map entry_of (cond (found i) (Some x) (find (λ y. has_key key y.0) xs)))
+    λ i. option_or (none i) (option_map exchange_entry (cond (found i) (Some x) (find (λ y. has_key key y.0) xs)))
 
 -- of two writes with one key and one command the second gets the first's reply, or both get 42290
 pub repeats_agree : (was : Stored) (xs : List Exchange) → Answers was xs → RepeatsAgree xs
@@ -48,8 +48,8 @@ repeats_agree was xs due before x between y after key e some_x some_y text = by 
     then : kept_after k (before ++ x ∷ between) key ≡ kept_after (kept_after k before) (x ∷ between) key
     then = λ i. kept_after-append k before (x ∷ between) i key
 
-    by : (o : Option Entry) → kept_after k before key ≡ o → x.1 ≡ y.1
-    by None none = sym (due_y.again key (entry_of x) some_y (then ∙ kept_here (kept_after k before) x between key some_x none) (sym text))
+    by : (o : Option KeptEntry) → kept_after k before key ≡ o → x.1 ≡ y.1
+    by None none = sym (due_y.again key (exchange_entry x) some_y (then ∙ kept_here (kept_after k before) x between key some_x none) (sym text))
     by (Some entry) has =
         let later : kept_after k (before ++ x ∷ between) key ≡ Some entry = then ∙ kept_stays (kept_after k before) (x ∷ between) key entry has in
         ⊎_elim
@@ -59,28 +59,28 @@ repeats_agree was xs due before x between y after key e some_x some_y text = by 
 
 -- a write that isn't first has a key under which something is kept
 known : (k : Kept) (before : List Exchange) (d : Delivery) → is_write d.command ≡ true → is_first k before d ≡ false
-    → (key : List ℕ) × (entry : Entry) × (key_of d ≡ Some key) × (kept_after k before key ≡ Some entry)
+    → (key : List ℕ) × (entry : KeptEntry) × (key_of d ≡ Some key) × (kept_after k before key ≡ Some entry)
 known k before d write later = by (key_of d) refl
   where
     new : (o : Option (List ℕ)) → key_of d ≡ o → option_map_or (is_new k before) o true ≡ false
     new o e = (λ i. sym write i && option_map_or (is_new k before) (sym e i) true) ∙ later
 
-    at : (key : List ℕ) (o : Option Entry) → key_of d ≡ Some key → kept_after k before key ≡ o
-        → (key : List ℕ) × (entry : Entry) × (key_of d ≡ Some key) × (kept_after k before key ≡ Some entry)
+    at : (key : List ℕ) (o : Option KeptEntry) → key_of d ≡ Some key → kept_after k before key ≡ o
+        → (key : List ℕ) × (entry : KeptEntry) × (key_of d ≡ Some key) × (kept_after k before key ≡ Some entry)
     at key (Some entry) some has = (key, entry, some, has)
     at key None some none = absurd (true≢false (sym (sym (is_none-kept_after k before key) ∙ ap is_none none) ∙ new (Some key) some))
 
     by : (o : Option (List ℕ)) → key_of d ≡ o
-        → (key : List ℕ) × (entry : Entry) × (key_of d ≡ Some key) × (kept_after k before key ≡ Some entry)
+        → (key : List ℕ) × (entry : KeptEntry) × (key_of d ≡ Some key) × (kept_after k before key ≡ Some entry)
     by None none = absurd (true≢false (new None none))
     by (Some key) some = at key (kept_after k before key) some refl
 
 -- only one reply is due
-pub due_unique : (was : Stored) (before : List Exchange) (d : Delivery) (p q : Told)
+pub due_unique : (was : Stored) (before : List Exchange) (d : Delivery) (p q : ReplyView)
     → IsDue was before d p → IsDue was before d q → p ≡ q
 due_unique was before d p q x y = by (is_write d.command) (is_first was.replies before d) refl refl
   where
-    repeat : (key : List ℕ) × (entry : Entry) × (key_of d ≡ Some key) × (kept_after was.replies before key ≡ Some entry) → p ≡ q
+    repeat : (key : List ℕ) × (entry : KeptEntry) × (key_of d ≡ Some key) × (kept_after was.replies before key ≡ Some entry) → p ≡ q
     repeat (key, entry, some, has) = ⊎_elim
         (λ (s : command_text d.command ≡ entry.command). x.again key entry some has s ∙ sym (y.again key entry some has s))
         (λ (s : command_text d.command ≢ entry.command). x.other key entry some has s ∙ sym (y.other key entry some has s))

@@ -11,16 +11,16 @@ use Rattle.reg_core.specs.declared.command.Command.TheVariants.{SetGlobal, SetLe
 use Rattle.reg_core.specs.CommandTexts.{command_text}
 use Rattle.reg_core.specs.Machine.{subject_of, step}
 use Rattle.reg_core.specs.Registry.{Registry, RowKey, Version}
-use Rattle.reg_core.specs.Replies.{Told, fault, answer}
+use Rattle.reg_core.specs.Replies.{ReplyView, fault, answer}
 use Rattle.reg_core.proofs.CommandTextLemmas.{command_text-injective}
 use Rattle.reg_core.specs.declared.delivery.Delivery.{Delivery}
 use Rattle.reg_core.specs.KeptReplies.{nothing_kept}
-use Rattle.reg_core.specs.Evidence.{EvidenceOf, evidence_in, kept_or_new}
+use Rattle.reg_core.specs.Evidence.{EvidenceMap, next_evidence, kept_or_new}
 use Rattle.reg_core.specs.Stored.{Stored}
 use Rattle.reg_service.specs.declared.service.Service.{Service}
-use Rattle.reg_service.specs.Deliveries.{Exchange, firsts, entry_of, kept_after, served, AreAdmittedBy, IsDue}
+use Rattle.reg_service.specs.Deliveries.{Exchange, firsts, exchange_entry, kept_after, served, IsEvidenceAfterAll, IsDue}
 use Rattle.reg_service.specs.Services.{state_in}
-use Rattle.reg_service.specs.Crashes.{LeavesAfter, IsFoundAfter}
+use Rattle.reg_service.specs.Crashes.{RecoversExchanges, RecoversAcknowledged}
 
 abbrev full : Command
 full = SetGlobal (codes "FULL")
@@ -37,7 +37,7 @@ keyed key command = record { key = Some key; command = command }
 abbrev keyless : Command → Delivery
 keyless command = record { key = None; command = command }
 
-abbrev done : Told
+abbrev done : ReplyView
 done = answer (codes "{\"compatibility\":\"FULL\"}")
 
 -- a repeat is_not first
@@ -50,7 +50,7 @@ mismatch_is_not_first = refl
 
 -- and it leaves what is kept
 mismatch_is_not_kept : kept_after nothing_kept ((keyed (codes "k1") full, done) ∷ (keyed (codes "k1") none, fault KeyReused) ∷ []) (codes "k1")
-    ≡ Some (entry_of (keyed (codes "k1") full, done))
+    ≡ Some (exchange_entry (keyed (codes "k1") full, done))
 mismatch_is_not_kept = refl
 
 -- two keys are apart, however their deliveries mix
@@ -70,14 +70,14 @@ key_of_read_is_ignored = refl
 kept_key_is_not_first : firsts (kept_after nothing_kept ((keyed (codes "k1") full, done) ∷ [])) ((keyed (codes "k1") full, done) ∷ []) ≡ []
 kept_key_is_not_first = refl
 
-abbrev keeps_nothing : Registry → EvidenceOf → Stored
+abbrev keeps_nothing : Registry → EvidenceMap → Stored
 keeps_nothing g evidence = record { registry = g; replies = nothing_kept; evidence = evidence }
 
 -- a refusal is a first reply too: the repeat gets it, whatever came between
-refusal_is_kept : (g : Registry) (evidence : EvidenceOf) (reply : Told)
+refusal_is_kept : (g : Registry) (evidence : EvidenceMap) (reply : ReplyView)
     → IsDue (keeps_nothing g evidence) ((keyed (codes "k5") unknown, fault InvalidLevel) ∷ (keyless full, done) ∷ []) (keyed (codes "k5") unknown) reply
     → reply ≡ fault InvalidLevel
-refusal_is_kept g evidence reply due = due.again (codes "k5") (entry_of (keyed (codes "k5") unknown, fault InvalidLevel)) refl refl refl
+refusal_is_kept g evidence reply due = due.again (codes "k5") (exchange_entry (keyed (codes "k5") unknown, fault InvalidLevel)) refl refl refl
 
 abbrev full_of_s : Command
 full_of_s = SetLevel (codes "s") (codes "FULL")
@@ -91,25 +91,25 @@ other_texts e =
     eqb-false 116 115 refl (ap (λ (command : Command). get_or (unwrap_or (subject_of command) []) 0 0) same)
 
 -- the key of one subject's level with another subject is refused
-other_subject_is_refused : (g : Registry) (evidence : EvidenceOf) (reply : Told)
+other_subject_is_refused : (g : Registry) (evidence : EvidenceMap) (reply : ReplyView)
     → IsDue (keeps_nothing g evidence) ((keyed (codes "k1") full_of_s, done) ∷ []) (keyed (codes "k1") full_of_t) reply → reply ≡ fault KeyReused
-other_subject_is_refused g evidence reply due = due.other (codes "k1") (entry_of (keyed (codes "k1") full_of_s, done)) refl refl other_texts
+other_subject_is_refused g evidence reply due = due.other (codes "k1") (exchange_entry (keyed (codes "k1") full_of_s, done)) refl refl other_texts
 
 -- a version that a command adds has the level and the ids that the registry named for it, and nothing else
-addition_is_admitted_by : (g : Registry) (c : Command) (old new : EvidenceOf) (key : RowKey) (version : Version) → AreAdmittedBy g (c ∷ []) old new
-    → get g.rows key ≡ None → get (step g c).0.rows key ≡ Some version → get new key ≡ Some (evidence_in g key.0)
+addition_is_admitted_by : (g : Registry) (c : Command) (old new : EvidenceMap) (key : RowKey) (version : Version) → IsEvidenceAfterAll g (c ∷ []) old new
+    → get g.rows key ≡ None → get (step g c).0.rows key ≡ Some version → get new key ≡ Some (next_evidence g key.0)
 addition_is_admitted_by g c old new key version (mid, becomes, same) none there =
-    ap (λ (e : EvidenceOf). get e key) same ∙ becomes key ∙ (λ i. kept_or_new (none i) (there i) (get old key) (evidence_in g key.0))
+    ap (λ (e : EvidenceMap). get e key) same ∙ becomes key ∙ (λ i. kept_or_new (none i) (there i) (get old key) (next_evidence g key.0))
 
 -- one that a command leaves has what it had
-old_one_is_admitted_by : (g : Registry) (c : Command) (old new : EvidenceOf) (key : RowKey) (before after : Version) → AreAdmittedBy g (c ∷ []) old new
+old_one_is_admitted_by : (g : Registry) (c : Command) (old new : EvidenceMap) (key : RowKey) (before after : Version) → IsEvidenceAfterAll g (c ∷ []) old new
     → get g.rows key ≡ Some before → get (step g c).0.rows key ≡ Some after → get new key ≡ get old key
 old_one_is_admitted_by g c old new key before after (mid, becomes, same) was there =
-    ap (λ (e : EvidenceOf). get e key) same ∙ becomes key ∙ (λ i. kept_or_new (was i) (there i) (get old key) (evidence_in g key.0))
+    ap (λ (e : EvidenceMap). get e key) same ∙ becomes key ∙ (λ i. kept_or_new (was i) (there i) (get old key) (next_evidence g key.0))
 
 -- what was answered stays: no delivery was under way then
-answered_stays : {S : Type 0} {g : Ghosts S} (old new : Service S g) (was : Stored) (d : Delivery) (body : List ℕ) → IsFoundAfter old new was ((d, answer body) ∷ [])
-    → (db : Trees) → (state_in new).may_leave db → LeavesAfter was ((d, answer body) ∷ []) db
+answered_stays : {S : Type 0} {g : Ghosts S} (old new : Service S g) (was : Stored) (d : Delivery) (body : List ℕ) → RecoversAcknowledged old new was ((d, answer body) ∷ [])
+    → (db : Trees) → (state_in new).may_leave db → RecoversExchanges was ((d, answer body) ∷ []) db
 answered_stays old new was d body (inl leaves) db it = leaves db it
 answered_stays old new was d body (inr u) db it = absurd (none u.at.before u.at.split)
   where
@@ -118,5 +118,5 @@ answered_stays old new was d body (inr u) db it = absurd (none u.at.before u.at.
     no_more (b ∷ before) x after e = absurd (cc)
 
     none : (before : List Exchange) → (d, answer body) ∷ [] ≡ before ++ u.at.exchange ∷ u.at.after → ⊥
-    none [] e = let nothing : (d, answer body) ∷ [] ≡ [] = ap served e ∙ u.at.unanswered in absurd (cc)
+    none [] e = let nothing : (d, answer body) ∷ [] ≡ [] = ap served e ∙ u.at.unserved in absurd (cc)
     none (b ∷ before) e = let rest : [] ≡ before ++ u.at.exchange ∷ u.at.after = cc in no_more before u.at.exchange u.at.after rest

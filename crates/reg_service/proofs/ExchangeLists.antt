@@ -2,7 +2,7 @@
 use Rattle.std.proofs.Common.{◌≡◌, ℕ, not, List, [], ◌∷◌, ◌++◌, ◌+◌, ◌<◌, refl, sym, ap, ◌∙◌, subst, length, zip, take, get_or, arith}
 use Rattle.std.proofs.lemmas.List.{take_more, length-take}
 use Rattle.std.proofs.lemmas.List.Elements.{filter-append}
-use Rattle.reg_core.specs.Replies.{Told}
+use Rattle.reg_core.specs.Replies.{ReplyView}
 use Rattle.reg_core.specs.declared.delivery.Delivery.{Delivery}
 use Rattle.reg_core.specs.Stored.{Stored}
 use Rattle.reg_service.specs.Deliveries.{Exchange, Serves, served, is_backend_fault}
@@ -19,7 +19,7 @@ pub served-append : (xs ys : List Exchange) → served (xs ++ ys) ≡ served xs 
 served-append xs ys = filter-append (λ (x : Exchange). not (is_backend_fault x.1)) xs ys
 
 -- One delivery more, after those that were served before it.
-pub serves-push : (list : List Delivery) (replies : List Told) (d : Delivery) (reply : Told) (was mid now : Stored)
+pub serves-push : (list : List Delivery) (replies : List ReplyView) (d : Delivery) (reply : ReplyView) (was mid now : Stored)
     → length list ≡ length replies
     → Serves was (served (zip list replies)) mid → Serves mid (served ((d, reply) ∷ [])) now
     → Serves was (served (zip (list ++ d ∷ []) (replies ++ reply ∷ []))) now
@@ -30,12 +30,12 @@ serves-push list replies d reply was mid now same before one =
     subst P (sym e) (serves-append was mid now (served (zip list replies)) (served ((d, reply) ∷ [])) before one)
 
 -- The same, where the delivery is the next of a list.
-pub serves_next : (list : List Delivery) (i : ℕ) (d : Delivery) (replies replies' : List Told) (reply : Told) (was mid now : Stored)
+pub serves_next : (list : List Delivery) (i : ℕ) (d : Delivery) (replies replies' : List ReplyView) (reply : ReplyView) (was mid now : Stored)
     → i < length list → d ≡ get_or list i d → length replies ≡ i → replies' ≡ replies ++ reply ∷ []
     → Serves was (served (zip (take i list) replies)) mid → Serves mid (served ((d, reply) ∷ [])) now
     → Serves was (served (zip (take (i + 1) list) replies')) now
 serves_next list i d replies replies' reply was mid now lt item count more before one =
     let front : take (i + 1) list ≡ take i list ++ d ∷ [] = take_more list i d lt ∙ ap (λ (x : Delivery). take i list ++ x ∷ []) (sym item) in
     let same : length (take i list) ≡ length replies = omega (arith, length-take i list) in
-    let P : List Delivery × List Told → Type 0 = λ both. Serves was (served (zip both.0 both.1)) now in
+    let P : List Delivery × List ReplyView → Type 0 = λ both. Serves was (served (zip both.0 both.1)) now in
     subst P (λ j. (sym front j, sym more j)) (serves-push (take i list) replies d reply was mid now same before one)

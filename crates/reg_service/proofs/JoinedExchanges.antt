@@ -10,9 +10,9 @@ use Rattle.reg_core.specs.Machine.{is_write, step, run_commands}
 use Rattle.reg_core.specs.Registry.{Registry}
 use Rattle.reg_core.specs.declared.delivery.Delivery.{Delivery}
 use Rattle.reg_core.specs.KeptReplies.{Kept}
-use Rattle.reg_core.specs.Evidence.{EvidenceOf}
+use Rattle.reg_core.specs.Evidence.{EvidenceMap}
 use Rattle.reg_core.specs.Stored.{Stored}
-use Rattle.reg_service.specs.Deliveries.{Exchange, key_of, has_key, is_new, is_first, firsts_after, firsts, entry_of, kept_after, reply_after, IsDue, Answers, AreAdmittedBy, LeadsTo, Serves}
+use Rattle.reg_service.specs.Deliveries.{Exchange, key_of, has_key, is_new, is_first, firsts_after, firsts, exchange_entry, kept_after, reply_after, IsDue, Answers, IsEvidenceAfterAll, LeadsTo, Serves}
 
 option_or_assoc : {A : Type 0} (a b c : Option A) → option_or (option_or a b) c ≡ option_or a (option_or b c)
 option_or_assoc (Some a) b c = refl
@@ -33,9 +33,9 @@ kept_after-nil k = λ i key. option_or-none (k key) i
 kept_at : (k : Kept) (xs ys : List Exchange) (key : List ℕ) → kept_after k (xs ++ ys) key ≡ kept_after (kept_after k xs) ys key
 kept_at k xs ys key =
     let p = λ (x : Exchange). has_key key x.0 in
-    ap (λ o. option_or (k key) (option_map entry_of o)) (find-append p xs ys)
-    ∙ (ap (option_or (k key)) (option_map-or entry_of (find p xs) (find p ys))
-    ∙ sym (option_or_assoc (k key) (option_map entry_of (find p xs)) (option_map entry_of (find p ys))))
+    ap (λ o. option_or (k key) (option_map exchange_entry o)) (find-append p xs ys)
+    ∙ (ap (option_or (k key)) (option_map-or exchange_entry (find p xs) (find p ys))
+    ∙ sym (option_or_assoc (k key) (option_map exchange_entry (find p xs)) (option_map exchange_entry (find p ys))))
 
 -- what is kept after both is what the second leave after the first
 pub kept_after-append : (k : Kept) (xs ys : List Exchange) → kept_after k (xs ++ ys) ≡ kept_after (kept_after k xs) ys
@@ -64,7 +64,7 @@ not-or false b c = refl
 pub is_none-kept_after : (k : Kept) (xs : List Exchange) (key : List ℕ) → is_none (kept_after k xs key) ≡ is_new k xs key
 is_none-kept_after k xs key =
     let p = λ (x : Exchange). has_key key x.0 in
-    is_none-or (k key) (option_map entry_of (find p xs)) ∙ ap (λ b. is_none (k key) && b) (is_none-find entry_of p xs)
+    is_none-or (k key) (option_map exchange_entry (find p xs)) ∙ ap (λ b. is_none (k key) && b) (is_none-find exchange_entry p xs)
 
 -- a key is new after both where it is new to the second after the first
 is_new-append : (k : Kept) (xs ys : List Exchange) (key : List ℕ) → is_new k (xs ++ ys) key ≡ is_new (kept_after k xs) ys key
@@ -121,13 +121,13 @@ pub registry-append : (g : Registry) (k : Kept) (xs ys : List Exchange)
 registry-append g k xs ys = ap (run_commands g) (firsts-append k xs ys) ∙ run_commands-append g (firsts k xs) (firsts (kept_after k xs) ys)
 
 -- evidence after commands in two parts
-admitted-append : (g : Registry) (a b : List Command) (old mid new : EvidenceOf)
-    → AreAdmittedBy g a old mid → AreAdmittedBy (run_commands g a) b mid new → AreAdmittedBy g (a ++ b) old new
-admitted-append g [] b old mid new p q = subst (λ (had : EvidenceOf). AreAdmittedBy g b had new) p q
+admitted-append : (g : Registry) (a b : List Command) (old mid new : EvidenceMap)
+    → IsEvidenceAfterAll g a old mid → IsEvidenceAfterAll (run_commands g a) b mid new → IsEvidenceAfterAll g (a ++ b) old new
+admitted-append g [] b old mid new p q = subst (λ (had : EvidenceMap). IsEvidenceAfterAll g b had new) p q
 admitted-append g (c ∷ a) b old mid new p q = (p.0, p.1, admitted-append (step g c).0 a b p.0 mid new p.2 q)
 
 -- what is stored after exchanges, with this evidence
-abbrev pub led : Stored → List Exchange → EvidenceOf → Stored
+abbrev pub led : Stored → List Exchange → EvidenceMap → Stored
 led was xs evidence = record { registry = run_commands was.registry (firsts was.replies xs); replies = kept_after was.replies xs; evidence = evidence }
 
 -- where exchanges lead to is that
@@ -143,11 +143,11 @@ leads-append was mid now xs ys p q =
     record {
       registry = h.registry ∙ sym (registry-append was.registry was.replies xs ys);
       kept = h.kept ∙ sym (kept_after-append was.replies xs ys);
-      evidence = subst (λ (cs : List Command). AreAdmittedBy was.registry cs was.evidence now.evidence) (sym (firsts-append was.replies xs ys)) both;
+      evidence = subst (λ (cs : List Command). IsEvidenceAfterAll was.registry cs was.evidence now.evidence) (sym (firsts-append was.replies xs ys)) both;
     }
 
 -- what is due among the second is due there in both
-due_later : (was : Stored) (evidence : EvidenceOf) (xs more : List Exchange) (x : Exchange)
+due_later : (was : Stored) (evidence : EvidenceMap) (xs more : List Exchange) (x : Exchange)
     → IsDue (led was xs evidence) more x.0 x.1 → IsDue was (xs ++ more) x.0 x.1
 due_later was evidence xs more x h = record {
   read = λ f. h.read f ∙ later;
@@ -173,7 +173,7 @@ split {A} (y ∷ xs) ys (b ∷ before) x after e =
     (split xs ys before x after t)
 
 -- replies that are due in each part are due in both
-answers-append : (was : Stored) (evidence : EvidenceOf) (xs ys : List Exchange)
+answers-append : (was : Stored) (evidence : EvidenceMap) (xs ys : List Exchange)
     → Answers was xs → Answers (led was xs evidence) ys → Answers was (xs ++ ys)
 answers-append was evidence xs ys p q before x after e =
     ⊎_elim
@@ -193,15 +193,15 @@ serves-append was mid now xs ys p q =
     }
 
 -- evidence after commands in two parts is evidence after each
-admitted_parts : (g : Registry) (a b : List Command) (old new : EvidenceOf) → AreAdmittedBy g (a ++ b) old new
-    → (mid : EvidenceOf) × AreAdmittedBy g a old mid × AreAdmittedBy (run_commands g a) b mid new
+admitted_parts : (g : Registry) (a b : List Command) (old new : EvidenceMap) → IsEvidenceAfterAll g (a ++ b) old new
+    → (mid : EvidenceMap) × IsEvidenceAfterAll g a old mid × IsEvidenceAfterAll (run_commands g a) b mid new
 admitted_parts g [] b old new p = (old, refl, p)
 admitted_parts g (c ∷ a) b old new p =
     let (mid, first, rest) = admitted_parts (step g c).0 a b p.0 new p.2 in
     (mid, (p.0, p.1, first), rest)
 
 -- what is due in both is due among the second
-due_among : (was : Stored) (evidence : EvidenceOf) (xs more : List Exchange) (x : Exchange)
+due_among : (was : Stored) (evidence : EvidenceMap) (xs more : List Exchange) (x : Exchange)
     → IsDue was (xs ++ more) x.0 x.1 → IsDue (led was xs evidence) more x.0 x.1
 due_among was evidence xs more x h = record {
   read = λ f. h.read f ∙ earlier;
@@ -216,7 +216,7 @@ due_among was evidence xs more x h = record {
 -- What is served as one list is served in two parts.
 pub serves_parts : (was now : Stored) (xs ys : List Exchange) → Serves was (xs ++ ys) now → (mid : Stored) × Serves was xs mid × Serves mid ys now
 serves_parts was now xs ys p =
-    let all = subst (λ (cs : List Command). AreAdmittedBy was.registry cs was.evidence now.evidence) (firsts-append was.replies xs ys) p.leads.evidence in
+    let all = subst (λ (cs : List Command). IsEvidenceAfterAll was.registry cs was.evidence now.evidence) (firsts-append was.replies xs ys) p.leads.evidence in
     let (evidence, first, rest) = admitted_parts was.registry (firsts was.replies xs) (firsts (kept_after was.replies xs) ys) was.evidence now.evidence all in (
       led was xs evidence,
       record {

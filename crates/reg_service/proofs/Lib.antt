@@ -6,7 +6,7 @@ pub mod StoreCalls
 pub mod OverTables
 pub mod CrashLemmas
 pub mod OpenConnections
-pub mod FoundLists
+pub mod RecoveredLists
 pub mod Chains
 pub mod Examples
 pub mod AdmissionLemmas

@@ -6,13 +6,13 @@ use Rattle.std.proofs.lemmas.List.Elements.{All-push, All-same}
 use Rattle.sqlite.specs.State.{State, HasCleanDisk}
 use Rattle.sqlite_trees.specs.declared.store.Store.{Ghosts}
 use Rattle.reg_core.specs.declared.code.Code.TheVariants.{BackendFault}
-use Rattle.reg_core.specs.Replies.{Told, fault}
+use Rattle.reg_core.specs.Replies.{ReplyView, fault}
 use Rattle.reg_store.specs.declared.error.StoreError.{StoreError}
 use Rattle.reg_store.specs.declared.store.Store.{Store}
 use Rattle.reg_core.specs.Stored.{Stored}
 use Rattle.reg_store.specs.Stores.{has_failed, state_of, KeepsOpen, KeepsStore, ReadsStore}
 use Rattle.reg_service.specs.declared.service.Service.{Service}
-use Rattle.reg_service.specs.Services.{store_in, state_in, KeepsOver, KeepsService, AreUnanswered}
+use Rattle.reg_service.specs.Services.{store_in, state_in, PreservesStore, PreservesService, AreBackendFaults}
 
 -- more faults stay more
 still_more : (top a b c : ℕ) → min (a + 1) top ≤ b → b ≤ c → min (a + 1) top ≤ c
@@ -24,13 +24,13 @@ more_then top a b c before more = omega arith
 
 -- doing nothing shuts and opens nothing
 pub keeps_open : (s : State) → KeepsOpen s s
-keeps_open s = record { counts = omega arith; stays_shut = λ _ is_open. is_open; closes = λ _ is_open. inl is_open }
+keeps_open s = record { counts = omega arith; stays_closed = λ _ is_open. is_open; closes = λ _ is_open. inl is_open }
 
 -- and so do two calls that each keep that much
 pub keeps_then : (a b c : State) → (HasCleanDisk c → HasCleanDisk b) → KeepsOpen a b → KeepsOpen b c → KeepsOpen a c
 keeps_then a b c clean p q = record {
   counts = omega (arith, p.counts, q.counts);
-  stays_shut = λ h is_open. p.stays_shut (clean h) (q.stays_shut h is_open);
+  stays_closed = λ h is_open. p.stays_closed (clean h) (q.stays_closed h is_open);
   closes = λ h was_open. elim (p.closes (clean h) was_open) [
     | inl is_open ↦ elim (q.closes h is_open) [ inl now ↦ inl now | inr more ↦ inr (more_then _ a.faults b.faults c.faults p.counts more) ]
     | inr more ↦ inr (still_more _ a.faults b.faults c.faults more q.counts)
@@ -39,45 +39,45 @@ keeps_then a b c clean p q = record {
 
 module _ {S : Type 0} {g : Ghosts S} where
   -- a service that does nothing, and gives no answer
-  pub keeps_still : (s : Service S g) (GivesNone : Type 0) → GivesNone → KeepsService s s GivesNone
-  keeps_still s GivesNone none = record {
+  pub keeps_still : (s : Service S g) (NothingDone : Type 0) → NothingDone → PreservesService s s NothingDone
+  keeps_still s NothingDone none = record {
     failed = λ failed. (none, failed);
-    shut = λ _ _. (none, λ db it. it);
+    closed = λ _ _. (none, λ db it. it);
     clean = λ clean. clean;
     connection = keeps_open (state_in s);
   }
 
   -- one that gives an answer stood over an open connection
-  pub was_open : (old new : Service S g) → KeepsService old new ⊥ → HasCleanDisk (state_in new) → IsTrue (state_in old).is_open
-  was_open old new keeps clean = elim (cases_Bool (state_in old).is_open) [ inl is_open ↦ is_open | inr is_shut ↦ absurd (keeps.shut clean (λ is_open. both_ways _ is_shut is_open)).0 ]
+  pub was_open : (old new : Service S g) → PreservesService old new ⊥ → HasCleanDisk (state_in new) → IsTrue (state_in old).is_open
+  was_open old new keeps clean = elim (cases_Bool (state_in old).is_open) [ inl is_open ↦ is_open | inr is_closed ↦ absurd (keeps.closed clean (λ is_open. both_ways _ is_closed is_open)).0 ]
 
   -- one call after the other
-  pub keeps_both : {P Q R : Type 0} (old mid new : Service S g) → (P → Q → R) → KeepsService old mid P → KeepsService mid new Q → KeepsService old new R
+  pub keeps_both : {P Q R : Type 0} (old mid new : Service S g) → (P → Q → R) → PreservesService old mid P → PreservesService mid new Q → PreservesService old new R
   keeps_both old mid new none before one = record {
     failed = λ failed. let was = before.failed failed in let is = one.failed was.1 in (none was.0 is.0, is.1);
-    shut = λ clean is_shut.
-        let was = before.shut (one.clean clean) is_shut in
-        let is = one.shut clean (λ is_open. is_shut (before.connection.stays_shut (one.clean clean) is_open)) in
+    closed = λ clean is_closed.
+        let was = before.closed (one.clean clean) is_closed in
+        let is = one.closed clean (λ is_open. is_closed (before.connection.stays_closed (one.clean clean) is_open)) in
         (none was.0 is.0, λ db it. was.1 db (is.1 db it));
     clean = λ clean. before.clean (one.clean clean);
     connection = keeps_then (state_in old) (state_in mid) (state_in new) one.clean before.connection one.connection;
   }
 
   -- what follows from giving no answer
-  pub keeps_as : {P Q : Type 0} (old new : Service S g) → (P → Q) → KeepsService old new P → KeepsService old new Q
+  pub keeps_as : {P Q : Type 0} (old new : Service S g) → (P → Q) → PreservesService old new P → PreservesService old new Q
   keeps_as old new f keeps = record {
     failed = λ failed. let is = keeps.failed failed in (f is.0, is.1);
-    shut = λ clean is_shut. let is = keeps.shut clean is_shut in (f is.0, is.1);
+    closed = λ clean is_closed. let is = keeps.closed clean is_closed in (f is.0, is.1);
     clean = keeps.clean;
     connection = keeps.connection;
   }
 
   -- one delivery more
-  pub keeps_next : (old mid new : Service S g) (replies more : List Told) (reply : Told) → more ≡ replies ++ reply ∷ []
-      → KeepsService old mid (AreUnanswered replies) → KeepsService mid new (reply ≡ fault BackendFault) → KeepsService old new (AreUnanswered more)
+  pub keeps_next : (old mid new : Service S g) (replies more : List ReplyView) (reply : ReplyView) → more ≡ replies ++ reply ∷ []
+      → PreservesService old mid (AreBackendFaults replies) → PreservesService mid new (reply ≡ fault BackendFault) → PreservesService old new (AreBackendFaults more)
   keeps_next old mid new replies more reply longer before one = keeps_both old mid new all before one
     where
-      all : AreUnanswered replies → reply ≡ fault BackendFault → AreUnanswered more
+      all : AreBackendFaults replies → reply ≡ fault BackendFault → AreBackendFaults more
       all them it = All-same (λ told. told ≡ fault BackendFault) more (replies ++ reply ∷ []) longer (All-push (λ told. told ≡ fault BackendFault) replies reply them it)
 
 -- a call of the store that succeeds leaves one that hasn't failed
@@ -85,24 +85,24 @@ pub goes_on : {S T : Type 0} {g : Ghosts S} {old new : Store S g} {x : T} → Ke
 goes_on keeps failed = let is = keeps.failed_now.1 failed in absurd (cc)
 
 -- a call that only reads the store, and fails where that fails
-module _ {S T : Type 0} {g : Ghosts S} {Tells : Stored → T → Type 0} {GivesNone : Type 0} {old new : Store S g} where
-  pub keeps_reading : {r : Result T StoreError} → ReadsStore old new r Tells → (OnOk r ⊥ → GivesNone) → KeepsOver old new GivesNone
+module _ {S T : Type 0} {g : Ghosts S} {Tells : Stored → T → Type 0} {NothingDone : Type 0} {old new : Store S g} where
+  pub keeps_reading : {r : Result T StoreError} → ReadsStore old new r Tells → (OnOk r ⊥ → NothingDone) → PreservesStore old new NothingDone
   keeps_reading {r} reads none = record {
     failed = λ failed. let was = reads.frame.failed_before failed in (none (subst (λ (q : Result T StoreError). OnOk q ⊥) (sym was.0) tt), subst (λ (s : Store S g). IsTrue (has_failed s)) (sym was.1) failed);
-    shut = λ clean is_shut. (none (fails r (reads.frame.was_open clean) is_shut), (reads.tells clean).crash);
+    closed = λ clean is_closed. (none (fails r (reads.frame.was_open clean) is_closed), (reads.tells clean).crash);
     clean = reads.frame.clean;
     connection = reads.frame.connection;
   }
     where
       fails : (r : Result T StoreError) → OnOk r (IsTrue (state_of old).is_open) → (IsTrue (state_of old).is_open → ⊥) → OnOk r ⊥
-      fails (Ok x) is_open is_shut = is_shut is_open
-      fails (Err e) is_open is_shut = tt
+      fails (Ok x) is_open is_closed = is_closed is_open
+      fails (Err e) is_open is_closed = tt
 
   -- one that succeeds, and then a call of a service
-  pub keeps_read_then : {x : T} {mid : Store S g} → ReadsStore old mid (Ok x) Tells → KeepsOver mid new GivesNone → KeepsOver old new GivesNone
+  pub keeps_read_then : {x : T} {mid : Store S g} → ReadsStore old mid (Ok x) Tells → PreservesStore mid new NothingDone → PreservesStore old new NothingDone
   keeps_read_then {x} {mid} reads one = record {
     failed = λ failed. absurd (let was = (reads.frame.failed_before failed).0 in cc);
-    shut = λ clean is_shut. absurd (is_shut (reads.frame.was_open (one.clean clean)));
+    closed = λ clean is_closed. absurd (is_closed (reads.frame.was_open (one.clean clean)));
     clean = λ clean. reads.frame.clean (one.clean clean);
     connection = keeps_then (state_of old) (state_of mid) (state_of new) one.clean reads.frame.connection one.connection;
   }

@@ -6,21 +6,21 @@ use Rattle.sqlite.specs.Tree.{Trees}
 use Rattle.sqlite_trees.specs.declared.store.Store.{Ghosts}
 use Rattle.reg_core.specs.declared.delivery.Delivery.{Delivery}
 use Rattle.reg_core.specs.Machine.{is_write}
-use Rattle.reg_core.specs.Replies.{Told}
-use Rattle.reg_core.specs.KeptReplies.{Entry}
+use Rattle.reg_core.specs.Replies.{ReplyView}
+use Rattle.reg_core.specs.KeptReplies.{KeptEntry}
 use Rattle.reg_core.specs.Stored.{Stored}
 use Rattle.reg_store.specs.Spells.{IsOpenOver}
 use Rattle.reg_service.specs.declared.service.Service.{Service}
 use Rattle.reg_service.specs.Deliveries.{Exchange, key_of, is_first, is_new, kept_after, reply_after, served, IsDue, Answers, Serves}
 use Rattle.reg_service.specs.Services.{state_in}
-use Rattle.reg_service.specs.Crashes.{LeavesAfter, IsFoundAfter, ServesDurably}
+use Rattle.reg_service.specs.Crashes.{RecoversExchanges, RecoversAcknowledged, ServesDurably}
 use Rattle.reg_service.specs.Restarts.{IsInProgress, RestartsFrom}
 use Rattle.reg_service.proofs.DueReplies.{repeats_agree}
 use Rattle.reg_service.proofs.ExchangeLists.{served-append}
 use Rattle.reg_service.proofs.JoinedExchanges.{is_none-kept_after, split, serves-append}
 
 -- nothing is kept under the key of a first delivery
-fresh : (was : Stored) (before : List Exchange) (d : Delivery) (key : List ℕ) (entry : Entry) → is_first was.replies before d ≡ true → key_of d ≡ Some key → kept_after was.replies before key ≡ Some entry → ⊥
+fresh : (was : Stored) (before : List Exchange) (d : Delivery) (key : List ℕ) (entry : KeptEntry) → is_first was.replies before d ≡ true → key_of d ≡ Some key → kept_after was.replies before key ≡ Some entry → ⊥
 fresh was before d key entry first some has =
     let used : is_new was.replies before key ≡ false = sym (is_none-kept_after was.replies before key) ∙ ap is_none has in
     let stuck : is_write d.command && option_map_or (is_new was.replies before) (key_of d) true ≡ false =
@@ -41,7 +41,7 @@ due_in_progress was before d first = record {
 }
 
 -- one more reply that is due
-answers_then : (was : Stored) (xs : List Exchange) (d : Delivery) (reply : Told) → Answers was xs → IsDue was xs d reply → Answers was (xs ++ (d, reply) ∷ [])
+answers_then : (was : Stored) (xs : List Exchange) (d : Delivery) (reply : ReplyView) → Answers was xs → IsDue was xs d reply → Answers was (xs ++ (d, reply) ∷ [])
 answers_then was xs d reply p due before x after e = by (split xs ((d, reply) ∷ []) before x after e)
   where
     last : (more : List Exchange) → xs ++ more ≡ before → (d, reply) ∷ [] ≡ more ++ x ∷ after → IsDue was before x.0 x.1
@@ -58,7 +58,7 @@ answers_then was xs d reply p due before x after e = by (split xs ((d, reply) �
     by (inr u) = last u.0 u.1 u.2
 
 -- whatever follows the exchanges that lead to what a crash left continues them
-continued : (was : Stored) (xs between : List Exchange) (db : Trees) (had : LeavesAfter was (served xs ++ between) db) → IsInProgress was (served xs) between → Answers was (served xs ++ between) → RestartsFrom was xs db
+continued : (was : Stored) (xs between : List Exchange) (db : Trees) (had : RecoversExchanges was (served xs ++ between) db) → IsInProgress was (served xs) between → Answers was (served xs ++ between) → RestartsFrom was xs db
 continued was xs between db had in_progress answers = record {
   left = had.now;
   leaves = had.leaves;
@@ -81,23 +81,23 @@ module _ {S : Type 0} {g : Ghosts S} where
       → (db : Trees) → (state_in new).may_leave db → RestartsFrom was xs db
   restarts old new was now xs p over db it = by (p.crash over)
     where
-      acknowledged : LeavesAfter was (served xs) db → RestartsFrom was xs db
+      acknowledged : RecoversExchanges was (served xs) db → RestartsFrom was xs db
       acknowledged left =
-          let P : List Exchange → Type 0 = λ zs. LeavesAfter was zs db in
+          let P : List Exchange → Type 0 = λ zs. RecoversExchanges was zs db in
           let Q : List Exchange → Type 0 = λ zs. Answers was zs in
           let same : served xs ≡ served xs ++ [] = sym (append-nil (served xs)) in
           continued was xs [] db (subst P same left) (inl refl) (subst Q same p.serves.replies)
 
-      with_one : (before : List Exchange) (d : Delivery) → served xs ≡ before → is_first was.replies before d ≡ true → LeavesAfter was (before ++ (d, reply_after was before d.command) ∷ []) db → RestartsFrom was xs db
+      with_one : (before : List Exchange) (d : Delivery) → served xs ≡ before → is_first was.replies before d ≡ true → RecoversExchanges was (before ++ (d, reply_after was before d.command) ∷ []) db → RestartsFrom was xs db
       with_one before d same first left =
           let F : List Exchange → Type 0 = λ zs. is_first was.replies zs d ≡ true in
-          let P : List Exchange → Type 0 = λ zs. LeavesAfter was (zs ++ (d, reply_after was zs d.command) ∷ []) db in
+          let P : List Exchange → Type 0 = λ zs. RecoversExchanges was (zs ++ (d, reply_after was zs d.command) ∷ []) db in
           let here = subst F (sym same) first in
           let one = reply_after was (served xs) d.command in
           continued was xs ((d, one) ∷ []) db (subst P (sym same) left) (inr (d, here, refl)) (answers_then was (served xs) d one p.serves.replies (due_in_progress was (served xs) d here))
 
-      by : IsFoundAfter old new was xs → RestartsFrom was xs db
+      by : RecoversAcknowledged old new was xs → RestartsFrom was xs db
       by (inl leaves) = acknowledged (leaves db it)
       by (inr u) =
-          let same : served xs ≡ served u.at.before = ap served u.at.split ∙ served-append u.at.before (u.at.exchange ∷ u.at.after) ∙ ap (λ zs. served u.at.before ++ zs) u.at.unanswered ∙ append-nil (served u.at.before) in
+          let same : served xs ≡ served u.at.before = ap served u.at.split ∙ served-append u.at.before (u.at.exchange ∷ u.at.after) ∙ ap (λ zs. served u.at.before ++ zs) u.at.unserved ∙ append-nil (served u.at.before) in
           elim (u.leaves db it) [ inl left ↦ acknowledged left | inr left ↦ with_one (served u.at.before) u.at.exchange.0 same u.first left ]

@@ -11,12 +11,12 @@ use Rattle.reg_core.specs.declared.code.Code.TheVariants.{KeyReused, BackendFaul
 use Rattle.reg_core.specs.CommandTexts.{command_text}
 use Rattle.reg_core.specs.declared.command.Command.{Command}
 use Rattle.reg_core.specs.Machine.{is_write, step, run_commands}
-use Rattle.reg_core.specs.Replies.{Told, IsKeptStatus, IsOwnReply, fault}
+use Rattle.reg_core.specs.Replies.{ReplyView, IsKeptStatus, IsCommandReply, fault}
 use Rattle.reg_core.specs.declared.delivery.Delivery.{Delivery}
-use Rattle.reg_core.specs.KeptReplies.{Kept, Entry, kept_with}
+use Rattle.reg_core.specs.KeptReplies.{Kept, KeptEntry, kept_with}
 use Rattle.reg_core.specs.Stored.{Stored}
 use Rattle.reg_core.proofs.UnchangedRegistries.{step-read}
-use Rattle.reg_service.specs.Deliveries.{Exchange, key_of, has_key, is_new, is_first, firsts, entry_of, kept_after, IsDue, Answers, AreAdmittedBy, LeadsTo, Serves, served, is_backend_fault}
+use Rattle.reg_service.specs.Deliveries.{Exchange, key_of, has_key, is_new, is_first, firsts, exchange_entry, kept_after, IsDue, Answers, IsEvidenceAfterAll, LeadsTo, Serves, served, is_backend_fault}
 use Rattle.reg_service.specs.Inside.Steps.{StepsTo}
 use Rattle.reg_service.proofs.JoinedExchanges.{option_or-none, kept_after-nil, serves_none}
 
@@ -49,7 +49,7 @@ is_first-keyed k d key e =
     by false = refl
 
 -- the reply that is due to a read, or to a write without a key
-due_keyless : (was : Stored) (d : Delivery) (reply : Told)
+due_keyless : (was : Stored) (d : Delivery) (reply : ReplyView)
     → key_of d ≡ None → reply ≡ (step was.registry d.command).1 → IsDue was [] d reply
 due_keyless was d reply keyless e = record {
   read = λ _. e;
@@ -59,7 +59,7 @@ due_keyless was d reply keyless e = record {
 }
 
 -- the reply that is due where nothing is kept under the key
-due_first : (was : Stored) (d : Delivery) (key : List ℕ) (reply : Told)
+due_first : (was : Stored) (d : Delivery) (key : List ℕ) (reply : ReplyView)
     → key_of d ≡ Some key → was.replies key ≡ None → reply ≡ (step was.registry d.command).1 → IsDue was [] d reply
 due_first was d key reply some new e = record {
   read = λ _. e;
@@ -68,7 +68,7 @@ due_first was d key reply some new e = record {
   other = λ key2 entry some2 has _. absurd (none key2 entry some2 has);
 }
   where
-    none : (key2 : List ℕ) (entry : Entry) → key_of d ≡ Some key2 → kept_after was.replies [] key2 ≡ Some entry → ⊥
+    none : (key2 : List ℕ) (entry : KeptEntry) → key_of d ≡ Some key2 → kept_after was.replies [] key2 ≡ Some entry → ⊥
     none key2 entry some2 has =
         let same : key ≡ key2 = cc in
         let at : was.replies key2 ≡ Some entry = (λ i. sym (kept_after-nil was.replies) i key2) ∙ has in
@@ -76,7 +76,7 @@ due_first was d key reply some new e = record {
         cc
 
 -- the reply that is due where an entry is kept under the key
-due_again : (was : Stored) (d : Delivery) (key : List ℕ) (entry : Entry) (reply : Told)
+due_again : (was : Stored) (d : Delivery) (key : List ℕ) (entry : KeptEntry) (reply : ReplyView)
     → key_of d ≡ Some key → was.replies key ≡ Some entry
     → (command_text d.command ≡ entry.command → reply ≡ entry.reply)
     → (command_text d.command ≢ entry.command → reply ≡ fault KeyReused)
@@ -85,51 +85,51 @@ due_again was d key entry reply some has same other = record {
   read = λ f. off (is_write d.command) (key_of-write d key some) f;
   first = λ f. off (is_first was.replies [] d) f (is_first-keyed was.replies d key some ∙ ap is_none has);
   again = λ key2 entry2 some2 has2 text. let e : entry ≡ entry2 = one key2 entry2 some2 has2 in
-      same (text ∙ ap (λ (x : Entry). x.command) (sym e)) ∙ ap (λ (x : Entry). x.reply) e;
+      same (text ∙ ap (λ (x : KeptEntry). x.command) (sym e)) ∙ ap (λ (x : KeptEntry). x.reply) e;
   other = λ key2 entry2 some2 has2 text. let e : entry ≡ entry2 = one key2 entry2 some2 has2 in
-      other (λ h. text (h ∙ ap (λ (x : Entry). x.command) e));
+      other (λ h. text (h ∙ ap (λ (x : KeptEntry). x.command) e));
 }
   where
-    one : (key2 : List ℕ) (entry2 : Entry) → key_of d ≡ Some key2 → kept_after was.replies [] key2 ≡ Some entry2 → entry ≡ entry2
+    one : (key2 : List ℕ) (entry2 : KeptEntry) → key_of d ≡ Some key2 → kept_after was.replies [] key2 ≡ Some entry2 → entry ≡ entry2
     one key2 entry2 some2 has2 =
         let e : key ≡ key2 = cc in
         let at : was.replies key2 ≡ Some entry2 = (λ i. sym (kept_after-nil was.replies) i key2) ∙ has2 in
         let f : was.replies key ≡ was.replies key2 = ap was.replies e in cc
 
 -- what a write leaves under its key
-pub kept_after-keyed : (k : Kept) (d : Delivery) (reply : Told) (key q : List ℕ) → key_of d ≡ Some key → k key ≡ None
+pub kept_after-keyed : (k : Kept) (d : Delivery) (reply : ReplyView) (key q : List ℕ) → key_of d ≡ Some key → k key ≡ None
     → kept_after k ((d, reply) ∷ []) q ≡ (if bytes_eq key q then Some (record { command = command_text d.command; reply = reply }) else k q)
 kept_after-keyed k d reply key q some new =
-    (λ i. option_or (k q) (option_map entry_of (cond (test i) (Some (d, reply)) None))) ∙ by (bytes_eq key q) (bytes_eq-Decides key q)
+    (λ i. option_or (k q) (option_map exchange_entry (cond (test i) (Some (d, reply)) None))) ∙ by (bytes_eq key q) (bytes_eq-Decides key q)
   where
     test : has_key q d ≡ bytes_eq key q
     test = ap (λ o. option_map_or (bytes_eq q) o false) some ∙ nat_list_eq_equiv.symm q key
 
     by : (b : Bool) → Decides b (key ≡ q)
-        → option_or (k q) (option_map entry_of (cond b (Some (d, reply)) None)) ≡ (if b then Some (record { command = command_text d.command; reply = reply }) else k q)
+        → option_or (k q) (option_map exchange_entry (cond b (Some (d, reply)) None)) ≡ (if b then Some (record { command = command_text d.command; reply = reply }) else k q)
     by true same = ap (λ o. option_or o (Some (record { command = command_text d.command; reply = reply }))) (ap k (sym (same.0 refl)) ∙ new)
     by false differs = option_or-none (k q)
 
 -- what has no key, or a known one, leaves nothing
-pub kept_after-known : (k : Kept) (d : Delivery) (reply : Told) → ((key : List ℕ) → key_of d ≡ Some key → is_none (k key) ≡ false)
+pub kept_after-known : (k : Kept) (d : Delivery) (reply : ReplyView) → ((key : List ℕ) → key_of d ≡ Some key → is_none (k key) ≡ false)
     → kept_after k ((d, reply) ∷ []) ≡ k
 kept_after-known k d reply known = λ i q. at (key_of d) known q (k q) refl i
   where
-    test : (b : Bool) → b ≡ false → option_map entry_of (cond b (Some (d, reply)) None) ≡ None
-    test b e = ap (λ (c : Bool). option_map entry_of (cond c (Some (d, reply)) None)) e
+    test : (b : Bool) → b ≡ false → option_map exchange_entry (cond b (Some (d, reply)) None) ≡ None
+    test b e = ap (λ (c : Bool). option_map exchange_entry (cond c (Some (d, reply)) None)) e
 
     differs : (q key : List ℕ) (b : Bool) → Decides b (q ≡ key) → is_none (k key) ≡ false → k q ≡ None → b ≡ false
     differs q key true same old none = off (is_none (k key)) (ap is_none (ap k (sym (same.0 refl)) ∙ none)) old
     differs q key false same old none = refl
 
-    at : (own : Option (List ℕ)) → ((key : List ℕ) → own ≡ Some key → is_none (k key) ≡ false) → (q : List ℕ) (o : Option Entry) → k q ≡ o
-        → option_or o (option_map entry_of (cond (option_map_or (bytes_eq q) own false) (Some (d, reply)) None)) ≡ o
+    at : (own : Option (List ℕ)) → ((key : List ℕ) → own ≡ Some key → is_none (k key) ≡ false) → (q : List ℕ) (o : Option KeptEntry) → k q ≡ o
+        → option_or o (option_map exchange_entry (cond (option_map_or (bytes_eq q) own false) (Some (d, reply)) None)) ≡ o
     at own old q (Some entry) e = refl
     at None old q None e = refl
     at (Some key) old q None e = test (bytes_eq q key) (differs q key (bytes_eq q key) (bytes_eq-Decides q key) (old key refl) e)
 
 -- the firsts of one delivery
-firsts-one : (k : Kept) (d : Delivery) (reply : Told) (b : Bool) → is_first k [] d ≡ b → firsts k ((d, reply) ∷ []) ≡ (if b then d.command ∷ [] else [])
+firsts-one : (k : Kept) (d : Delivery) (reply : ReplyView) (b : Bool) → is_first k [] d ≡ b → firsts k ((d, reply) ∷ []) ≡ (if b then d.command ∷ [] else [])
 firsts-one k d reply b e = ap (λ (t : Bool). (if t then d.command ∷ [] else []) ++ []) e ∙ by b
   where
     by : (t : Bool) → (if t then d.command ∷ [] else []) ++ [] ≡ (if t then d.command ∷ [] else [])
@@ -137,25 +137,25 @@ firsts-one k d reply b e = ap (λ (t : Bool). (if t then d.command ∷ [] else [
     by false = refl
 
 -- a first delivery leads to what its command makes, where its reply is kept as it is due
-pub leads_first : (was now : Stored) (d : Delivery) (reply : Told) → is_first was.replies [] d ≡ true → StepsTo was d.command now
+pub leads_first : (was now : Stored) (d : Delivery) (reply : ReplyView) → is_first was.replies [] d ≡ true → StepsTo was d.command now
     → now.replies ≡ kept_after was.replies ((d, reply) ∷ []) → LeadsTo was ((d, reply) ∷ []) now
 leads_first was now d reply first steps kept =
     let one = firsts-one was.replies d reply true first in
     record {
       registry = steps.registry ∙ ap (run_commands was.registry) (sym one);
       kept = kept;
-      evidence = subst (λ (cs : List Command). AreAdmittedBy was.registry cs was.evidence now.evidence) (sym one) (now.evidence, steps.evidence, refl);
+      evidence = subst (λ (cs : List Command). IsEvidenceAfterAll was.registry cs was.evidence now.evidence) (sym one) (now.evidence, steps.evidence, refl);
     }
 
 -- another one leads nowhere
-leads_still : (was : Stored) (d : Delivery) (reply : Told) → is_first was.replies [] d ≡ false
+leads_still : (was : Stored) (d : Delivery) (reply : ReplyView) → is_first was.replies [] d ≡ false
     → kept_after was.replies ((d, reply) ∷ []) ≡ was.replies → LeadsTo was ((d, reply) ∷ []) was
 leads_still was d reply later kept =
     let none = firsts-one was.replies d reply false later in
     record {
       registry = ap (run_commands was.registry) (sym none);
       kept = sym kept;
-      evidence = subst (λ (cs : List Command). AreAdmittedBy was.registry cs was.evidence was.evidence) (sym none) refl;
+      evidence = subst (λ (cs : List Command). IsEvidenceAfterAll was.registry cs was.evidence was.evidence) (sym none) refl;
     }
 
 -- a read makes nothing of what is stored
@@ -163,7 +163,7 @@ pub steps_nowhere : (was now : Stored) (c : Command) → is_write c ≡ false �
 steps_nowhere was now c read steps kept =
     λ i. record { registry = (steps.registry ∙ step-read was.registry c read) i; replies = kept i; evidence = steps.read read i }
 
-serves_one : (was now : Stored) (d : Delivery) (reply : Told) → LeadsTo was ((d, reply) ∷ []) now → IsDue was [] d reply → Serves was ((d, reply) ∷ []) now
+serves_one : (was now : Stored) (d : Delivery) (reply : ReplyView) → LeadsTo was ((d, reply) ∷ []) now → IsDue was [] d reply → Serves was ((d, reply) ∷ []) now
 serves_one was now d reply leads due = record { leads = leads; replies = alone }
   where
     alone : Answers was ((d, reply) ∷ [])
@@ -174,7 +174,7 @@ serves_one was now d reply leads due = record { leads = leads; replies = alone }
     alone (b ∷ c ∷ before) x after e = absurd (cc)
 
 -- a reply with another status than 500 isn't the backend's fault
-not_backend_fault : (reply : Told) → reply.status ≢ 500 → is_backend_fault reply ≡ false
+not_backend_fault : (reply : ReplyView) → reply.status ≢ 500 → is_backend_fault reply ≡ false
 not_backend_fault reply differs = by (reply.status == 500) (Decides-eqb reply.status 500)
   where
     by : (b : Bool) → Decides b (reply.status ≡ 500) → b && bytes_eq reply.body (fault BackendFault).body ≡ false
@@ -182,11 +182,11 @@ not_backend_fault reply differs = by (reply.status == 500) (Decides-eqb reply.st
     by false same = refl
 
 -- so a reply of the registry's own isn't
-pub no_backend_fault : (reply : Told) → IsOwnReply reply → reply.status ≢ 500
+pub no_backend_fault : (reply : ReplyView) → IsCommandReply reply → reply.status ≢ 500
 no_backend_fault reply own is = both_ways _ refl (subst IsKeptStatus is own.kept)
 
 -- A read, or a write without a key, is carried out.
-pub serves_keyless : (was now : Stored) (d : Delivery) (reply : Told) → key_of d ≡ None → reply ≡ (step was.registry d.command).1 → reply.status ≢ 500
+pub serves_keyless : (was now : Stored) (d : Delivery) (reply : ReplyView) → key_of d ≡ None → reply ≡ (step was.registry d.command).1 → reply.status ≢ 500
     → StepsTo was d.command now → now.replies ≡ was.replies → Serves was (served ((d, reply) ∷ [])) now
 serves_keyless was now d reply keyless e ok steps kept =
     rw (not_backend_fault reply ok) (serves_one was now d reply (by (is_write d.command) refl) (due_keyless was d reply keyless e))
@@ -201,12 +201,12 @@ serves_keyless was now d reply keyless e ok steps kept =
         subst P (sym (steps_nowhere was now d.command read steps kept)) (leads_still was d reply (is_first-keyless was.replies [] d keyless ∙ read) nothing)
 
 -- what is kept of a first delivery of a key is what it leaves
-pub kept_first : (k : Kept) (d : Delivery) (key : List ℕ) (reply : Told) → key_of d ≡ Some key → k key ≡ None
+pub kept_first : (k : Kept) (d : Delivery) (key : List ℕ) (reply : ReplyView) → key_of d ≡ Some key → k key ≡ None
     → kept_with k key (record { command = command_text d.command; reply = reply }) ≡ kept_after k ((d, reply) ∷ [])
 kept_first k d key reply some new = λ i q. sym (kept_after-keyed k d reply key q some new) i
 
 -- The first delivery of a key is carried out and kept.
-pub serves_first : (was now : Stored) (d : Delivery) (key : List ℕ) (reply : Told)
+pub serves_first : (was now : Stored) (d : Delivery) (key : List ℕ) (reply : ReplyView)
     → key_of d ≡ Some key → was.replies key ≡ None → reply ≡ (step was.registry d.command).1 → reply.status ≢ 500 → StepsTo was d.command now
     → now.replies ≡ kept_with was.replies key (record { command = command_text d.command; reply = reply }) → Serves was (served ((d, reply) ∷ [])) now
 serves_first was now d key reply some new e ok steps kept =
@@ -216,7 +216,7 @@ serves_first was now d key reply some new e ok steps kept =
     (due_first was d key reply some new e))
 
 -- A later delivery of a key changes nothing.
-pub serves_again : (was : Stored) (d : Delivery) (key : List ℕ) (entry : Entry) (reply : Told)
+pub serves_again : (was : Stored) (d : Delivery) (key : List ℕ) (entry : KeptEntry) (reply : ReplyView)
     → key_of d ≡ Some key → was.replies key ≡ Some entry
     → (command_text d.command ≡ entry.command → reply ≡ entry.reply)
     → (command_text d.command ≢ entry.command → reply ≡ fault KeyReused)
@@ -233,13 +233,13 @@ serves_again was d key entry reply some has same other = by (is_backend_fault re
         (due_again was d key entry reply some has same other)
 
 -- what is answered 50001 counts for nothing
-pub served_fault : (d : Delivery) (reply : Told) → reply ≡ fault BackendFault → served ((d, reply) ∷ []) ≡ []
+pub served_fault : (d : Delivery) (reply : ReplyView) → reply ≡ fault BackendFault → served ((d, reply) ∷ []) ≡ []
 served_fault d reply e =
     let is : is_backend_fault reply ≡ true = ap is_backend_fault e ∙ (bytes_eq-Decides (fault BackendFault).body (fault BackendFault).body).1 refl in
     ap (λ (b : Bool). cond (not b) ((d, reply) ∷ []) []) is
 
 -- A delivery for which memory was refused.
-pub serves_refused : (was : Stored) (d : Delivery) (reply : Told) → reply ≡ fault BackendFault → Serves was (served ((d, reply) ∷ [])) was
+pub serves_refused : (was : Stored) (d : Delivery) (reply : ReplyView) → reply ≡ fault BackendFault → Serves was (served ((d, reply) ∷ [])) was
 serves_refused was d reply e =
     let P : List Exchange → Type 0 = λ xs. Serves was xs was in
     subst P (sym (served_fault d reply e)) (serves_none was)

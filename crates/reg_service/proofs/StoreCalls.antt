@@ -11,20 +11,20 @@ use Rattle.reg_core.specs.declared.decision.Change.{Change}
 use Rattle.reg_core.specs.declared.decision.Decision.{Decision}
 use Rattle.reg_core.specs.declared.decision.View.{View}
 use Rattle.reg_core.specs.KeptReplies.{Kept}
-use Rattle.reg_core.specs.Evidence.{IsOfVersions}
+use Rattle.reg_core.specs.Evidence.{HasOnlyVersions}
 use Rattle.reg_core.specs.Stored.{Stored}
-use Rattle.reg_core.specs.Views.{ChangesFit, IsGround, Decides, schema_taken, evidence_after_changes}
+use Rattle.reg_core.specs.Views.{ChangesFit, IsDecisionInput, IsDecisionFor, used_schema, evidence_after_changes}
 use Rattle.reg_store.specs.declared.keep.Keep.{Keep}
-use Rattle.reg_store.specs.Changes.{IsTaken, made_of, stored_after, with_reply}
-use Rattle.reg_store.specs.Stores.{SpellsOn}
-use Rattle.reg_service.specs.Inside.Steps.{StepsTo, HoldsAfter, IsDecidedFor}
+use Rattle.reg_store.specs.Changes.{HoldsAfterChanges, stored_after_changes, stored_after_apply, with_reply}
+use Rattle.reg_store.specs.Stores.{StillSpells}
+use Rattle.reg_service.specs.Inside.Steps.{StepsTo, HoldsAfterCommand, IsDecisionOfStep}
 
 -- what holds anyway holds where a result is an error
 pub whatever_fails : {X E P : Type 0} (r : Result X E) → P → OnErr r P
 whatever_fails (Ok x) p = tt
 whatever_fails (Err e) p = p
 
-pub on_then : (a b c : State) → SpellsOn a b → SpellsOn b c → SpellsOn a c
+pub on_then : (a b c : State) → StillSpells a b → StillSpells b c → StillSpells a c
 on_then a b c f h was s = h was (f was s)
 
 is_zero : (n : ℕ) → (n == 0) ≡ true → n ≡ 0
@@ -44,8 +44,8 @@ fails_as (Err e) f h = f h
 -- ---- decisions
 
 -- on its ground a decision is the one for what is stored
-pub decided_for : (was : Stored) (command : Command) (schema : Option (List NodeView)) (view : View) (d : Decision) → Decides command schema view d
-    → IsGround was.registry command (schema_taken command schema) view → IsOfVersions was.registry was.evidence → IsDecidedFor was command d
+pub decided_for : (was : Stored) (command : Command) (schema : Option (List NodeView)) (view : View) (d : Decision) → IsDecisionFor command schema view d
+    → IsDecisionInput was.registry command (used_schema command schema) view → HasOnlyVersions was.registry was.evidence → IsDecisionOfStep was command d
 decided_for was command schema view d decides ground owners = record {
   reply = decides.reply was.registry ground;
   steps = record {
@@ -57,20 +57,20 @@ decided_for was command schema view d decides ground owners = record {
 }
 
 -- what follows from what holds of what is taken holds of it
-pub taken_as : {changes : List Change} {keep : Option Keep} {was : Stored} {P Q : Stored → Type 0} → ((now : Stored) → P now → Q now) → IsTaken changes keep was P → IsTaken changes keep was Q
-taken_as {changes} {keep} {was} f taken = record { holds = f (stored_after changes keep was) taken.holds; stays_true = taken.stays_true }
+pub taken_as : {changes : List Change} {keep : Option Keep} {was : Stored} {P Q : Stored → Type 0} → ((now : Stored) → P now → Q now) → HoldsAfterChanges changes keep was P → HoldsAfterChanges changes keep was Q
+taken_as {changes} {keep} {was} f taken = record { holds = f (stored_after_apply changes keep was) taken.holds; stays_true = taken.stays_true }
 
-module _ (was : Stored) (command : Command) (d : Decision) (decided : IsDecidedFor was command d) where
+module _ (was : Stored) (command : Command) (d : Decision) (decided : IsDecisionOfStep was command d) where
   -- what is stored can have the changes of a decision
   pub fits : (changes : List Change) → changes ≡ d.changes.items → ChangesFit changes was.registry
   fits changes is = subst (λ (l : List Change). ChangesFit l was.registry) (sym is) decided.fit
 
   -- what holds after them and the reply holds after the command
-  pub makes : (changes : List Change) (keep : Option Keep) (kept : Kept) (Holds : Stored → Type 0) → changes ≡ d.changes.items → IsTaken changes keep was Holds → with_reply keep was.replies ≡ kept → HoldsAfter was command kept Holds
+  pub makes : (changes : List Change) (keep : Option Keep) (kept : Kept) (Holds : Stored → Type 0) → changes ≡ d.changes.items → HoldsAfterChanges changes keep was Holds → with_reply keep was.replies ≡ kept → HoldsAfterCommand was command kept Holds
   makes changes keep kept Holds is taken replies =
-      let s : StepsTo was command (made_of changes was) = subst (λ (l : List Change). StepsTo was command (made_of l was)) (sym is) decided.steps in
+      let s : StepsTo was command (stored_after_changes changes was) = subst (λ (l : List Change). StepsTo was command (stored_after_changes l was)) (sym is) decided.steps in
       record {
-        now = stored_after changes keep was;
+        now = stored_after_apply changes keep was;
         steps = record { registry = s.registry; evidence = s.evidence; read = s.read };
         replies = replies;
         stays_true = taken.stays_true;
@@ -78,5 +78,5 @@ module _ (was : Stored) (command : Command) (d : Decision) (decided : IsDecidedF
       }
 
   -- without a change, what holds before holds after it
-  pub makes_nothing : (Holds : Stored → Type 0) → d.changes.items ≡ [] → Holds was → HoldsAfter was command was.replies Holds
+  pub makes_nothing : (Holds : Stored → Type 0) → d.changes.items ≡ [] → Holds was → HoldsAfterCommand was command was.replies Holds
   makes_nothing Holds none holds = makes [] None was.replies Holds (sym none) (record { holds = holds; stays_true = λ all. all }) refl

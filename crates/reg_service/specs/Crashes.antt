@@ -3,38 +3,38 @@ use Rattle.std.specs.Prelude.{◌≡◌, ◌⊎◌, IsTrue, List, [], ◌∷◌,
 use Rattle.sqlite.specs.Tree.{Trees}
 use Rattle.sqlite.specs.State.{State}
 use Rattle.reg_core.specs.declared.code.Code.TheVariants.{BackendFault}
-use Rattle.reg_core.specs.Replies.{Told, fault}
+use Rattle.reg_core.specs.Replies.{ReplyView, fault}
 use Rattle.reg_core.specs.Stored.{Stored, HasTrueEvidence}
 use Rattle.sqlite_trees.specs.declared.store.Store.{Ghosts}
-use Rattle.reg_store.specs.Spells.{Leaves, IsOpenOver}
+use Rattle.reg_store.specs.Spells.{RecoversTo, IsOpenOver}
 use Rattle.reg_service.specs.declared.service.Service.{Service}
-use Rattle.reg_service.specs.Services.{KeepsService, SplitAt, state_in}
+use Rattle.reg_service.specs.Services.{PreservesService, SplitAt, state_in}
 use Rattle.reg_service.specs.Deliveries.{Exchange, LeadsTo, Serves, is_first, reply_after, served}
 
 -- SQLite, transactions: the database that a crash leaves spells what these exchanges lead to: the registry, the kept replies and the evidence of versions,
 -- all three together
-pub record LeavesAfter (was : Stored) (xs : List Exchange) (db : Trees) : Type 0 where
+pub record RecoversExchanges (was : Stored) (xs : List Exchange) (db : Trees) : Type 0 where
   pub now : Stored
   pub leads : LeadsTo was xs now
   -- if all evidence of versions was true, it still is
   pub stays_true : HasTrueEvidence was → HasTrueEvidence now
-  pub leaves : Leaves db now
+  pub leaves : RecoversTo db now
 
--- This project's choice: a first delivery was in progress. The disk failed at it, and each reply from it on is 50001. Each database that may be left
+-- This project's choice: a first delivery got the reply 50001, and so did each one after it. Each database that may be left
 -- has all that was acknowledged, or that and this delivery with the plain machine's reply.
-pub record LeavesUnderWay {S : Type 0} {g : Ghosts S} (old new : Service S g) (was : Stored) (xs : List Exchange) : Type 0 where
+pub record RecoversInFlight {S : Type 0} {g : Ghosts S} (old new : Service S g) (was : Stored) (xs : List Exchange) : Type 0 where
   pub at : SplitAt old new xs
   -- only a fault of the disk closes a connection
   pub was_open : IsTrue (state_in at.reached).is_open
-  pub shut : IsTrue (state_in at.left).is_open → ⊥
+  pub closed : IsTrue (state_in at.left).is_open → ⊥
   pub first : IsTrue (is_first was.replies (served at.before) at.exchange.0)
   pub leaves : (db : Trees) → (state_in new).may_leave db
-      → LeavesAfter was (served xs) db ⊎ LeavesAfter was (served at.before ++ (at.exchange.0, reply_after was (served at.before) at.exchange.0.command) ∷ []) db
+      → RecoversExchanges was (served xs) db ⊎ RecoversExchanges was (served at.before ++ (at.exchange.0, reply_after was (served at.before) at.exchange.0.command) ∷ []) db
 
 -- This project's choice: a crash leaves all that was acknowledged, with or without one delivery in progress. It is the same delivery for all databases
 -- that may be left.
-abbrev pub IsFoundAfter : {S : Type 0} {g : Ghosts S} → Service S g → Service S g → Stored → List Exchange → Type 0
-IsFoundAfter old new was xs = ((db : Trees) → (state_in new).may_leave db → LeavesAfter was (served xs) db) ⊎ LeavesUnderWay old new was xs
+abbrev pub RecoversAcknowledged : {S : Type 0} {g : Ghosts S} → Service S g → Service S g → Stored → List Exchange → Type 0
+RecoversAcknowledged old new was xs = ((db : Trees) → (state_in new).may_leave db → RecoversExchanges was (served xs) db) ⊎ RecoversInFlight old new was xs
 
 -- This project's choice: the service carried out these exchanges, from what was stored to what is, and they are durable: a crash leaves all that was
 -- acknowledged, with or without one delivery in progress.
@@ -43,14 +43,14 @@ pub record ServesDurably {S : Type 0} {g : Ghosts S} (old new : Service S g) (wa
   -- if all evidence of versions was true, it still is
   pub stays_true : HasTrueEvidence was → HasTrueEvidence now
   -- after a fault of the disk, and over a closed connection, nothing is acknowledged
-  pub keeps : KeepsService old new (served xs ≡ [])
-  pub crash : IsOpenOver (state_in old) was → IsFoundAfter old new was xs
+  pub keeps : PreservesService old new (served xs ≡ [])
+  pub crash : IsOpenOver (state_in old) was → RecoversAcknowledged old new was xs
 
 -- this project's choice: an error is answered 50001
-abbrev pub reply_or_fault : {E : Type 0} → Result Told E → Told
+abbrev pub reply_or_fault : {E : Type 0} → Result ReplyView E → ReplyView
 reply_or_fault (Ok reply) = reply
 reply_or_fault (Err e) = fault BackendFault
 
 -- SQLite, transactions: over a connection that is open, a crash leaves what the tables spell, and nothing else
-abbrev pub LeavesSpelled : State → Type 0
-LeavesSpelled s = (was : Stored) → IsOpenOver s was → (db : Trees) → s.may_leave db → Leaves db was
+abbrev pub RecoversSpelled : State → Type 0
+RecoversSpelled s = (was : Stored) → IsOpenOver s was → (db : Trees) → s.may_leave db → RecoversTo db was

@@ -8,15 +8,15 @@ use Rattle.reg_core.specs.declared.command.Command.{Command}
 use Rattle.reg_core.specs.CommandTexts.{command_text}
 use Rattle.reg_core.specs.Machine.{is_write, step, run_commands}
 use Rattle.reg_core.specs.Registry.{Registry}
-use Rattle.reg_core.specs.Replies.{Told, fault}
-use Rattle.reg_core.specs.KeptReplies.{Entry, Kept}
-use Rattle.reg_core.specs.Evidence.{EvidenceOf, IsEvidenceAfter}
+use Rattle.reg_core.specs.Replies.{ReplyView, fault}
+use Rattle.reg_core.specs.KeptReplies.{KeptEntry, Kept}
+use Rattle.reg_core.specs.Evidence.{EvidenceMap, IsEvidenceAfter}
 use Rattle.reg_core.specs.Stored.{Stored}
 use Rattle.reg_core.specs.declared.delivery.Delivery.{Delivery}
 
 -- A delivery and the reply to it.
 abbrev pub Exchange : Type 0
-Exchange = Delivery × Told
+Exchange = Delivery × ReplyView
 
 -- The retry key of a write, if it has one. A read has none: a key beside it is ignored.
 abbrev pub key_of : Delivery → Option (List ℕ)
@@ -46,28 +46,28 @@ abbrev pub firsts : Kept → List Exchange → List Command
 firsts k xs = firsts_after k [] xs
 
 -- What an exchange leaves under its key.
-abbrev pub entry_of : Exchange → Entry
-entry_of x = record { command = command_text x.0.command; reply = x.1 }
+abbrev pub exchange_entry : Exchange → KeptEntry
+exchange_entry x = record { command = command_text x.0.command; reply = x.1 }
 
 -- What is kept after the list: what was kept before, and under each other key the text and the
 -- reply of the first write with it.
 abbrev pub kept_after : Kept → List Exchange → Kept
-kept_after k xs key = option_or (k key) (option_map entry_of (find (λ x. has_key key x.0) xs))
+kept_after k xs key = option_or (k key) (option_map exchange_entry (find (λ x. has_key key x.0) xs))
 
 -- The plain machine's reply to a command, after the first deliveries among the exchanges `before`.
-abbrev pub reply_after : Stored → List Exchange → Command → Told
+abbrev pub reply_after : Stored → List Exchange → Command → ReplyView
 reply_after was before command = (step (run_commands was.registry (firsts was.replies before)) command).1
 
 -- The reply that is due to a delivery that comes after the exchanges `before`.
-pub record IsDue (was : Stored) (before : List Exchange) (d : Delivery) (reply : Told) : Type 0 where
+pub record IsDue (was : Stored) (before : List Exchange) (d : Delivery) (reply : ReplyView) : Type 0 where
   -- A read and a first delivery are carried out.
   pub read : IsFalse (is_write d.command) → reply ≡ reply_after was before d.command
   pub first : IsTrue (is_first was.replies before d) → reply ≡ reply_after was before d.command
   -- A key that comes with its own command again gets the reply that it has.
-  pub again : (key : List ℕ) (entry : Entry) → key_of d ≡ Some key → kept_after was.replies before key ≡ Some entry
+  pub again : (key : List ℕ) (entry : KeptEntry) → key_of d ≡ Some key → kept_after was.replies before key ≡ Some entry
       → command_text d.command ≡ entry.command → reply ≡ entry.reply
   -- A key that comes with another command is refused.
-  pub other : (key : List ℕ) (entry : Entry) → key_of d ≡ Some key → kept_after was.replies before key ≡ Some entry
+  pub other : (key : List ℕ) (entry : KeptEntry) → key_of d ≡ Some key → kept_after was.replies before key ≡ Some entry
       → command_text d.command ≢ entry.command → reply ≡ fault KeyReused
 
 -- Each exchange, at its position in the list, has the reply that is due there.
@@ -77,17 +77,17 @@ Answers was xs = (before : List Exchange) (x : Exchange) (after : List Exchange)
 
 -- The evidence of versions after the commands, a fold beside the registry's: a version that one of them added has the level
 -- that was in force then, and the ids that this named; one that is gone has none; and one that was there has what it had.
-abbrev pub AreAdmittedBy : Registry → List Command → EvidenceOf → EvidenceOf → Type 0
-AreAdmittedBy g [] old new = new ≡ old
-AreAdmittedBy g (command ∷ commands) old new =
-    (mid : EvidenceOf) × IsEvidenceAfter g command old mid × AreAdmittedBy (step g command).0 commands mid new
+abbrev pub IsEvidenceAfterAll : Registry → List Command → EvidenceMap → EvidenceMap → Type 0
+IsEvidenceAfterAll g [] old new = new ≡ old
+IsEvidenceAfterAll g (command ∷ commands) old new =
+    (mid : EvidenceMap) × IsEvidenceAfter g command old mid × IsEvidenceAfterAll (step g command).0 commands mid new
 
 -- The exchanges lead from what was stored to what is: the registry is the plain machine's after the first deliveries, each
 -- once; their replies are kept; and the evidence of versions is what the registry named as each of them was carried out.
 pub record LeadsTo (was : Stored) (xs : List Exchange) (now : Stored) : Type 0 where
   pub registry : now.registry ≡ run_commands was.registry (firsts was.replies xs)
   pub kept : now.replies ≡ kept_after was.replies xs
-  pub evidence : AreAdmittedBy was.registry (firsts was.replies xs) was.evidence now.evidence
+  pub evidence : IsEvidenceAfterAll was.registry (firsts was.replies xs) was.evidence now.evidence
 
 -- They lead there, and each reply is the one that is due.
 pub record Serves (was : Stored) (xs : List Exchange) (now : Stored) : Type 0 where
@@ -95,7 +95,7 @@ pub record Serves (was : Stored) (xs : List Exchange) (now : Stored) : Type 0 wh
   pub replies : Answers was xs
 
 -- The reply is that of the code 50001, status and body.
-abbrev pub is_backend_fault : Told → Bool
+abbrev pub is_backend_fault : ReplyView → Bool
 is_backend_fault reply = reply.status == (fault BackendFault).status && bytes_eq reply.body (fault BackendFault).body
 
 -- The exchanges that count: those whose reply isn't that of 50001.

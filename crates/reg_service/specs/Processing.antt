@@ -10,22 +10,22 @@ use Rattle.reg_store.specs.Stores.{has_failed}
 use Rattle.reg_service.specs.declared.service.Service.{Service}
 use Rattle.reg_service.specs.Deliveries.{Exchange, served}
 use Rattle.reg_service.specs.Admissions.{AllAdmitted}
-use Rattle.reg_service.specs.Services.{store_in, state_in, ServesOver, KeepsService}
-use Rattle.reg_service.specs.Crashes.{IsFoundAfter, LeavesSpelled}
+use Rattle.reg_service.specs.Services.{store_in, state_in, ServesOver, PreservesService}
+use Rattle.reg_service.specs.Crashes.{RecoversAcknowledged, RecoversSpelled}
 
 -- This project's choice: the service processed one delivery, and replied so.
 pub record Processes {S : Type 0} {g : Ghosts S} (old new : Service S g) (x : Exchange) : Type 0 where
   -- after a fault of the disk, and over a closed connection, nothing is done
-  pub frame : KeepsService old new (x.1 ≡ fault BackendFault)
+  pub frame : PreservesService old new (x.1 ≡ fault BackendFault)
   -- the delivery at which the store fails gets 50001 too
   pub fails : IsTrue (has_failed (store_in new)) → x.1 ≡ fault BackendFault
   -- each version that is added was admitted by its subject's level
   pub admitted : HasCleanDisk (state_in new) → (was : Stored) → IsOpenOver (state_in old) was → AllAdmitted was (served (x ∷ []))
   -- a crash leaves what was answered; it may also leave a delivery that got 50001: version, reply and evidence together
-  pub crash : HasCleanDisk (state_in new) → (was : Stored) → IsOpenOver (state_in old) was → IsFoundAfter old new was (x ∷ [])
-  pub settled : LeavesSpelled (state_in new)
+  pub crash : HasCleanDisk (state_in new) → (was : Stored) → IsOpenOver (state_in old) was → RecoversAcknowledged old new was (x ∷ [])
+  pub crash_while_open : RecoversSpelled (state_in new)
   -- the evidence of versions is what the registry named, and true if all of it was true
-  pub served : HasCleanDisk (state_in new) → ServesOver (state_in old) (state_in new) (served (x ∷ []))
+  pub exactly_once : HasCleanDisk (state_in new) → ServesOver (state_in old) (state_in new) (served (x ∷ []))
 
 -- This project's choice: it processed each delivery of a list, the next one from where the last one left it.
 abbrev pub ProcessesEach : {S : Type 0} {g : Ghosts S} → Service S g → Service S g → List Exchange → Type 0

@@ -3,7 +3,7 @@ use Rattle.std.specs.Prelude.{◌≡◌, ◌⊎◌, IsTrue, List, [], ◌∷◌,
 use Rattle.sqlite.specs.Tree.{Trees}
 use Rattle.reg_core.specs.declared.delivery.Delivery.{Delivery}
 use Rattle.reg_core.specs.Stored.{Stored, HasTrueEvidence}
-use Rattle.reg_store.specs.Spells.{Leaves}
+use Rattle.reg_store.specs.Spells.{RecoversTo}
 use Rattle.reg_service.specs.Deliveries.{Exchange, RepeatsAgree, Serves, is_first, reply_after, served}
 
 -- This project's choice: no delivery was in progress when the crash came, or one first delivery, which gets the plain machine's reply.
@@ -23,5 +23,5 @@ pub record ServesAcross (was : Stored) (xs ys : List Exchange) (now : Stored) : 
 -- This project's choice: the database that a crash left spells what is stored, and whatever exchanges then lead from there continue those before the crash.
 pub record RestartsFrom (was : Stored) (xs : List Exchange) (db : Trees) : Type 0 where
   pub left : Stored
-  pub leaves : Leaves db left
+  pub leaves : RecoversTo db left
   pub continues : (ys : List Exchange) (now : Stored) → Serves left (served ys) now → (HasTrueEvidence left → HasTrueEvidence now) → ServesAcross was xs ys now

@@ -4,10 +4,10 @@ use Rattle.std.specs.List.{All}
 use Rattle.sqlite.specs.State.{State, HasCleanDisk}
 use Rattle.sqlite_trees.specs.declared.store.Store.{Ghosts}
 use Rattle.reg_core.specs.Stored.{Stored, HasTrueEvidence}
-use Rattle.reg_core.specs.Replies.{Told, fault}
+use Rattle.reg_core.specs.Replies.{ReplyView, fault}
 use Rattle.reg_core.specs.declared.code.Code.TheVariants.{BackendFault}
 use Rattle.reg_store.specs.Spells.{SpellsWhileOpen}
-use Rattle.reg_store.specs.Stores.{state_of, has_failed, KeepsOpen, LeavesNoMore}
+use Rattle.reg_store.specs.Stores.{state_of, has_failed, KeepsOpen, AddsNoCrashState}
 use Rattle.reg_store.specs.declared.store.Store.{Store}
 use Rattle.reg_service.specs.declared.service.Service.{Service}
 use Rattle.reg_service.specs.Deliveries.{Exchange, Serves, served}
@@ -33,39 +33,39 @@ abbrev pub ServesOver : State → State → List Exchange → Type 0
 ServesOver old new xs = (was : Stored) → SpellsWhileOpen old was → ServesTo was xs new
 
 -- this project's choice: each reply is that of the code 50001
-abbrev pub AreUnanswered : List Told → Type 0
-AreUnanswered replies = All (λ reply. reply ≡ fault BackendFault) replies
+abbrev pub AreBackendFaults : List ReplyView → Type 0
+AreBackendFaults replies = All (λ reply. reply ≡ fault BackendFault) replies
 
 -- This project's choice: what each call over a store preserves, for every reply. A call that can do nothing gives no reply of the registry's own.
-pub record KeepsOver {S : Type 0} {g : Ghosts S} (old new : Store S g) (GivesNone : Type 0) : Type 0 where
+pub record PreservesStore {S : Type 0} {g : Ghosts S} (old new : Store S g) (NothingDone : Type 0) : Type 0 where
   -- after a fault of the disk
-  pub failed : IsTrue (has_failed old) → GivesNone × IsTrue (has_failed new)
+  pub failed : IsTrue (has_failed old) → NothingDone × IsTrue (has_failed new)
   -- over a closed connection
-  pub shut : HasCleanDisk (state_of new) → (IsTrue (state_of old).is_open → ⊥) → GivesNone × LeavesNoMore (state_of old) (state_of new)
+  pub closed : HasCleanDisk (state_of new) → (IsTrue (state_of old).is_open → ⊥) → NothingDone × AddsNoCrashState (state_of old) (state_of new)
   pub clean : HasCleanDisk (state_of new) → HasCleanDisk (state_of old)
   pub connection : KeepsOpen (state_of old) (state_of new)
 
 -- this project's choice: so does each call of a service
-abbrev pub KeepsService : {S : Type 0} {g : Ghosts S} → Service S g → Service S g → Type 0 → Type 0
-KeepsService old new GivesNone = KeepsOver (store_in old) (store_in new) GivesNone
+abbrev pub PreservesService : {S : Type 0} {g : Ghosts S} → Service S g → Service S g → Type 0 → Type 0
+PreservesService old new NothingDone = PreservesStore (store_in old) (store_in new) NothingDone
 
--- This project's choice: one exchange splits the list. `old` and `new` are the service before and after the list, `reached` and `left` before and after
--- that exchange.
+-- This project's choice: one exchange splits the list. `old` and `new` are the service before and after the list. `reached` and `left` are some services,
+-- with what calls keep in between.
 pub record SplitAt {S : Type 0} {g : Ghosts S} (old new : Service S g) (xs : List Exchange) : Type 0 where
   pub before : List Exchange
   pub exchange : Exchange
   pub after : List Exchange
   pub split : xs ≡ before ++ exchange ∷ after
   -- each reply from that one on is 50001
-  pub unanswered : served (exchange ∷ after) ≡ []
+  pub unserved : served (exchange ∷ after) ≡ []
   pub reached : Service S g
   pub left : Service S g
-  pub earlier : KeepsService old reached (served before ≡ [])
-  pub here : KeepsService reached left (served (exchange ∷ []) ≡ [])
-  pub later : KeepsService left new (served after ≡ [])
+  pub earlier : PreservesService old reached (served before ≡ [])
+  pub here : PreservesService reached left (served (exchange ∷ []) ≡ [])
+  pub later : PreservesService left new (served after ≡ [])
 
--- this project's choice: the store failed at the exchange that splits the list
+-- this project's choice: an exchange splits the list, and of the two services the first hasn't failed and the second has
 pub record FailsAt {S : Type 0} {g : Ghosts S} (old new : Service S g) (xs : List Exchange) : Type 0 where
   pub at : SplitAt old new xs
-  pub goes : has_failed (store_in at.reached) ≡ false
+  pub not_failed : has_failed (store_in at.reached) ≡ false
   pub fails : IsTrue (has_failed (store_in at.left))

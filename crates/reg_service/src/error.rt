@@ -5,16 +5,16 @@ use reg_store::StoreError;
 
 /// Memory was refused, or the store failed.
 #[derive(Debug, Drop)]
-pub(crate) struct Unanswered;
+pub(crate) struct AnswerError;
 
-impl From<OutOfMemory> for Unanswered {
-    fn from(_error: OutOfMemory) -> Unanswered {
-        Unanswered
+impl From<OutOfMemory> for AnswerError {
+    fn from(_error: OutOfMemory) -> AnswerError {
+        AnswerError
     }
 }
 
-impl From<StoreError> for Unanswered {
-    fn from(_error: StoreError) -> Unanswered {
-        Unanswered
+impl From<StoreError> for AnswerError {
+    fn from(_error: StoreError) -> AnswerError {
+        AnswerError
     }
 }

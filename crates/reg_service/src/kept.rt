@@ -8,7 +8,7 @@ use reg_core::{Code, Reply};
 
 /// The reply to a later delivery of a key, whose first command's text and reply are these. The
 /// later command has the other text.
-pub(crate) fn answer_again(kept: String, reply: Reply, text: &str) -> Reply
+pub(crate) fn answer_retry(kept: String, reply: Reply, text: &str) -> Reply
     ensures same { text.now ≡ string_bytes kept → result ≡ reply }
     ensures other { text.now ≢ string_bytes kept → result ≡ fault KeyReused }
 {

@@ -4,11 +4,11 @@ ghost use Rattle.std.specs.Prelude.{◌≡◌, Some, IfOk, option_map, option_co
 ghost use Rattle.avro_nodes.specs.Nodes.{nodes_view};
 ghost use Rattle.avro_nodes.specs.Identity.{identity};
 ghost use Rattle.avro_schema.specs.DenotedNodes.{denoted_nodes};
-ghost use Rattle.reg_core.specs.Machine.{schema_sent};
+ghost use Rattle.reg_core.specs.Machine.{command_schema};
 
 use avro_schema::Schema;
 use reg_core::{Change, Command, OutOfMemory, schema_of};
-use schema_memory::{Memory, WhenFull};
+use schema_cache::{EvictionPolicy, SchemaCache};
 use std::alloc::Global;
 use std::hash::{FoldHasher, Hasher};
 
@@ -19,8 +19,8 @@ const RECENT: usize = 256;
 /// hashes. A schema is in at most one of the two: a registered one moves.
 #[derive(Drop)]
 pub(crate) struct SchemaCaches {
-    pub registered: Memory,
-    sent: Memory,
+    pub registered: SchemaCache,
+    sent: SchemaCache,
     recent: [u32; RECENT],
 }
 
@@ -28,8 +28,8 @@ impl SchemaCaches {
     /// Empty caches, which take no memory.
     pub fn new() -> SchemaCaches {
         SchemaCaches {
-            registered: Memory::new(),
-            sent: Memory::new(),
+            registered: SchemaCache::new(),
+            sent: SchemaCache::new(),
             recent: [0; RECENT],
         }
     }
@@ -37,7 +37,7 @@ impl SchemaCaches {
     /// The schema that the command sends, if it sends a text of a supported type that denotes one. A
     /// cached schema isn't parsed again; it leaves the cache until `keep` stores it.
     pub fn take(&mut self, alloc: Global, command: &Command) -> Result<Option<Schema>, OutOfMemory>
-        ensures { IfOk result (λ schema. option_map nodes_view schema ≡ schema_sent command.now) }
+        ensures { IfOk result (λ schema. option_map nodes_view schema ≡ command_schema command.now) }
     {
         let Some(text) = command.schema_text() else {
             return Ok(None);
@@ -59,7 +59,7 @@ impl SchemaCaches {
         schema: Option<Schema>,
         canonical: Option<String>,
     )
-        requires sent { option_map nodes_view schema ≡ schema_sent command.now }
+        requires sent { option_map nodes_view schema ≡ command_schema command.now }
         requires canonical { option_map string_bytes canonical
             ≡ option_map identity (option_map nodes_view schema) }
     {
@@ -71,7 +71,7 @@ impl SchemaCaches {
             Some(id) => {
                 let text = canonical.as_str();
                 self.registered
-                    .put(alloc, id, text, schema, WhenFull::Replace);
+                    .put(alloc, id, text, schema, EvictionPolicy::Replace);
             }
             None => self.keep_sent(alloc, text.as_str(), schema),
         }
@@ -84,13 +84,13 @@ impl SchemaCaches {
     {
         let hash = hash_of(text);
         let slot = hash as usize % RECENT;
-        let when_full = if self.recent[slot] == hash {
-            WhenFull::Replace
+        let eviction_policy = if self.recent[slot] == hash {
+            EvictionPolicy::Replace
         } else {
-            WhenFull::Keep
+            EvictionPolicy::Keep
         };
         self.recent[slot] = hash;
-        self.sent.put(alloc, hash, text, schema, when_full);
+        self.sent.put(alloc, hash, text, schema, eviction_policy);
     }
 }
 

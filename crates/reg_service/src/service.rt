@@ -2,23 +2,25 @@
 
 ghost use Rattle.std.specs.Prelude.{◌≡◌, ◌⊎◌, Some, None, [], ◌∷◌, zip, length, vec_len, IfOk, OnOk, OnErr, IsTrue};
 ghost use Rattle.sqlite.specs.State.{HasCleanDisk};
-ghost use Rattle.reg_core.specs.Replies.{IsOwnReply, fault};
+ghost use Rattle.reg_core.specs.Replies.{IsCommandReply, fault};
 ghost use Rattle.reg_core.specs.Stored.{Stored};
 ghost use Rattle.reg_store.specs.Spells.{IsOpenOver, SpellsWhileOpen};
-ghost use Rattle.reg_store.specs.Stores.{has_failed, LeavesNoMore, SpellsOn};
+ghost use Rattle.reg_store.specs.Stores.{has_failed, AddsNoCrashState, StillSpells};
 ghost use Rattle.reg_service.specs.Deliveries.{served, RepeatsAgree, NoOtherAnswers};
 ghost use Rattle.reg_service.specs.Admissions.{AllAdmitted};
-ghost use Rattle.reg_service.specs.Crashes.{IsFoundAfter, LeavesSpelled, reply_or_fault};
+ghost use Rattle.reg_service.specs.Crashes.{RecoversAcknowledged, RecoversSpelled, reply_or_fault};
 ghost use Rattle.reg_service.specs.Processing.{Processes, ProcessesEach};
-ghost use Rattle.reg_service.specs.Services.{store_in, state_in, ServesOver, AreUnanswered, FailsAt, KeepsService};
-ghost use Rattle.reg_service.specs.Inside.Crashing.{IsFoundOne};
-ghost use Rattle.reg_service.specs.Inside.Steps.{IsDecidedFor, CarriesOut};
+ghost use Rattle.reg_service.specs.Services.{store_in, state_in, ServesOver, AreBackendFaults, FailsAt, PreservesService};
+ghost use Rattle.reg_service.specs.Inside.Crashing.{RecoversOne};
+ghost use Rattle.reg_service.specs.Inside.Steps.{IsDecisionOfStep, ExecutesCommand};
 
 use crate::delivery::retry_key;
-use crate::error::Unanswered;
-use crate::kept::answer_again;
+use crate::error::AnswerError;
+use crate::kept::answer_retry;
 use crate::schemas::{SchemaCaches, identity_text};
-use reg_core::{Code, Command, Decision, Delivery, Key, OutOfMemory, Reply, decide_with, print_of};
+use reg_core::{
+    Code, Command, Decision, Delivery, Key, OutOfMemory, Reply, decide_with_cache, print_of,
+};
 use reg_store::{Keep, Store};
 use sqlite::Alter;
 use std::alloc::Global;
@@ -71,7 +73,7 @@ impl<S: Alter> Service<S> {
     {
         match self.try_answer(delivery) {
             Ok(reply) => reply,
-            Err(Unanswered) => Reply::fault(Code::BackendFault),
+            Err(AnswerError) => Reply::fault(Code::BackendFault),
         }
     }
 
@@ -87,15 +89,15 @@ impl<S: Alter> Service<S> {
         // Each delivery is processed as `answer` processes it, where the one before left the service.
         ensures each { IfOk result (λ replies. ProcessesEach self.old self.new (zip list.now replies.items)) }
 
-        // After a fault of the disk, and over a closed connection, nothing is done.
-        ensures frame { KeepsService self.old self.new (IfOk result (λ replies. AreUnanswered replies.items)) }
+        // If the store had failed, or the connection was closed, nothing is done.
+        ensures frame { PreservesService self.old self.new (IfOk result (λ replies. AreBackendFaults replies.items)) }
 
-        // If the disk fails within the list, each reply from that delivery on is 50001.
+        // If the store failed in this call, each reply from some delivery on is 50001.
         ensures fails { IfOk result (λ replies. IsTrue (has_failed (store_in self.new))
             → IsTrue (has_failed (store_in self.old)) ⊎ FailsAt self.old self.new (zip list.now replies.items)) }
 
         // The evidence of versions is what the registry named, and true if all of it was true.
-        ensures served { HasCleanDisk (state_in self.new) → IfOk result (λ replies.
+        ensures exactly_once { HasCleanDisk (state_in self.new) → IfOk result (λ replies.
             ServesOver (state_in self.old) (state_in self.new) (served (zip list.now replies.items))) }
         ensures repeats { HasCleanDisk (state_in self.new) → IfOk result (λ replies.
             (was : Stored) → SpellsWhileOpen (state_in self.old) was
@@ -110,13 +112,13 @@ impl<S: Alter> Service<S> {
             (was : Stored) → IsOpenOver (state_in self.old) was
             → AllAdmitted was (served (zip list.now replies.items))) }
 
-        // A crash leaves all that was answered, with or without the delivery at which the disk failed:
+        // A crash leaves all that was answered, with or without one delivery that got 50001:
         // version, reply and evidence together.
         ensures crash { HasCleanDisk (state_in self.new) → IfOk result (λ replies.
             (was : Stored) → IsOpenOver (state_in self.old) was
-            → IsFoundAfter self.old self.new was (zip list.now replies.items)) }
+            → RecoversAcknowledged self.old self.new was (zip list.now replies.items)) }
 
-        ensures settled { LeavesSpelled (state_in self.new) }
+        ensures crash_while_open { RecoversSpelled (state_in self.new) }
     {
         let mut replies = Vec::with_capacity(self.alloc, list.len())?;
         for delivery in list {
@@ -127,33 +129,33 @@ impl<S: Alter> Service<S> {
     }
 
     /// The answer, or an error that changes nothing.
-    fn try_answer(&mut self, delivery: &Delivery) -> Result<Reply, Unanswered>
-        ensures frame { KeepsService self.old self.new (OnOk result ⊥) }
+    fn try_answer(&mut self, delivery: &Delivery) -> Result<Reply, AnswerError>
+        ensures frame { PreservesService self.old self.new (OnOk result ⊥) }
         ensures fails { IsTrue (has_failed (store_in self.new)) → OnOk result ⊥ }
-        ensures served { HasCleanDisk (state_in self.new) → IfOk result (λ reply.
+        ensures exactly_once { HasCleanDisk (state_in self.new) → IfOk result (λ reply.
             ServesOver (state_in self.old) (state_in self.new) (served ((delivery.now, reply) ∷ []))) }
         ensures err { HasCleanDisk (state_in self.new)
-            → OnErr result (SpellsOn (state_in self.old) (state_in self.new)) }
+            → OnErr result (StillSpells (state_in self.old) (state_in self.new)) }
         ensures crash { HasCleanDisk (state_in self.new) → (was : Stored)
             → IsOpenOver (state_in self.old) was
-            → IsFoundOne was delivery.now (reply_or_fault result) (state_in self.new).may_leave }
+            → RecoversOne was delivery.now (reply_or_fault result) (state_in self.new).may_leave }
     {
         let Some(key) = retry_key(delivery) else {
-            return self.carry_out(&delivery.command);
+            return self.answer_unkept(&delivery.command);
         };
         let text = print_of(self.alloc, &delivery.command)?;
         match self.store.kept(key)? {
-            Some((kept, reply)) => Ok(answer_again(kept, reply, text.as_str())),
+            Some((kept, reply)) => Ok(answer_retry(kept, reply, text.as_str())),
             None => self.answer_first(key, text.as_str(), &delivery.command),
         }
     }
 
     /// The answer to a command whose reply isn't kept.
-    fn carry_out(&mut self, command: &Command) -> Result<Reply, Unanswered>
-        ensures frame { KeepsService self.old self.new (OnOk result ⊥) }
+    fn answer_unkept(&mut self, command: &Command) -> Result<Reply, AnswerError>
+        ensures frame { PreservesService self.old self.new (OnOk result ⊥) }
         ensures fails { IsTrue (has_failed (store_in self.new)) → OnOk result ⊥ }
-        ensures carries { HasCleanDisk (state_in self.new)
-            → CarriesOut (state_in self.old) (state_in self.new) command.now None result }
+        ensures executes { HasCleanDisk (state_in self.new)
+            → ExecutesCommand (state_in self.old) (state_in self.new) command.now None result }
     {
         let Decision { changes, reply } = self.decision(command)?;
         if !changes.is_empty() {
@@ -168,10 +170,10 @@ impl<S: Alter> Service<S> {
         key: &Key,
         text: &str,
         command: &Command,
-    ) -> Result<Reply, Unanswered>
-        ensures frame { KeepsService self.old self.new (OnOk result ⊥) }
+    ) -> Result<Reply, AnswerError>
+        ensures frame { PreservesService self.old self.new (OnOk result ⊥) }
         ensures fails { IsTrue (has_failed (store_in self.new)) → OnOk result ⊥ }
-        ensures carries { HasCleanDisk (state_in self.new) → CarriesOut
+        ensures executes { HasCleanDisk (state_in self.new) → ExecutesCommand
             (state_in self.old) (state_in self.new) command.now (Some (key.now, text.now)) result }
     {
         let Decision { changes, reply } = self.decision(command)?;
@@ -185,21 +187,21 @@ impl<S: Alter> Service<S> {
     }
 
     /// The changes that the command makes, and its reply.
-    fn decision(&mut self, command: &Command) -> Result<Decision, Unanswered>
-        ensures frame { KeepsService self.old self.new (OnOk result ⊥) }
+    fn decision(&mut self, command: &Command) -> Result<Decision, AnswerError>
+        ensures frame { PreservesService self.old self.new (OnOk result ⊥) }
         ensures fails { IsTrue (has_failed (store_in self.new)) → OnOk result ⊥ }
-        ensures same { HasCleanDisk (state_in self.new) → SpellsOn (state_in self.old) (state_in self.new) }
+        ensures same { HasCleanDisk (state_in self.new) → StillSpells (state_in self.old) (state_in self.new) }
         ensures decided { HasCleanDisk (state_in self.new) → IfOk result (λ d. (was : Stored)
-            → SpellsWhileOpen (state_in self.old) was → IsDecidedFor was command.now d) }
-        ensures own { IfOk result (λ d. IsOwnReply d.reply) }
+            → SpellsWhileOpen (state_in self.old) was → IsDecisionOfStep was command.now d) }
+        ensures own { IfOk result (λ d. IsCommandReply d.reply) }
         ensures crash { HasCleanDisk (state_in self.new)
-            → LeavesNoMore (state_in self.old) (state_in self.new) }
+            → AddsNoCrashState (state_in self.old) (state_in self.new) }
     {
         let schema = self.schemas.take(self.alloc, command)?;
         let identity = identity_text(self.alloc, schema.as_ref())?;
         let view = self.store.view(command, identity.as_deref())?;
         let registered = Some(&mut self.schemas.registered);
-        let decision = decide_with(self.alloc, &view, command, schema.as_ref(), registered)?;
+        let decision = decide_with_cache(self.alloc, &view, command, schema.as_ref(), registered)?;
         self.schemas
             .keep(self.alloc, command, &decision.changes, schema, identity);
         Ok(decision)

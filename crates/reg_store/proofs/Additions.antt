@@ -24,7 +24,7 @@ use Rattle.reg_tables.specs.Changes.{with_text, with_version}
 use Rattle.reg_tables.proofs.MapLemmas.{get-insert-same, get-insert-other, same_or_not}
 use Rattle.reg_tables.proofs.KeyedTables.{number_order, version_order}
 use Rattle.reg_store.specs.Spells.{IsSpelled, stored_version}
-use Rattle.reg_store.specs.Inside.Making.{Makes}
+use Rattle.reg_store.specs.Inside.Making.{StoresChange}
 use Rattle.reg_store.proofs.Maps.{insert_each}
 use Rattle.reg_store.proofs.SpelledTwo.{spelled_in, put}
 
@@ -98,7 +98,7 @@ module _ (contents : Contents) (g : Registry) (k : Kept) (s : IsSpelled contents
 -- ---- the tables
 
 module _ (old new : State) where
-  pub makes_text : (id : ℕ) (text : List ℕ) → IsUtf8 text → ChangesIf old new (λ contents. get contents.texts id ≡ None) (with_text id text) → Makes old new (AddText id text)
+  pub makes_text : (id : ℕ) (text : List ℕ) → IsUtf8 text → ChangesIf old new (λ contents. get contents.texts id ≡ None) (with_text id text) → StoresChange old new (AddText id text)
   makes_text id text utf8 puts was s fits =
       put old new (λ contents. get contents.texts id ≡ None) (with_text id text) puts was s (id_is_free s.contents was.registry was.replies s.spelled.base id text fits) _
       (spelled_in s.contents was s.spelled _ _ _ (spelled_text s.contents was.registry was.replies s.spelled.base id text utf8 fits) s.spelled.meta refl (refl, refl, refl))

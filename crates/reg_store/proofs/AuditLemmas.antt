@@ -13,7 +13,7 @@ use Rattle.avro_schema.specs.Texts.{IsSchema}
 use Rattle.reg_core.specs.declared.level.Level.{Level}
 use Rattle.reg_core.specs.declared.level.Level.TheVariants.{Off}
 use Rattle.reg_core.specs.Compatibility.{Compatible}
-use Rattle.reg_core.specs.Evidence.{Evidence, GoesWith}
+use Rattle.reg_core.specs.Evidence.{Evidence, IsCompatibleWith}
 use Rattle.reg_core.specs.Registry.{IsRegistry, Row, RowKey, Schemas, row_cmp, schema_at}
 use Rattle.reg_core.specs.Rows.{text_at}
 use Rattle.reg_core.specs.Stored.{Stored, HasTrueEvidence}
@@ -21,9 +21,9 @@ use Rattle.reg_core.proofs.IdLemmas.{schema_there, text_at-schema, text_at-ident
 use Rattle.reg_core.proofs.RegistryLemmas.{schema_at-denoted}
 use Rattle.reg_tables.proofs.KeyedTables.{version_order}
 use Rattle.reg_tables.proofs.OrderedQueries.{entry_got, got_entry}
-use Rattle.reg_store.specs.Handing.{is_behind, key_in}
+use Rattle.reg_store.specs.NextLines.{is_after, key_in}
 use Rattle.reg_store.specs.Spells.{id_at}
-use Rattle.reg_store.specs.Inside.Auditing.{HasSchema, IsAdmittedBy, IsTrueAt, IsTrueFor}
+use Rattle.reg_store.specs.Inside.Auditing.{HasSchema, HasEvidence, IsTrueAt, IsTrueFor}
 use Rattle.reg_store.proofs.Behind.{last_taken}
 use Rattle.reg_store.proofs.HandingLemmas.{all_taken, next_row}
 use Rattle.reg_store.proofs.Texts.{was_written}
@@ -46,7 +46,7 @@ module _ (was : Stored) where
 
   -- the version behind this one, if there is one
   abbrev IsNext : Option Row → Option Row → Type 0
-  IsNext last found = found ≡ find (λ row. is_behind row_cmp (option_map key_in last) row.0) rows
+  IsNext last found = found ≡ find (λ row. is_after row_cmp (option_map key_in last) row.0) rows
 
   pub none_yet : AreTrueUpTo was None
   none_yet = record { count = 0; ends = refl; so_far = All-nil (IsTrueFor was) }
@@ -89,30 +89,30 @@ module _ (was : Stored) (key : RowKey) (nodes : List NodeView) where
   true_without none one had = absurd (none-some one.level (none ∙ ap (option_map level_in) had))
 
   -- nor where its level is NONE
-  pub true_under_none : Some Off ≡ option_map level_in (get was.evidence key) → ((one : Evidence) → IsAdmittedBy was key one → All (λ id. IsSome (schema_at was.registry.schemas id)) one.against) → IsTrueAt was key nodes
+  pub true_under_none : Some Off ≡ option_map level_in (get was.evidence key) → ((one : Evidence) → HasEvidence was key one → All (λ id. IsSome (schema_at was.registry.schemas id)) one.against) → IsTrueAt was key nodes
   true_under_none off there one had =
       let same : Off ≡ one.level = same_Some Off one.level (off ∙ ap (option_map level_in) had) in
-      All-weaker (λ id. IsSome (schema_at was.registry.schemas id)) (GoesWith was.registry.schemas one.level nodes) (λ id some.
+      All-weaker (λ id. IsSome (schema_at was.registry.schemas id)) (IsCompatibleWith was.registry.schemas one.level nodes) (λ id some.
       (let it = some_is (schema_at was.registry.schemas id) some in
       (it.0, it.1, subst (λ (level : Level). Compatible level it.0 nodes) same tt))) one.against (there one had)
 
   -- what is told of the level's comparisons is told of its evidence
   pub true_by_level : (level : Level) (said : Bool) → Some level ≡ option_map level_in (get was.evidence key)
-      → ((one : Evidence) → IsAdmittedBy was key one → IsTrue said ↔ All (GoesWith was.registry.schemas level nodes) one.against) → IsTrue said ↔ IsTrueAt was key nodes
+      → ((one : Evidence) → HasEvidence was key one → IsTrue said ↔ All (IsCompatibleWith was.registry.schemas level nodes) one.against) → IsTrue said ↔ IsTrueAt was key nodes
   true_by_level level said is told = (
-    λ h one had. subst (λ (l : Level). All (GoesWith was.registry.schemas l nodes) one.against) (same one had) ((told one had).0 h),
+    λ h one had. subst (λ (l : Level). All (IsCompatibleWith was.registry.schemas l nodes) one.against) (same one had) ((told one had).0 h),
     λ all.
         let one = was_written level_in (get was.evidence key) level (sym is) in
-        (told one.0 one.1).1 (subst (λ (l : Level). All (GoesWith was.registry.schemas l nodes) one.0.against) (sym (same one.0 one.1)) (all one.0 one.1)),
+        (told one.0 one.1).1 (subst (λ (l : Level). All (IsCompatibleWith was.registry.schemas l nodes) one.0.against) (sym (same one.0 one.1)) (all one.0 one.1)),
   )
     where
-      same : (one : Evidence) → IsAdmittedBy was key one → level ≡ one.level
+      same : (one : Evidence) → HasEvidence was key one → level ≡ one.level
       same one had = same_Some level one.level (is ∙ ap (option_map level_in) had)
 
 -- ---- the ids of one version
 
 -- the id at the next position
-pub named_at : (was : Stored) (key : RowKey) (one : Evidence) (index : ℕ) → IsAdmittedBy was key one → option_and_then (id_at (index + 1)) (get was.evidence key) ≡ slice_get one.against index
+pub named_at : (was : Stored) (key : RowKey) (one : Evidence) (index : ℕ) → HasEvidence was key one → option_and_then (id_at (index + 1)) (get was.evidence key) ≡ slice_get one.against index
 named_at was key one index had = ap (option_and_then (id_at (index + 1))) had ∙ ap (λ n. id_at n one) (add-one index)
 
 module _ {X : Type 0} (P : X → Type 0) (xs : List X) (index : ℕ) (x : X) (there : slice_get xs index ≡ Some x) where
@@ -134,7 +134,7 @@ module _ (schemas : Schemas) (are : All IsSchema schemas) (id : ℕ) (text : Lis
       ap denoted_nodes (sym it.2) ∙ schema_at-denoted schemas are id it.0 it.1 ∙ sym it.1
 
   -- so that the comparison with what it denotes is the comparison with the id's schema
-  pub goes_by_text : (level : Level) (new : List NodeView) (said : Bool) → ((earlier : List NodeView) → denoted_nodes text ≡ Some earlier → IsTrue said ↔ Compatible level earlier new) → IsTrue said ↔ GoesWith schemas level new id
+  pub goes_by_text : (level : Level) (new : List NodeView) (said : Bool) → ((earlier : List NodeView) → denoted_nodes text ≡ Some earlier → IsTrue said ↔ Compatible level earlier new) → IsTrue said ↔ IsCompatibleWith schemas level new id
   goes_by_text level new said told =
       let it = text_at-schema schemas id text there in
       let compared = told it.0 (text-denotes ∙ it.1) in (
@@ -143,5 +143,5 @@ module _ (schemas : Schemas) (are : All IsSchema schemas) (id : ℕ) (text : Lis
       )
 
 -- with an id without a text nothing goes
-pub goes_not : (schemas : Schemas) (id : ℕ) (level : Level) (new : List NodeView) → text_at schemas id ≡ None → ¬ GoesWith schemas level new id
+pub goes_not : (schemas : Schemas) (id : ℕ) (level : Level) (new : List NodeView) → text_at schemas id ≡ None → ¬ IsCompatibleWith schemas level new id
 goes_not schemas id level new none goes = none-some (identity goes.0) (sym none ∙ text_at-identity schemas id goes.0 goes.1)

@@ -3,7 +3,7 @@ use Rattle.sqlite.specs.Schema.{Schema}
 use Rattle.sqlite.specs.Effect.{Database}
 use Rattle.reg_core.specs.Stored.{Stored}
 use Rattle.reg_tables.specs.Layout.{HasFiveTables}
-use Rattle.reg_tables.specs.Contents.{Contents, HoldsIn}
+use Rattle.reg_tables.specs.Contents.{Contents, HoldsContents}
 use Rattle.reg_tables.proofs.Tables.{openable_has_eight, eight_has_five, two_has_eight}
 use Rattle.reg_tables.proofs.Statements.{one_has_five}
 use Rattle.reg_store.specs.Spells.{IsSpelled, SpellsLayoutOne, Spells, SpellsUnopened}
@@ -16,7 +16,7 @@ pub record SpellsTables (db : Database) (was : Stored) : Type 0 where
   pub schema : Schema
   pub first : HasFiveTables schema
   pub contents : Contents
-  pub holds : HoldsIn schema db contents
+  pub holds : HoldsContents schema db contents
   pub spelled : IsSpelled contents was.registry was.replies
 
 module _ {db : Database} {was : Stored} where

@@ -12,7 +12,7 @@ use Rattle.std.proofs.lemmas.Option.{none-some, same_Some}
 use Rattle.std.proofs.lemmas.Slice.Eq.{bytes_eq-Decides}
 use Rattle.sqlite.specs.Tree.{IsAscending}
 use Rattle.sqlite_trees.proofs.ListLemmas.{all_weaker}
-use Rattle.reg_store.specs.Handing.{is_behind}
+use Rattle.reg_store.specs.NextLines.{is_after}
 
 -- ---- behind the last of the first items
 
@@ -30,22 +30,22 @@ module _ {X K : Type 0} (cmp : K → K → Ordering) (total : IsTotalOrder cmp) 
   above a b h = ap is_gt (total.antisymm b a ∙ ap ordering_reverse h)
 
   -- an item isn't behind itself, nor behind a later one
-  not_behind : (x y : X) (n : ℕ) (xs : List X) → is_gt (cmp (key x) (key y)) ≡ false → AllByRecursion (λ z. is_gt (cmp (key x) (key z)) ≡ false) xs → is_behind cmp (key_of (last_or (Some y) (take n xs))) (key x) ≡ false
+  not_behind : (x y : X) (n : ℕ) (xs : List X) → is_gt (cmp (key x) (key y)) ≡ false → AllByRecursion (λ z. is_gt (cmp (key x) (key z)) ≡ false) xs → is_after cmp (key_of (last_or (Some y) (take n xs))) (key x) ≡ false
   not_behind x y zero xs here all = here
   not_behind x y (suc n) [] here all = here
   not_behind x y (suc n) (z ∷ xs) here all = not_behind x z n xs all.0 all.1
 
   abbrev IsBelow : Option X → List X → Type 0
-  IsBelow o xs = AllByRecursion (λ x. is_behind cmp (key_of o) (key x) ≡ true) xs
+  IsBelow o xs = AllByRecursion (λ x. is_after cmp (key_of o) (key x) ≡ true) xs
 
-  next_after : (o : Option X) (n : ℕ) (xs : List X) → KeysRise xs → IsBelow o xs → find (λ x. is_behind cmp (key_of (last_or o (take n xs))) (key x)) xs ≡ slice_get xs n
+  next_after : (o : Option X) (n : ℕ) (xs : List X) → KeysRise xs → IsBelow o xs → find (λ x. is_after cmp (key_of (last_or o (take n xs))) (key x)) xs ≡ slice_get xs n
   next_after o zero [] up below = refl
-  next_after o zero (x ∷ xs) up below = ap (λ b. cond b (Some x) (find (λ y. is_behind cmp (key_of o) (key y)) xs)) below.0
+  next_after o zero (x ∷ xs) up below = ap (λ b. cond b (Some x) (find (λ y. is_after cmp (key_of o) (key y)) xs)) below.0
   next_after o (suc n) [] up below = refl
   next_after o (suc n) (x ∷ xs) up below =
-      let passed : is_behind cmp (key_of (last_or (Some x) (take n xs))) (key x) ≡ false =
+      let passed : is_after cmp (key_of (last_or (Some x) (take n xs))) (key x) ≡ false =
       not_behind x x n xs (ap is_gt (tied_itself total (key x))) (all_weaker (λ z. cmp (key x) (key z) ≡ Less) (λ z. is_gt (cmp (key x) (key z)) ≡ false) (λ z. not_above (key x) (key z)) xs up.0) in
-      ap (λ b. cond b (Some x) (find (λ y. is_behind cmp (key_of (last_or (Some x) (take n xs))) (key y)) xs)) passed
+      ap (λ b. cond b (Some x) (find (λ y. is_after cmp (key_of (last_or (Some x) (take n xs))) (key y)) xs)) passed
       ∙ next_after (Some x) n xs up.1 (all_weaker (λ z. cmp (key x) (key z) ≡ Less) (λ z. is_gt (cmp (key z) (key x)) ≡ true) (λ z. above (key x) (key z)) xs up.0)
 
   all_behind : (xs : List X) → IsBelow None xs
@@ -53,7 +53,7 @@ module _ {X K : Type 0} (cmp : K → K → Ordering) (total : IsTotalOrder cmp) 
   all_behind (x ∷ xs) = (refl, all_behind xs)
 
   -- the first item behind the last of so many is the next one
-  pub next_of : (n : ℕ) (xs : List X) → KeysRise xs → find (λ x. is_behind cmp (key_of (last_or None (take n xs))) (key x)) xs ≡ slice_get xs n
+  pub next_of : (n : ℕ) (xs : List X) → KeysRise xs → find (λ x. is_after cmp (key_of (last_or None (take n xs))) (key x)) xs ≡ slice_get xs n
   next_of n xs up = next_after None n xs up (all_behind xs)
 
 -- the last of one more

@@ -16,18 +16,18 @@ use Rattle.reg_core.specs.Replies.{IsKeptStatus}
 use Rattle.reg_core.specs.Subjects.{is_subject}
 use Rattle.avro_nodes.specs.Identity.{identity}
 use Rattle.reg_core.specs.Registry.{RowKey, Registry, OwnLevels, no_own, schema_at}
-use Rattle.reg_tables.specs.declared.levels.LevelLine.{LevelLine}
-use Rattle.reg_tables.specs.declared.kept.KeptLine.{KeptLine}
-use Rattle.reg_tables.specs.Contents.{text_cmp, TextMap, VersionRow, KeptRow, TableName, Contents}
-use Rattle.reg_tables.specs.Listings.{HasNoTwins, without_rowid, level_entry, kept_entry}
-use Rattle.reg_tables.specs.Inside.AllLines.{Lines, HaveNoTwins, contents_of}
+use Rattle.reg_tables.specs.declared.levels.RawLevel.{RawLevel}
+use Rattle.reg_tables.specs.declared.kept.RawKept.{RawKept}
+use Rattle.reg_tables.specs.Contents.{text_cmp, TextMap, VersionEntryView, KeptReplyView, TableName, Contents}
+use Rattle.reg_tables.specs.Listings.{HasNoDuplicates, without_rowid, level_entry, kept_entry}
+use Rattle.reg_tables.specs.Inside.AllRawRows.{RawRows, HaveNoDuplicates, contents_of}
 use Rattle.reg_tables.proofs.ListMembers.{has_mapped, maps_had}
 use Rattle.reg_tables.proofs.KeyedTables.{text_order}
 use Rattle.reg_tables.proofs.ListingLemmas.{found_first, find_had}
 use Rattle.reg_rows.specs.Spelling.{FitsLevels, AreTexts, IsVersionRow, IsLevelRow, IsKeptRow}
-use Rattle.reg_core.specs.KeptReplies.{Entry, Kept}
-use Rattle.reg_store.specs.Spells.{CanBeKept, IsSpelled, row_of}
-use Rattle.reg_store.specs.Opening.{text_shown, version_shown, level_shown, kept_shown}
+use Rattle.reg_core.specs.KeptReplies.{KeptEntry, Kept}
+use Rattle.reg_store.specs.Spells.{CanBeKept, IsSpelled, stored_reply}
+use Rattle.reg_store.specs.Opening.{text_columns, version_columns, level_columns, kept_columns}
 use Rattle.reg_store.proofs.ReadBack.{level_of-level_text}
 use Rattle.reg_store.proofs.Texts.{was_written}
 use Rattle.reg_store.proofs.Ids.{schema_within}
@@ -53,75 +53,75 @@ spelt_back (Some v) f = go (level_of v) refl (f v refl)
 
 -- ---- table by table
 
-abbrev entry_in : KeptRow → Entry
+abbrev entry_in : KeptReplyView → KeptEntry
 entry_in row = record { command = row.command; reply = record { status = row.status; body = row.body } }
 
-row_back : (o : Option KeptRow) → o ≡ option_map row_of (option_map entry_in o)
+row_back : (o : Option KeptReplyView) → o ≡ option_map stored_reply (option_map entry_in o)
 row_back None = refl
 row_back (Some row) = refl
 
-module _ (lines : List LevelLine) where
+module _ (lines : List RawLevel) where
   abbrev pub levels_in : TextMap (List ℕ)
   levels_in = from_entries (map without_rowid (map level_entry lines))
 
-  level_fits : AllByRecursion IsLevelRow (map level_shown lines) → (subject level : List ℕ) → get levels_in subject ≡ Some level → FitsLevels subject level
+  level_fits : AllByRecursion IsLevelRow (map level_columns lines) → (subject level : List ℕ) → get levels_in subject ≡ Some level → FitsLevels subject level
   level_fits all subject level there =
       let es = map level_entry lines in
       let e = find_had text_cmp text_order es subject level (sym (get-from_entries text_order.total (map without_rowid es) subject) ∙ there) in
       let l = has_mapped level_entry lines e.0 e.1 in
-      let row = all_has IsLevelRow (map level_shown lines) (level_shown l.0) all (maps_had level_shown lines l.0 l.1) in
+      let row = all_has IsLevelRow (map level_columns lines) (level_columns l.0) all (maps_had level_columns lines l.0 l.1) in
       subst (λ q. FitsLevels q level) (ap (λ (y : ℤ × List ℕ × List ℕ). y.1) (sym l.2) ∙ e.2)
       (subst (FitsLevels (string_bytes l.0.subject)) (ap (λ (y : ℤ × List ℕ × List ℕ). y.2) (sym l.2) ∙ e.3) row)
 
   -- each row of a table that spells own levels fits
-  pub levels_fit : HasNoTwins text_cmp (map level_entry lines) → (own : OwnLevels) → ((subject : List ℕ) → get levels_in subject ≡ option_map level_text (own subject))
-      → ((subject : List ℕ) (level : Level) → own subject ≡ Some level → IsTrue (is_subject subject)) → AllByRecursion IsLevelRow (map level_shown lines)
-  levels_fit apart own levels subjects = all_from IsLevelRow (map level_shown lines) (λ row there.
-      let l = has_mapped level_shown lines row there in
+  pub levels_fit : HasNoDuplicates text_cmp (map level_entry lines) → (own : OwnLevels) → ((subject : List ℕ) → get levels_in subject ≡ option_map level_text (own subject))
+      → ((subject : List ℕ) (level : Level) → own subject ≡ Some level → IsTrue (is_subject subject)) → AllByRecursion IsLevelRow (map level_columns lines)
+  levels_fit apart own levels subjects = all_from IsLevelRow (map level_columns lines) (λ row there.
+      let l = has_mapped level_columns lines row there in
       let es = map level_entry lines in
       let e = level_entry l.0 in
       let found = get-from_entries text_order.total (map without_rowid es) e.1 ∙ found_first text_cmp text_order es e apart.keys (maps_had level_entry lines l.0 l.1) in
       let it = was_written level_text (own e.1) e.2 (sym (levels e.1) ∙ found) in
-      let fits : IsLevelRow (level_shown l.0) = record { subject = subjects e.1 it.0 it.1; level = ap (λ v. is_some (level_of v)) it.2 ∙ ap is_some (level_of-level_text it.0) } in
+      let fits : IsLevelRow (level_columns l.0) = record { subject = subjects e.1 it.0 it.1; level = ap (λ v. is_some (level_of v)) it.2 ∙ ap is_some (level_of-level_text it.0) } in
       subst IsLevelRow (sym l.2) fits)
 
-module _ (lines : List KeptLine) where
-  abbrev pub kept_in : TextMap KeptRow
+module _ (lines : List RawKept) where
+  abbrev pub kept_in : TextMap KeptReplyView
   kept_in = from_entries (map without_rowid (map kept_entry lines))
 
-  kept_fits : AllByRecursion IsKeptRow (map kept_shown lines) → (key : List ℕ) (row : KeptRow) → get kept_in key ≡ Some row → CanBeKept key (entry_in row)
+  kept_fits : AllByRecursion IsKeptRow (map kept_columns lines) → (key : List ℕ) (row : KeptReplyView) → get kept_in key ≡ Some row → CanBeKept key (entry_in row)
   kept_fits all key kept there =
       let es = map kept_entry lines in
       let e = find_had text_cmp text_order es key kept (sym (get-from_entries text_order.total (map without_rowid es) key) ∙ there) in
       let l = has_mapped kept_entry lines e.0 e.1 in
-      let row = all_has IsKeptRow (map kept_shown lines) (kept_shown l.0) all (maps_had kept_shown lines l.0 l.1) in
+      let row = all_has IsKeptRow (map kept_columns lines) (kept_columns l.0) all (maps_had kept_columns lines l.0 l.1) in
       let fits : CanBeKept (string_bytes l.0.key) (entry_in (kept_entry l.0).2) = record { is_key = row.key; status = row.status; text = IsUtf8-string_bytes l.0.reply.command; body = IsUtf8-string_bytes l.0.reply.body } in
-      subst (λ (q : List ℕ). CanBeKept q (entry_in kept)) (ap (λ (y : ℤ × List ℕ × KeptRow). y.1) (sym l.2) ∙ e.2)
-      (subst (λ (r : KeptRow). CanBeKept (string_bytes l.0.key) (entry_in r)) (ap (λ (y : ℤ × List ℕ × KeptRow). y.2) (sym l.2) ∙ e.3) fits)
+      subst (λ (q : List ℕ). CanBeKept q (entry_in kept)) (ap (λ (y : ℤ × List ℕ × KeptReplyView). y.1) (sym l.2) ∙ e.2)
+      (subst (λ (r : KeptReplyView). CanBeKept (string_bytes l.0.key) (entry_in r)) (ap (λ (y : ℤ × List ℕ × KeptReplyView). y.2) (sym l.2) ∙ e.3) fits)
 
   -- each row of a table that spells kept replies fits
-  pub kept_fit : HasNoTwins text_cmp (map kept_entry lines) → (k : Kept) → ((key : List ℕ) → get kept_in key ≡ option_map row_of (k key)) → ((key : List ℕ) (entry : Entry) → k key ≡ Some entry → CanBeKept key entry)
-      → AllByRecursion IsKeptRow (map kept_shown lines)
-  kept_fit apart k kept keys = all_from IsKeptRow (map kept_shown lines) (λ row there.
-      let l = has_mapped kept_shown lines row there in
+  pub kept_fit : HasNoDuplicates text_cmp (map kept_entry lines) → (k : Kept) → ((key : List ℕ) → get kept_in key ≡ option_map stored_reply (k key)) → ((key : List ℕ) (entry : KeptEntry) → k key ≡ Some entry → CanBeKept key entry)
+      → AllByRecursion IsKeptRow (map kept_columns lines)
+  kept_fit apart k kept keys = all_from IsKeptRow (map kept_columns lines) (λ row there.
+      let l = has_mapped kept_columns lines row there in
       let es = map kept_entry lines in
       let e = kept_entry l.0 in
       let found = get-from_entries text_order.total (map without_rowid es) e.1 ∙ found_first text_cmp text_order es e apart.keys (maps_had kept_entry lines l.0 l.1) in
-      let it = was_written row_of (k e.1) e.2 (sym (kept e.1) ∙ found) in
+      let it = was_written stored_reply (k e.1) e.2 (sym (kept e.1) ∙ found) in
       let can = keys e.1 it.0 it.1 in
-      let fits : IsKeptRow (kept_shown l.0) = record { key = can.is_key; status = subst IsKeptStatus (sym (ap (λ (r : KeptRow). r.status) it.2)) can.status } in
+      let fits : IsKeptRow (kept_columns l.0) = record { key = can.is_key; status = subst IsKeptStatus (sym (ap (λ (r : KeptReplyView). r.status) it.2)) can.status } in
       subst IsKeptRow (sym l.2) fits)
 
 -- ---- the tables that each layout has
 
-module _ (lines : Lines) (apart : HaveNoTwins lines) where
+module _ (lines : RawRows) (apart : HaveNoDuplicates lines) where
   abbrev held : Contents
   held = contents_of lines
 
   -- rows that fit spell a registry, where no text stands twice and the id of each version is that of a text
   pub spelled_if_rows : ((i j : ℕ) (text : List ℕ) → get held.texts i ≡ Some text → get held.texts j ≡ Some text → i ≡ j)
-      → ((key : RowKey) (row : VersionRow) → get held.versions key ≡ Some row → (text : List ℕ) × (get held.texts row.id ≡ Some text))
-      → AreTexts (map text_shown (lines TableName.Texts)) → AllByRecursion IsVersionRow (map version_shown (lines TableName.Versions)) → AllByRecursion IsLevelRow (map level_shown (lines TableName.Levels)) → AllByRecursion IsKeptRow (map kept_shown (lines TableName.Kept))
+      → ((key : RowKey) (row : VersionEntryView) → get held.versions key ≡ Some row → (text : List ℕ) × (get held.texts row.id ≡ Some text))
+      → AreTexts (map text_columns (lines TableName.Texts)) → AllByRecursion IsVersionRow (map version_columns (lines TableName.Versions)) → AllByRecursion IsLevelRow (map level_columns (lines TableName.Levels)) → AllByRecursion IsKeptRow (map kept_columns (lines TableName.Kept))
       → (g : Registry) × (k : Kept) × IsSpelled held g k
   spelled_if_rows unique refers texts versions levels kept =
       let schemas = schemas_in (lines TableName.Texts) texts.identities in

@@ -15,8 +15,8 @@ use Rattle.reg_core.proofs.RowLemmas.{each_got, got_entry, row_order, row_keys_a
 use Rattle.reg_core.proofs.ChosenRows.{filter_all, last_or-map}
 use Rattle.reg_tables.specs.declared.listed.SubjectVersion.{SubjectVersion}
 use Rattle.reg_tables.specs.declared.versions.VersionEntry.{VersionEntry}
-use Rattle.reg_tables.specs.Contents.{Contents, VersionRow}
-use Rattle.reg_tables.specs.Entries.{NumberedVersion, numbered, subject_versions, version_row as entry_row}
+use Rattle.reg_tables.specs.Contents.{Contents, VersionEntryView}
+use Rattle.reg_tables.specs.Entries.{SubjectVersionView, subject_version_view, subject_versions, version_entry_view as entry_row}
 use Rattle.reg_store.specs.Spells.{stored_version}
 use Rattle.reg_store.specs.Inside.Viewing.{row_numbered}
 use Rattle.reg_store.proofs.RowLemmas.{subject_spelled}
@@ -38,18 +38,18 @@ map_map f h (Some x) = refl
 
 module _ (contents : Contents) (g : Registry) (spelled : (key : RowKey) → get contents.versions key ≡ option_map stored_version (get g.rows key)) (subject : List ℕ) where
   -- the last of all, of which each is shown where deleted ones are
-  pub last_told : (found : Option SubjectVersion) → option_map numbered found ≡ last_or None (subject_versions subject contents)
-      → option_map (λ (line : SubjectVersion). row_numbered subject (numbered line)) found ≡ last_or None (shown_rows true (rows_of g subject))
+  pub last_told : (found : Option SubjectVersion) → option_map subject_version_view found ≡ last_or None (subject_versions subject contents)
+      → option_map (λ (line : SubjectVersion). row_numbered subject (subject_version_view line)) found ≡ last_or None (shown_rows true (rows_of g subject))
   last_told found is =
-      map_map numbered (row_numbered subject) found ∙ ap (option_map (row_numbered subject)) is ∙ sym (last_or-map (row_numbered subject) None (subject_versions subject contents))
+      map_map subject_version_view (row_numbered subject) found ∙ ap (option_map (row_numbered subject)) is ∙ sym (last_or-map (row_numbered subject) None (subject_versions subject contents))
       ∙ ap (last_or None) (subject_spelled contents g spelled subject ∙ sym (filter_all (λ row. true || not row.1.deleted) (rows_of g subject) (λ k d lt. refl)))
 
   -- the last of those that aren't deleted
-  pub last_live_told : (found : Option SubjectVersion) → option_map numbered found ≡ last_or None (filter (λ (version : NumberedVersion). not version.1.deleted) (subject_versions subject contents))
-      → option_map (λ (line : SubjectVersion). row_numbered subject (numbered line)) found ≡ last_or None (shown_rows false (rows_of g subject))
+  pub last_live_told : (found : Option SubjectVersion) → option_map subject_version_view found ≡ last_or None (filter (λ (version : SubjectVersionView). not version.1.deleted) (subject_versions subject contents))
+      → option_map (λ (line : SubjectVersion). row_numbered subject (subject_version_view line)) found ≡ last_or None (shown_rows false (rows_of g subject))
   last_live_told found is =
-      map_map numbered (row_numbered subject) found ∙ ap (option_map (row_numbered subject)) is
-      ∙ sym (last_or-map (row_numbered subject) None (filter (λ (version : NumberedVersion). not version.1.deleted) (subject_versions subject contents)))
+      map_map subject_version_view (row_numbered subject) found ∙ ap (option_map (row_numbered subject)) is
+      ∙ sym (last_or-map (row_numbered subject) None (filter (λ (version : SubjectVersionView). not version.1.deleted) (subject_versions subject contents)))
       ∙ ap (last_or None) (sym (filter-map (λ row. not row.1.deleted) (row_numbered subject) (subject_versions subject contents)) ∙ ap (shown_rows false) (subject_spelled contents g spelled subject))
 
   -- the version that an entry of the table is of
@@ -81,7 +81,7 @@ id_of_last id (first ∷ rows) row ids there = at_last first rows ids
 
 module _ (contents : Contents) (g : Registry) (spelled : (key : RowKey) → get contents.versions key ≡ option_map stored_version (get g.rows key)) (id : ℕ) where
   -- where no entry of the table has the id, no version has it
-  pub no_version_told : ((key : RowKey) (entry : VersionRow) → get contents.versions key ≡ Some entry → entry.id ≢ id) → rows_with id (entries g.rows) ≡ []
+  pub no_version_told : ((key : RowKey) (entry : VersionEntryView) → get contents.versions key ≡ Some entry → entry.id ≢ id) → rows_with id (entries g.rows) ≡ []
   no_version_told none = filter_none (λ (row : Row). row.1.id == id) (entries g.rows) (λ k d lt. not_it _ (each_got row_cmp row_order g.rows k d lt))
     where
       not_it : (row : Row) → get g.rows row.0 ≡ Some row.1 → (row.1.id == id) ≡ false
@@ -91,10 +91,10 @@ module _ (contents : Contents) (g : Registry) (spelled : (key : RowKey) → get 
       ]
 
   -- and where an entry has it, the last of its versions does
-  pub version_told : (key : RowKey) (entry : VersionRow) → get contents.versions key ≡ Some entry → entry.id ≡ id → map (λ (row : Row). row.1.id) (latest (rows_with id (entries g.rows))) ≡ id ∷ []
+  pub version_told : (key : RowKey) (entry : VersionEntryView) → get contents.versions key ≡ Some entry → entry.id ≡ id → map (λ (row : Row). row.1.id) (latest (rows_with id (entries g.rows))) ≡ id ∷ []
   version_told key entry there is =
       let it = was_written stored_version (get g.rows key) entry (sym (spelled key) ∙ there) in
-      let has : (it.0.id == id) ≡ true = eq-eqb it.0.id id (sym (ap (λ (e : VersionRow). e.id) it.2) ∙ is) in
+      let has : (it.0.id == id) ≡ true = eq-eqb it.0.id id (sym (ap (λ (e : VersionEntryView). e.id) it.2) ∙ is) in
       let p = λ (row : Row). row.1.id == id in
       id_of_last id (rows_with id (entries g.rows)) (key, it.0)
       (All-weaker (λ (row : Row). (row.1.id == id) ≡ true) (λ (row : Row). row.1.id ≡ id) (λ row h. eqb-true row.1.id id h) (rows_with id (entries g.rows)) (filter_passes p (entries g.rows)))

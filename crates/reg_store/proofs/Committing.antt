@@ -20,7 +20,7 @@ use Rattle.avro_nodes.specs.Identity.{identity}
 use Rattle.avro_schema.specs.Texts.{IsSchema}
 use Rattle.reg_core.specs.Registry.{new_registry, row_cmp, schema_at}
 use Rattle.reg_tables.specs.Layout.{layout_one, layout_two}
-use Rattle.reg_tables.specs.Contents.{text_cmp, version_cmp, TextMap, Holds, Contents, HoldsIn}
+use Rattle.reg_tables.specs.Contents.{text_cmp, version_cmp, TextMap, HoldsLayoutOne, Contents, HoldsContents}
 use Rattle.reg_tables.specs.Changes.{new_contents_two, no_contents, new_contents_one}
 use Rattle.reg_tables.proofs.Transactions.{keeps_if_unchanged, keeps_if_undone}
 use Rattle.reg_core.specs.KeptReplies.{nothing_kept}
@@ -28,11 +28,11 @@ use Rattle.reg_core.specs.Stored.{Stored, new_stored}
 use Rattle.reg_store.specs.declared.error.StoreError.{StoreError}
 use Rattle.reg_store.specs.declared.error.StoreError.TheVariants.{Memory, Disk, NotARegistry, OldLayout, NewerLayout}
 use Rattle.reg_store.specs.Failures.{failure_of, IsFaultBy}
-use Rattle.reg_store.specs.Stores.{LeavesBefore, LeavesCommit}
-use Rattle.reg_store.specs.Spells.{stored_version, IsSpelled, SpellsLayoutOne, SpellsIn, Spells, LeavesIn, Leaves, IsOpenOver, SpellsWhileOpen}
+use Rattle.reg_store.specs.Stores.{KeepsCrashStates, RecoversLastCommit}
+use Rattle.reg_store.specs.Spells.{stored_version, IsSpelled, SpellsLayoutOne, SpellsIn, Spells, RecoversToIn, RecoversTo, IsOpenOver, SpellsWhileOpen}
 use Rattle.reg_store.specs.declared.layout.Layout.{Layout}
 use Rattle.reg_store.specs.declared.layout.Layout.TheVariants.{One, Two}
-use Rattle.reg_store.specs.Inside.Making.{SpellsNew, IsNew, LeavesNew}
+use Rattle.reg_store.specs.Inside.Making.{SpellsNew, IsNew, RecoversToNew}
 use Rattle.reg_store.proofs.Evidence.{no_evidence}
 
 -- a commit that fails leaves the last commit
@@ -53,13 +53,13 @@ on_err_each (Ok x) h = tt
 on_err_each (Err e) h = h
 
 -- trees that hold the contents do so after a crash
-pub left_if_held : (schema : Schema) (db : Trees) (now : Database) (contents : Contents) → db ≡ now.trees → HoldsIn schema now contents → HoldsIn schema (record { schema = schema; trees = db }) contents
+pub left_if_held : (schema : Schema) (db : Trees) (now : Database) (contents : Contents) → db ≡ now.trees → HoldsContents schema now contents → HoldsContents schema (record { schema = schema; trees = db }) contents
 left_if_held schema db now contents is h =
-    subst (λ d. HoldsIn schema (record { schema = schema; trees = d }) contents) (sym is) (subst (λ x. HoldsIn schema (record { schema = x; trees = now.trees }) contents) h.declared h)
+    subst (λ d. HoldsContents schema (record { schema = schema; trees = d }) contents) (sym is) (subst (λ x. HoldsContents schema (record { schema = x; trees = now.trees }) contents) h.declared h)
 
 -- trees that are those of a database spell what that does
-pub left_if_spelled : {Known : Schema → Type 0} {Spelled : Contents → Stored → Type 0} (db : Trees) (now : Database) (was : Stored) → db ≡ now.trees → SpellsIn Known Spelled now was → LeavesIn Known Spelled db was
-left_if_spelled {Known} {Spelled} db now was is s = record { schema = now.schema; spells = subst (λ d. SpellsIn Known Spelled (record { schema = now.schema; trees = d }) was) (sym is) s }
+pub left_if_spelled : {IsAllowed : Schema → Type 0} {Spelled : Contents → Stored → Type 0} (db : Trees) (now : Database) (was : Stored) → db ≡ now.trees → SpellsIn IsAllowed Spelled now was → RecoversToIn IsAllowed Spelled db was
+left_if_spelled {IsAllowed} {Spelled} db now was is s = record { schema = now.schema; spells = subst (λ d. SpellsIn IsAllowed Spelled (record { schema = now.schema; trees = d }) was) (sym is) s }
 
 none_at : (id : ℕ) → schema_at [] id ≡ None
 none_at zero = refl
@@ -87,7 +87,7 @@ new_is_spelled meta = record {
   keys = λ key entry some. absurd (cc);
 }
 
-pub spells_new : (now : Database) → HoldsIn layout_two now new_contents_two → Spells now new_stored
+pub spells_new : (now : Database) → HoldsContents layout_two now new_contents_two → Spells now new_stored
 spells_new now h = record {
   schema = layout_two;
   known = inl refl;
@@ -102,7 +102,7 @@ spells_new now h = record {
   };
 }
 
-pub spells_new_one : (now : Database) → Holds now new_contents_one → SpellsLayoutOne now new_stored
+pub spells_new_one : (now : Database) → HoldsLayoutOne now new_contents_one → SpellsLayoutOne now new_stored
 spells_new_one now h = record {
   schema = layout_one;
   known = inl refl;
@@ -116,7 +116,7 @@ pub is_new : (layout : Layout) (s : State) → IsTrue s.is_open → s.committed 
 is_new One s is_open settled spells = record { is_open = is_open; settled = settled; spells = spells }
 is_new Two s is_open settled spells = record { is_open = is_open; settled = settled; spells = spells }
 
-pub leaves_new : (layout : Layout) (db : Trees) (now : Database) → db ≡ now.trees → SpellsNew layout now → LeavesNew layout db
+pub leaves_new : (layout : Layout) (db : Trees) (now : Database) → db ≡ now.trees → SpellsNew layout now → RecoversToNew layout db
 leaves_new One db now is spells = left_if_spelled db now new_stored is spells
 leaves_new Two db now is spells = left_if_spelled db now new_stored is spells
 
@@ -128,7 +128,7 @@ still_spells old new was keeps settled s is_open =
     record { is_open = is_open; settled = sym (settled is_open); spells = subst (λ d. Spells d was) (sym same) before.spells }
 
 -- while it shows its last commit, a crash leaves what that spells
-pub leaves_if_open : (s : State) (was : Stored) → LeavesCommit s → IsOpenOver s was → (db : Trees) → s.may_leave db → Leaves db was
+pub leaves_if_open : (s : State) (was : Stored) → RecoversLastCommit s → IsOpenOver s was → (db : Trees) → s.may_leave db → RecoversTo db was
 leaves_if_open s was only over db it = left_if_spelled db s.now was (only over.is_open db it ∙ ap (λ (d : Database). d.trees) over.settled) over.spells
 
 -- what holds where one result is an error holds where the other is one
@@ -147,7 +147,7 @@ on_ok_same (Err e) (Err d) same f h = tt
 -- ---- errors that aren't the disk's
 
 -- where a crash leaves no more than before, no error says otherwise
-pub leaves_before : (old new : State) (e : StoreError) → ((db : Trees) → new.may_leave db → old.may_leave db) → LeavesBefore old new e
+pub leaves_before : (old new : State) (e : StoreError) → ((db : Trees) → new.may_leave db → old.may_leave db) → KeepsCrashStates old new e
 leaves_before old new Memory h = inl h
 leaves_before old new Disk h = tt
 leaves_before old new NotARegistry h = h
@@ -155,7 +155,7 @@ leaves_before old new (OldLayout number) h = h
 leaves_before old new (NewerLayout number) h = h
 
 -- so it is where a transaction is dropped
-pub before_if_undone : (old new : State) (e : StoreError) → Survives old new (λ _. ⊥) → HasCleanDisk new → LeavesBefore old new e
+pub before_if_undone : (old new : State) (e : StoreError) → Survives old new (λ _. ⊥) → HasCleanDisk new → KeepsCrashStates old new e
 before_if_undone old new e s clean = leaves_before old new e (λ db it. elim (s.crash clean db it) [ inl was ↦ was | inr none ↦ absurd none ])
 
 -- a commit that fails leaves the last one while the connection is open, and memory alone is refused without a word on that
@@ -164,20 +164,20 @@ module _ (first last end : State) (keeps : KeepsCommit first end) (settled : (db
   open_before : IsTrue end.is_open → (db : Trees) → end.may_leave db → first.may_leave db
   open_before is_open db it = subst first.may_leave (sym (settled db is_open it ∙ ap (λ (d : Database). d.trees) (keeps.committed is_open))) (stays (keeps.was_open is_open))
 
-  pub before_if_failed : (e : Error) → FailsToCommit last end e → LeavesBefore first end (failure_of e)
-  before_if_failed e (inl fails) = subst (λ x. LeavesBefore first end (failure_of x)) (sym fails.1) (go fails.0)
+  pub before_if_failed : (e : Error) → FailsToCommit last end e → KeepsCrashStates first end (failure_of e)
+  before_if_failed e (inl fails) = subst (λ x. KeepsCrashStates first end (failure_of x)) (sym fails.1) (go fails.0)
     where
-      go : (cause : trees.StoreError) → LeavesBefore first end (failure_of (store_error cause))
+      go : (cause : trees.StoreError) → KeepsCrashStates first end (failure_of (store_error cause))
       go stored.OutOfMemory = elim closes [ inl is_open ↦ inl (open_before is_open) | inr more ↦ inr more ]
       go stored.Io = tt
       go stored.Corrupt = tt
       go stored.Full = tt
       go stored.Broken = tt
       go stored.Unstorable = tt
-  before_if_failed e (inr late) = subst (λ x. LeavesBefore first end (failure_of x)) (sym late.0) (open_before late.2.0.is_open)
+  before_if_failed e (inr late) = subst (λ x. KeepsCrashStates first end (failure_of x)) (sym late.0) (open_before late.2.0.is_open)
 
 -- what a later call leaves, an earlier state left, where none was committed between
-pub before_then : (a b c : State) (e : StoreError) → Survives a b (λ _. ⊥) → HasCleanDisk b → b.faults ≤ c.faults → LeavesBefore b c e → LeavesBefore a c e
+pub before_then : (a b c : State) (e : StoreError) → Survives a b (λ _. ⊥) → HasCleanDisk b → b.faults ≤ c.faults → KeepsCrashStates b c e → KeepsCrashStates a c e
 before_then a b c Memory s clean up (inl same) = inl (λ db it. elim (s.crash clean db (same db it)) [ inl was ↦ was | inr none ↦ absurd none ])
 before_then a b c Memory s clean up (inr more) = let counts = s.counts in inr (omega (arith, counts, more))
 before_then a b c Disk s clean up h = tt
@@ -186,7 +186,7 @@ before_then a b c (OldLayout number) s clean up h = λ db it. elim (s.crash clea
 before_then a b c (NewerLayout number) s clean up h = λ db it. elim (s.crash clean db (h db it)) [ inl was ↦ was | inr none ↦ absurd none ]
 
 -- a fault that shut the connection came before
-pub before_if_faulted : (old mid new : State) (e : StoreError) → MoreFaults old.faults mid.faults → mid.faults ≤ new.faults → IsFaultBy mid new e → LeavesBefore old new e
+pub before_if_faulted : (old mid new : State) (e : StoreError) → MoreFaults old.faults mid.faults → mid.faults ≤ new.faults → IsFaultBy mid new e → KeepsCrashStates old new e
 before_if_faulted old mid new Memory more up h = inr (omega (arith, more, up))
 before_if_faulted old mid new Disk more up h = tt
 before_if_faulted old mid new NotARegistry more up h = absurd h

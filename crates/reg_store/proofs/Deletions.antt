@@ -12,13 +12,13 @@ use Rattle.reg_core.specs.Registry.{Rows, RowKey, Version, Registry, own_without
 use Rattle.reg_core.specs.Views.{altered, after_change}
 use Rattle.reg_core.proofs.DeletionLemmas.{altered_was, removed_was}
 use Rattle.reg_core.proofs.RegistryLemmas.{fewer-IsRegistry, levels-IsRegistry}
-use Rattle.reg_tables.specs.Contents.{version_cmp, VersionRow, Contents}
+use Rattle.reg_tables.specs.Contents.{version_cmp, VersionEntryView, Contents}
 use Rattle.reg_tables.specs.Changes.{without_level, without_version, with_deleted}
 use Rattle.reg_tables.specs.Writing.{Changes}
 use Rattle.reg_tables.specs.Changes as tables
 use Rattle.reg_tables.proofs.MapLemmas.{get-altered-same, get-altered-other, same_or_not}
 use Rattle.reg_tables.proofs.KeyedTables.{version_order}
-use Rattle.reg_store.specs.Inside.Making.{Makes}
+use Rattle.reg_store.specs.Inside.Making.{StoresChange}
 use Rattle.reg_store.specs.Spells.{IsSpelled, stored_version}
 use Rattle.reg_store.proofs.Maps.{remove_both, remove_each}
 use Rattle.reg_store.proofs.Evidence.{evidence_left}
@@ -29,7 +29,7 @@ marked_row : (found : Option Version) → option_map tables.as_deleted (option_m
 marked_row None = refl
 marked_row (Some version) = refl
 
-module _ (m : FinMap version_cmp VersionRow) (rows : Rows) (same : (key : RowKey) → get m key ≡ option_map stored_version (get rows key)) (key : RowKey) where
+module _ (m : FinMap version_cmp VersionEntryView) (rows : Rows) (same : (key : RowKey) → get m key ≡ option_map stored_version (get rows key)) (key : RowKey) where
   -- the rows of versions are those of the registry, with one soft-deleted on both sides
   deleted_both : (q : RowKey) → get (tables.altered m key tables.as_deleted) q ≡ option_map stored_version (get (altered rows key as_deleted) q)
   deleted_both q = elim (same_or_not row_cmp version_order q key) [
@@ -85,12 +85,12 @@ module _ (contents : Contents) (g : Registry) (k : Kept) (s : IsSpelled contents
 -- ---- the tables
 
 module _ (old new : State) where
-  pub makes_deleted : (subject : List ℕ) (number : ℕ) → Changes old new (with_deleted (subject, number)) → Makes old new (MarkDeleted subject number)
+  pub makes_deleted : (subject : List ℕ) (number : ℕ) → Changes old new (with_deleted (subject, number)) → StoresChange old new (MarkDeleted subject number)
   makes_deleted subject number changes was s fits =
       changed old new (with_deleted (subject, number)) changes was s _
       (spelled_in s.contents was s.spelled _ _ _ (spelled_deleted s.contents was.registry was.replies s.spelled.base subject number) s.spelled.meta refl (refl, refl, refl))
 
-  pub makes_removed : (subject : List ℕ) (number : ℕ) → Changes old new (without_version (subject, number)) → Makes old new (Remove subject number)
+  pub makes_removed : (subject : List ℕ) (number : ℕ) → Changes old new (without_version (subject, number)) → StoresChange old new (Remove subject number)
   makes_removed subject number changes was s fits = record {
     schema = s.schema;
     known = s.known;
@@ -105,7 +105,7 @@ module _ (old new : State) where
     };
   }
 
-  pub makes_dropped : (subject : List ℕ) → Changes old new (without_level subject) → Makes old new (DropLevel subject)
+  pub makes_dropped : (subject : List ℕ) → Changes old new (without_level subject) → StoresChange old new (DropLevel subject)
   makes_dropped subject changes was s fits =
       changed old new (without_level subject) changes was s _
       (spelled_in s.contents was s.spelled _ _ _ (spelled_dropped s.contents was.registry was.replies s.spelled.base subject) s.spelled.meta refl (refl, refl, refl))

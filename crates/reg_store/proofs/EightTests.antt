@@ -12,25 +12,25 @@ use Rattle.reg_core.specs.Modes.{mode_of, mode_text}
 use Rattle.reg_core.specs.Registry.{OwnModes, no_own}
 use Rattle.reg_core.specs.Stored.{Stored}
 use Rattle.reg_core.specs.Subjects.{is_subject}
-use Rattle.reg_tables.specs.declared.modes.ModeLine.{ModeLine}
-use Rattle.reg_tables.specs.declared.evidence.EvidenceLine.{EvidenceLine}
-use Rattle.reg_tables.specs.declared.evidence.AgainstLine.{AgainstLine}
+use Rattle.reg_tables.specs.declared.modes.RawMode.{RawMode}
+use Rattle.reg_tables.specs.declared.evidence.RawEvidence.{RawEvidence}
+use Rattle.reg_tables.specs.declared.evidence.RawAgainst.{RawAgainst}
 use Rattle.reg_tables.specs.Layout.{IsLayoutOne, IsOpenable, HasEightTables, table_at}
-use Rattle.reg_tables.specs.Contents.{text_cmp, version_cmp, TextMap, pair_form, place_cmp, evidence_form, against_form, TableName, Against, Contents, HoldsIn}
+use Rattle.reg_tables.specs.Contents.{text_cmp, version_cmp, TextMap, pair_form, position_cmp, evidence_form, against_form, TableName, Against, Contents, HoldsContents}
 use Rattle.reg_tables.specs.Reads.{CanBeReadIn}
-use Rattle.reg_tables.specs.Listings.{HasNoTwins, without_rowid, mode_entry, evidence_entry, against_entry, ListsModes, ListsEvidence, ListsAgainst}
-use Rattle.reg_tables.specs.Inside.AllLines.{contents_of}
+use Rattle.reg_tables.specs.Listings.{HasNoDuplicates, without_rowid, mode_entry, evidence_entry, against_entry, ListsModes, ListsEvidence, ListsAgainst}
+use Rattle.reg_tables.specs.Inside.AllRawRows.{contents_of}
 use Rattle.reg_tables.proofs.KeyedTables.{text_order, distinct_texts, version_order, distinct_versions, distinct_numbers}
 use Rattle.reg_tables.proofs.ListMembers.{has_mapped, maps_had}
 use Rattle.reg_tables.proofs.ListingLemmas.{found_first, find_had, listed_if_shown}
 use Rattle.reg_tables.proofs.Tables.{openable_has_eight, shown_by, has_table}
-use Rattle.reg_tables.proofs.Keys.{distinct_places, place_order}
+use Rattle.reg_tables.proofs.Keys.{distinct_positions, position_order}
 use Rattle.reg_tables.proofs.UniqueKeys.{modes_apart, evidence_apart, against_apart, layout_keys, two_keys, rowids_of}
 use Rattle.reg_tables.proofs.Opening.{listed_in, nothing_listed}
 use Rattle.reg_rows.specs.Spelling.{FitsModes}
 use Rattle.reg_store.specs.declared.layout.Layout.TheVariants.{One}
 use Rattle.reg_store.specs.Spells.{SpellsLayoutOne, SpellsUnopened, SpellsWhileOpen}
-use Rattle.reg_store.specs.Inside.Testing.{AreApart, mode_fits, EvidenceFits, FivePass, SpellsSome, EightPass}
+use Rattle.reg_store.specs.Inside.Testing.{AreDistinct, mode_fits, EvidenceFits, FivePass, SpellsSome, EightPass}
 use Rattle.reg_store.proofs.EvidenceMaps.{spelled_if_evidence, evidence_if_spelled}
 use Rattle.reg_store.proofs.EvidenceRows.{evidence_if_fits, level_fits, places_fit, in_place}
 use Rattle.reg_store.proofs.MetaRows.{mode_spelt, meta_is, layout_two_meta_is}
@@ -50,7 +50,7 @@ mode_spelt_back (Some v) f = go (mode_of v) refl (f v refl)
     go None e h = absurd (cc)
     go (Some mode) e h = ap Some (mode_spelt v mode e)
 
-module _ (lines : List ModeLine) where
+module _ (lines : List RawMode) where
   abbrev modes_in : TextMap (List ℕ)
   modes_in = from_entries (map without_rowid (map mode_entry lines))
 
@@ -63,7 +63,7 @@ module _ (lines : List ModeLine) where
       subst (λ q. FitsModes q mode) (ap (λ (y : ℤ × List ℕ × List ℕ). y.1) (sym l.2) ∙ e.2)
       (subst (FitsModes (string_bytes l.0.subject)) (ap (λ (y : ℤ × List ℕ × List ℕ). y.2) (sym l.2) ∙ e.3) row)
 
-  modes_fit : HasNoTwins text_cmp (map mode_entry lines) → (own : OwnModes) → ((subject : List ℕ) → get modes_in subject ≡ option_map mode_text (own subject))
+  modes_fit : HasNoDuplicates text_cmp (map mode_entry lines) → (own : OwnModes) → ((subject : List ℕ) → get modes_in subject ≡ option_map mode_text (own subject))
       → ((subject : List ℕ) (mode : Mode) → own subject ≡ Some mode → IsTrue (is_subject subject)) → AllByRecursion mode_fits lines
   modes_fit apart own modes subjects = all_from mode_fits lines (λ line there.
       let es = map mode_entry lines in
@@ -91,28 +91,28 @@ module _ (db : Database) (s : SpellsSome SpellsUnopened db) where
   known : HasEightTables db.schema
   known = openable_has_eight db.schema there
 
-  holds : HoldsIn db.schema db held
-  holds = subst (λ x. HoldsIn x db held) (sym s.spells.holds.declared) s.spells.holds
+  holds : HoldsContents db.schema db held
+  holds = subst (λ x. HoldsContents x db held) (sym s.spells.holds.declared) s.spells.holds
 
-  modes_shown : (lines : List ModeLine) → ListsModes db lines → HasNoTwins text_cmp (map mode_entry lines) × (held.modes ≡ modes_in lines)
+  modes_shown : (lines : List RawMode) → ListsModes db lines → HasNoDuplicates text_cmp (map mode_entry lines) × (held.modes ≡ modes_in lines)
   modes_shown lines lists = let shown = listed_if_shown pair_form text_cmp text_order distinct_texts (db.trees (table_at db.schema 5).tree) (map mode_entry lines) lists held.modes distinct_texts (shown_by holds TableName.Modes known) in (shown.apart, shown.is)
 
-  pub modes_pass : (lines : List ModeLine) → ListsModes db lines → AreApart (map (λ (line : ModeLine). line.rowid) lines) × AllByRecursion mode_fits lines
+  pub modes_pass : (lines : List RawMode) → ListsModes db lines → AreDistinct (map (λ (line : RawMode). line.rowid) lines) × AllByRecursion mode_fits lines
   modes_pass lines lists =
       let shown = modes_shown lines lists in (
-        subst AreApart (rowids_of mode_entry (λ (line : ModeLine). line.rowid) (λ line. refl) lines) shown.0.rowids,
+        subst AreDistinct (rowids_of mode_entry (λ (line : RawMode). line.rowid) (λ line. refl) lines) shown.0.rowids,
         modes_fit lines shown.0 s.stored.registry.own_modes (λ subject. ap (λ m. get m subject) (sym shown.1) ∙ s.spells.spelled.modes subject) s.spells.spelled.owners,
       )
 
-  pub evidence_passes : (evidence : List EvidenceLine) (against : List AgainstLine) → ListsEvidence db evidence → ListsAgainst db against → EvidenceFits evidence against
+  pub evidence_passes : (evidence : List RawEvidence) (against : List RawAgainst) → ListsEvidence db evidence → ListsAgainst db against → EvidenceFits evidence against
   evidence_passes evidence against lists places =
       let levels = listed_if_shown evidence_form version_cmp version_order distinct_versions (db.trees (table_at db.schema 6).tree) (map evidence_entry evidence) lists held.evidence distinct_texts (shown_by holds TableName.Evidence known) in
-      let ids = listed_if_shown against_form place_cmp place_order distinct_places (db.trees (table_at db.schema 7).tree) (map against_entry against) places held.against distinct_numbers (shown_by holds Against known) in
+      let ids = listed_if_shown against_form position_cmp position_order distinct_positions (db.trees (table_at db.schema 7).tree) (map against_entry against) places held.against distinct_numbers (shown_by holds Against known) in
       let rows = evidence_if_spelled held s.stored.evidence s.spells.spelled.evidence in
       record {
-        apart = subst AreApart (rowids_of evidence_entry (λ (line : EvidenceLine). line.rowid) (λ line. refl) evidence) levels.apart.rowids;
+        apart = subst AreDistinct (rowids_of evidence_entry (λ (line : RawEvidence). line.rowid) (λ line. refl) evidence) levels.apart.rowids;
         fit = level_fits evidence against levels.apart ids.apart held levels.is ids.is rows;
-        places_apart = subst AreApart (rowids_of against_entry (λ (line : AgainstLine). line.rowid) (λ line. refl) against) ids.apart.rowids;
+        places_apart = subst AreDistinct (rowids_of against_entry (λ (line : RawAgainst). line.rowid) (λ line. refl) against) ids.apart.rowids;
         places_fit = places_fit evidence against levels.apart ids.apart held levels.is ids.is rows;
         placed = in_place evidence against levels.apart ids.apart held levels.is ids.is rows;
       }

@@ -4,15 +4,15 @@ use Rattle.std.specs.Prelude.{not, option_map, option_and_then}
 use Rattle.std.specs.Ordering.{is_eq}
 use Rattle.std.specs.FinMap.{get, insert, remove, empty, get-empty, get-retain_keys}
 use Rattle.std.proofs.lemmas.Option.{same_Some}
-use Rattle.reg_core.specs.Evidence.{Evidence, EvidenceOf}
+use Rattle.reg_core.specs.Evidence.{Evidence, EvidenceMap}
 use Rattle.reg_core.specs.Levels.{level_text}
 use Rattle.reg_core.specs.Registry.{RowKey, row_cmp}
-use Rattle.reg_tables.specs.Contents.{version_cmp, Contents, PlaceKey, place_cmp}
-use Rattle.reg_tables.specs.Changes.{with_evidence, without_places, without_version}
+use Rattle.reg_tables.specs.Contents.{version_cmp, Contents, PositionKey, position_cmp}
+use Rattle.reg_tables.specs.Changes.{with_evidence, without_positions, without_version}
 use Rattle.reg_tables.proofs.MapLemmas.{get-insert-same, get-insert-other, get-remove-same, get-remove-other, same_or_not, tied_key, other_key}
 use Rattle.reg_tables.proofs.KeyedTables.{version_order}
-use Rattle.reg_tables.proofs.Keys.{place_order}
-use Rattle.reg_store.specs.Inside.Making.{with_own, HasNoPlace}
+use Rattle.reg_tables.proofs.Keys.{position_order}
+use Rattle.reg_store.specs.Inside.Making.{with_own, HasNoPositions}
 use Rattle.reg_store.specs.Spells.{id_at, IsSpelledEvidence}
 use Rattle.reg_store.proofs.Maps.{insert_each, remove_each}
 use Rattle.reg_store.proofs.Places.{ids_beside, ids_elsewhere, at_zero, at_next}
@@ -25,12 +25,12 @@ no_value : {A B : Type 0} (f : A → B) (o : Option A) → option_map f o ≡ No
 no_value f None e = refl
 no_value f (Some a) e = absurd (cc)
 
-module _ (contents : Contents) (evidence : EvidenceOf) (s : IsSpelledEvidence contents evidence) where
+module _ (contents : Contents) (evidence : EvidenceMap) (s : IsSpelledEvidence contents evidence) where
   -- a version without a level has no evidence, and no place
   pub has_none : (key : RowKey) → get contents.evidence key ≡ None → get evidence key ≡ None
   has_none key none = no_value level_of_one (get evidence key) (sym (s.levels key) ∙ none)
 
-  pub has_no_place : (key : RowKey) → get contents.evidence key ≡ None → HasNoPlace contents key
+  pub has_no_place : (key : RowKey) → get contents.evidence key ≡ None → HasNoPositions contents key
   has_no_place key none position = s.ids (key, position) ∙ ap (option_and_then (id_at position)) (has_none key none)
 
   -- whatever the other tables hold
@@ -39,7 +39,7 @@ module _ (contents : Contents) (evidence : EvidenceOf) (s : IsSpelledEvidence co
 
   -- ---- a version that comes with its own
 
-  module _ (key : RowKey) (own : Evidence) (few : length own.against < 2 ^ 32) (free : HasNoPlace contents key) where
+  module _ (key : RowKey) (own : Evidence) (few : length own.against < 2 ^ 32) (free : HasNoPositions contents key) where
     own_ids : (position : ℕ) → get (with_own key own contents).against (key, position) ≡ id_at position own
     own_ids zero = at_zero key own.against (with_evidence key (level_text own.level) contents) free
     own_ids (suc k) = at_next key own.against (with_evidence key (level_text own.level) contents) free k
@@ -67,15 +67,15 @@ module _ (contents : Contents) (evidence : EvidenceOf) (s : IsSpelledEvidence co
   -- ---- a version that goes
 
   module _ (key : RowKey) where
-    places : (place : PlaceKey) → get (without_places contents.against key) place ≡ cond (not (is_eq (version_cmp place.0 key))) (get contents.against place) None
-    places place = get-retain_keys contents.against (λ q. not (is_eq (version_cmp q.0 key))) place (λ x tie. ap (λ (p : PlaceKey). not (is_eq (version_cmp p.0 key))) (sym (place_order.antisymmetric place x tie)))
+    places : (place : PositionKey) → get (without_positions contents.against key) place ≡ cond (not (is_eq (version_cmp place.0 key))) (get contents.against place) None
+    places place = get-retain_keys contents.against (λ q. not (is_eq (version_cmp q.0 key))) place (λ x tie. ap (λ (p : PositionKey). not (is_eq (version_cmp p.0 key))) (sym (position_order.antisymmetric place x tie)))
 
     -- the places of another version stay
-    place_stays : (place : PlaceKey) → place.0 ≢ key → get (without_places contents.against key) place ≡ get contents.against place
+    place_stays : (place : PositionKey) → place.0 ≢ key → get (without_positions contents.against key) place ≡ get contents.against place
     place_stays place other = places place ∙ ap (λ b. cond (not b) (get contents.against place) None) (other_key version_cmp version_order place.0 key other)
 
     -- and those of the version go
-    place_goes : (place : PlaceKey) → place.0 ≡ key → get (without_places contents.against key) place ≡ None
+    place_goes : (place : PositionKey) → place.0 ≡ key → get (without_positions contents.against key) place ≡ None
     place_goes place is = places place ∙ ap (λ b. cond (not b) (get contents.against place) None) (tied_key version_cmp version_order place.0 key is)
 
     was_there : (q : RowKey) (one : Evidence) → get (remove evidence key) q ≡ Some one → get evidence q ≡ Some one
@@ -98,6 +98,6 @@ module _ (contents : Contents) (evidence : EvidenceOf) (s : IsSpelledEvidence co
 pub no_evidence : (contents : Contents) → contents.evidence ≡ empty → contents.against ≡ empty → IsSpelledEvidence contents empty
 no_evidence contents none no_place = record {
   levels = λ q. ap (λ m. get m q) none ∙ get-empty version_cmp q ∙ sym (ap (option_map level_of_one) (get-empty row_cmp q));
-  ids = λ place. ap (λ m. get m place) no_place ∙ get-empty place_cmp place ∙ sym (ap (option_and_then (id_at place.1)) (get-empty row_cmp place.0));
+  ids = λ place. ap (λ m. get m place) no_place ∙ get-empty position_cmp place ∙ sym (ap (option_and_then (id_at place.1)) (get-empty row_cmp place.0));
   few = λ q one there. absurd (let none = sym (get-empty row_cmp q) ∙ there in cc);
 }

@@ -4,10 +4,10 @@ use Rattle.std.specs.Prelude.{IsSome, IsTrue, is_some, option_map, option_and_th
 use Rattle.std.specs.FinMap.{FinMap, get, entries, find, from_entries, get-from_entries, get-entries}
 use Rattle.std.proofs.lemmas.Option.{slice_get_within, slice_get_cases}
 use Rattle.reg_core.specs.declared.level.Level.TheVariants.{Backward}
-use Rattle.reg_core.specs.Evidence.{Evidence, EvidenceOf}
+use Rattle.reg_core.specs.Evidence.{Evidence, EvidenceMap}
 use Rattle.reg_core.specs.Levels.{level_text, level_of}
 use Rattle.reg_core.specs.Registry.{RowKey}
-use Rattle.reg_tables.specs.Contents.{version_cmp, PlaceKey, place_cmp, Contents}
+use Rattle.reg_tables.specs.Contents.{version_cmp, PositionKey, position_cmp, Contents}
 use Rattle.reg_tables.proofs.KeyedTables.{version_order}
 use Rattle.reg_tables.proofs.MapLemmas.{same_or_not, tied_key, other_key}
 use Rattle.reg_store.specs.Spells.{id_at, IsSpelledEvidence}
@@ -24,11 +24,11 @@ is_none (Some x) f = absurd (f x refl)
 -- ---- the ids of a version
 
 -- so many ids that stand at the positions from the first on
-abbrev ids_from : FinMap place_cmp ℕ → RowKey → ℕ → ℕ → List ℕ
+abbrev ids_from : FinMap position_cmp ℕ → RowKey → ℕ → ℕ → List ℕ
 ids_from against key first zero = []
 ids_from against key first (suc n) = unwrap_or (get against (key, first)) 0 ∷ ids_from against key (suc first) n
 
-module _ (against : FinMap place_cmp ℕ) (key : RowKey) where
+module _ (against : FinMap position_cmp ℕ) (key : RowKey) where
   many : (first n : ℕ) → length (ids_from against key first n) ≡ n
   many first zero = refl
   many first (suc n) = ap suc (many (suc first) n)
@@ -64,7 +64,7 @@ module _ (contents : Contents) (rows : IsEvidence contents) where
   abbrev one_at : RowKey → List ℕ → Evidence
   one_at key text = record { level = unwrap_or (level_of text) Backward; against = ids_from contents.against key 1 (rows.places key).count }
 
-  evidence_in : EvidenceOf
+  evidence_in : EvidenceMap
   evidence_in = from_entries (map (λ (e : RowKey × List ℕ). (e.0, one_at e.0 e.1)) (entries contents.evidence))
 
   found : (key : RowKey) → get evidence_in key ≡ option_map (one_at key) (get contents.evidence key)
@@ -94,7 +94,7 @@ module _ (contents : Contents) (rows : IsEvidence contents) where
             is_none (get contents.against (key, suc n)) (λ id here. let high = ((order.each (suc n)).0 (subst IsSome (sym here) refl)).1 in absurd (omega (arith, high, past, long))) ∙ sym it.1
       ]
 
-  pub spelled_if_evidence : (evidence : EvidenceOf) × IsSpelledEvidence contents evidence
+  pub spelled_if_evidence : (evidence : EvidenceMap) × IsSpelledEvidence contents evidence
   spelled_if_evidence = (
     evidence_in,
     record {
@@ -125,7 +125,7 @@ stood one (suc n) within = elim (slice_get_cases one.against n).1 [
   | inr it ↦ absurd (let high = within.1 in let past = it.0 in omega (arith, high, past))
 ]
 
-module _ (contents : Contents) (evidence : EvidenceOf) (s : IsSpelledEvidence contents evidence) where
+module _ (contents : Contents) (evidence : EvidenceMap) (s : IsSpelledEvidence contents evidence) where
   in_order : (key : RowKey) (o : Option Evidence) → get evidence key ≡ o → AreInOrder contents.against key
   in_order key None none = record {
     count = 0;
@@ -143,7 +143,7 @@ module _ (contents : Contents) (evidence : EvidenceOf) (s : IsSpelledEvidence co
         (λ some. stands one position (subst IsSome is some), λ within. subst IsSome (sym is) (stood one position within)));
   }
 
-  owned : (place : PlaceKey) (id : ℕ) (o : Option Evidence) → get evidence place.0 ≡ o → get contents.against place ≡ Some id → IsSome (get contents.evidence place.0)
+  owned : (place : PositionKey) (id : ℕ) (o : Option Evidence) → get evidence place.0 ≡ o → get contents.against place ≡ Some id → IsSome (get contents.evidence place.0)
   owned place id None none there = absurd (let gone = sym (s.ids place ∙ ap (option_and_then (id_at place.1)) none) ∙ there in cc)
   owned place id (Some one) has there = subst IsSome (sym (s.levels place.0 ∙ ap (option_map (λ (x : Evidence). level_text x.level)) has)) refl
 

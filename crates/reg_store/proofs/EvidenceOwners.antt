@@ -5,7 +5,7 @@ use Rattle.std.specs.FinMap.{get}
 use Rattle.std.proofs.lemmas.Option.{slice_get-get_or}
 use Rattle.sqlite.specs.Effect.{Database}
 use Rattle.avro_nodes.specs.Identity.{identity}
-use Rattle.reg_core.specs.Evidence.{Evidence, IsOfVersions}
+use Rattle.reg_core.specs.Evidence.{Evidence, HasOnlyVersions}
 use Rattle.reg_core.specs.Levels.{level_text}
 use Rattle.reg_core.specs.Registry.{RowKey, schema_at}
 use Rattle.reg_core.specs.Stored.{Stored}
@@ -28,7 +28,7 @@ module _ (db : Database) (was : Stored) (s : Spells db was) where
       absurd (let some = subst IsSome none row in cc)
 
   -- only versions have evidence
-  pub is_of_versions : IsOfVersions was.registry was.evidence
+  pub is_of_versions : HasOnlyVersions was.registry was.evidence
   is_of_versions key gone = owned key (get was.evidence key) refl gone
 
   -- each id that evidence names has a schema

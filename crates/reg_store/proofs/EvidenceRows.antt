@@ -6,17 +6,17 @@ use Rattle.std.specs.FinMap.{FinMap, get, from_entries, get-from_entries}
 use Rattle.sqlite_rules.specs.Lists.{Has}
 use Rattle.sqlite_rules.proofs.ListLemmas.{all_has, all_from, has_contained, contains_had}
 use Rattle.reg_core.specs.Registry.{RowKey}
-use Rattle.reg_tables.specs.declared.evidence.EvidenceLine.{EvidenceLine}
-use Rattle.reg_tables.specs.declared.evidence.AgainstLine.{AgainstLine}
-use Rattle.reg_tables.specs.Contents.{version_cmp, PlaceKey, place_cmp, Contents}
-use Rattle.reg_tables.specs.Listings.{HasNoTwins, without_rowid, evidence_entry, against_entry}
+use Rattle.reg_tables.specs.declared.evidence.RawEvidence.{RawEvidence}
+use Rattle.reg_tables.specs.declared.evidence.RawAgainst.{RawAgainst}
+use Rattle.reg_tables.specs.Contents.{version_cmp, PositionKey, position_cmp, Contents}
+use Rattle.reg_tables.specs.Listings.{HasNoDuplicates, without_rowid, evidence_entry, against_entry}
 use Rattle.reg_tables.proofs.KeyedTables.{version_order}
 use Rattle.reg_tables.proofs.ListMembers.{has_mapped, maps_had}
 use Rattle.reg_tables.proofs.ListingLemmas.{found_first, find_had}
-use Rattle.reg_tables.proofs.Keys.{place_order}
+use Rattle.reg_tables.proofs.Keys.{position_order}
 use Rattle.reg_rows.specs.Spelling.{FitsEvidence}
 use Rattle.reg_store.specs.Inside.Evidence.{IsEvidence}
-use Rattle.reg_store.specs.Inside.Testing.{evidence_fits, against_fits, version_at, place_at, AreInPlace}
+use Rattle.reg_store.specs.Inside.Testing.{evidence_fits, against_fits, version_at, place_at, AreInSequence}
 
 pub none_is : {X : Type 0} (o : Option X) → o ≡ None → IsSome o → ⊥
 none_is None e there = absurd (cc)
@@ -26,40 +26,40 @@ pub the_value : {X : Type 0} (o : Option X) → IsSome o → (x : X) × (o ≡ S
 the_value None there = absurd (cc)
 the_value (Some x) there = (x, refl)
 
-module _ (evidence : List EvidenceLine) (against : List AgainstLine) (versions_apart : HasNoTwins version_cmp (map evidence_entry evidence)) (places_apart : HasNoTwins place_cmp (map against_entry against)) where
+module _ (evidence : List RawEvidence) (against : List RawAgainst) (versions_apart : HasNoDuplicates version_cmp (map evidence_entry evidence)) (places_apart : HasNoDuplicates position_cmp (map against_entry against)) where
   abbrev evidence_in : FinMap version_cmp (List ℕ)
   evidence_in = from_entries (map without_rowid (map evidence_entry evidence))
 
-  abbrev against_in : FinMap place_cmp ℕ
+  abbrev against_in : FinMap position_cmp ℕ
   against_in = from_entries (map without_rowid (map against_entry against))
 
   -- ---- what the lines have, the maps have
 
-  level_there : (line : EvidenceLine) → Has evidence line → get evidence_in (version_at line) ≡ Some (string_bytes line.level)
+  level_there : (line : RawEvidence) → Has evidence line → get evidence_in (version_at line) ≡ Some (string_bytes line.level)
   level_there line there =
       let es = map evidence_entry evidence in
       get-from_entries version_order.total (map without_rowid es) (version_at line) ∙ found_first version_cmp version_order es (evidence_entry line) versions_apart.keys (maps_had evidence_entry evidence line there)
 
-  id_there : (line : AgainstLine) → Has against line → get against_in (place_at line) ≡ Some line.id
+  id_there : (line : RawAgainst) → Has against line → get against_in (place_at line) ≡ Some line.id
   id_there line there =
       let es = map against_entry against in
-      get-from_entries place_order.total (map without_rowid es) (place_at line) ∙ found_first place_cmp place_order es (against_entry line) places_apart.keys (maps_had against_entry against line there)
+      get-from_entries position_order.total (map without_rowid es) (place_at line) ∙ found_first position_cmp position_order es (against_entry line) places_apart.keys (maps_had against_entry against line there)
 
   -- ---- and the other way round
 
-  level_line : (key : RowKey) (level : List ℕ) → get evidence_in key ≡ Some level → (line : EvidenceLine) × Has evidence line × (version_at line ≡ key) × (string_bytes line.level ≡ level)
+  level_line : (key : RowKey) (level : List ℕ) → get evidence_in key ≡ Some level → (line : RawEvidence) × Has evidence line × (version_at line ≡ key) × (string_bytes line.level ≡ level)
   level_line key level there =
       let es = map evidence_entry evidence in
       let e = find_had version_cmp version_order es key level (sym (get-from_entries version_order.total (map without_rowid es) key) ∙ there) in
       let l = has_mapped evidence_entry evidence e.0 e.1 in
       (l.0, l.1, ap (λ (y : ℤ × RowKey × List ℕ). y.1) (sym l.2) ∙ e.2, ap (λ (y : ℤ × RowKey × List ℕ). y.2) (sym l.2) ∙ e.3)
 
-  id_line : (place : PlaceKey) (id : ℕ) → get against_in place ≡ Some id → (line : AgainstLine) × Has against line × (place_at line ≡ place)
+  id_line : (place : PositionKey) (id : ℕ) → get against_in place ≡ Some id → (line : RawAgainst) × Has against line × (place_at line ≡ place)
   id_line place id there =
       let es = map against_entry against in
-      let e = find_had place_cmp place_order es place id (sym (get-from_entries place_order.total (map without_rowid es) place) ∙ there) in
+      let e = find_had position_cmp position_order es place id (sym (get-from_entries position_order.total (map without_rowid es) place) ∙ there) in
       let l = has_mapped against_entry against e.0 e.1 in
-      (l.0, l.1, ap (λ (y : ℤ × PlaceKey × ℕ). y.1) (sym l.2) ∙ e.2)
+      (l.0, l.1, ap (λ (y : ℤ × PositionKey × ℕ). y.1) (sym l.2) ∙ e.2)
 
   -- ---- keys
 
@@ -74,12 +74,12 @@ module _ (evidence : List EvidenceLine) (against : List AgainstLine) (versions_a
       let l = level_line key it.0 it.1 in
       subst (Contains (map version_at evidence)) l.2 (contains_had (map version_at evidence) (version_at l.0) (maps_had version_at evidence l.0 l.1))
 
-  place_told : (place : PlaceKey) → Contains (map place_at against) place → IsSome (get against_in place)
+  place_told : (place : PositionKey) → Contains (map place_at against) place → IsSome (get against_in place)
   place_told place h =
       let l = has_mapped place_at against place (has_contained (map place_at against) place h) in
       subst (λ k. IsSome (get against_in k)) (sym l.2) (subst IsSome (sym (id_there l.0 l.1)) refl)
 
-  place_listed : (place : PlaceKey) → IsSome (get against_in place) → Contains (map place_at against) place
+  place_listed : (place : PositionKey) → IsSome (get against_in place) → Contains (map place_at against) place
   place_listed place h =
       let it = the_value (get against_in place) h in
       let l = id_line place it.0 it.1 in
@@ -93,10 +93,10 @@ module _ (evidence : List EvidenceLine) (against : List AgainstLine) (versions_a
     few_places fits key (suc n) all =
         let l = has_mapped place_at against (key, suc n) (has_contained (map place_at against) (key, suc n) (all (suc n) (omega arith, omega arith))) in
         let low = all_has against_fits against l.0 fits l.1 in
-        let is : suc n ≡ l.0.position = ap (λ (p : PlaceKey). p.1) l.2 in
+        let is : suc n ≡ l.0.position = ap (λ (p : PositionKey). p.1) l.2 in
         omega (arith, low, is)
 
-    pub evidence_if_fits : AllByRecursion evidence_fits evidence → AllByRecursion against_fits against → AreInPlace evidence against → IsEvidence contents
+    pub evidence_if_fits : AllByRecursion evidence_fits evidence → AllByRecursion against_fits against → AreInSequence evidence against → IsEvidence contents
     evidence_if_fits fits places_fit placed = record {
       levels = λ key level there.
           let l = level_line key level (ap (λ m. get m key) (sym same_evidence) ∙ there) in
@@ -130,7 +130,7 @@ module _ (evidence : List EvidenceLine) (against : List AgainstLine) (versions_a
           let few = order.few in
           omega (arith, high, few))
 
-      pub in_place : AreInPlace evidence against
+      pub in_place : AreInSequence evidence against
       in_place = (
         λ place h.
             (let it_there = the_value (get against_in place) (place_told place h) in

@@ -15,8 +15,8 @@ use Rattle.reg_tables.specs.FailedCalls.{HasDiskFault, HasReason, IsFault, IsRef
 use Rattle.reg_tables.proofs.Reasons.{fault_until, fault_since}
 use Rattle.reg_store.specs.declared.error.StoreError.{StoreError}
 use Rattle.reg_store.specs.declared.error.StoreError.TheVariants.{Memory, Disk, NotARegistry, OldLayout, NewerLayout}
-use Rattle.reg_store.specs.Failures.{failure_of, is_fault, IsFaultBy, IsTold, IsNumberless}
-use Rattle.reg_store.specs.Opening.{IsRefusedAs}
+use Rattle.reg_store.specs.Failures.{failure_of, is_fault, IsFaultBy, HasDiskCause, HasNoLayoutNumber}
+use Rattle.reg_store.specs.Opening.{HasMetaNumberOf}
 
 -- what is by memory or by the disk is a fault
 pub fault_if_by : (old new : State) (e : StoreError) → IsFaultBy old new e → IsTrue (is_fault e)
@@ -56,7 +56,7 @@ pub by_since : (a b c : State) → (IsTrue a.is_open → IsTrue b.is_open ⊎ Mo
 by_since a b c closes up on = by_fault b c a c (fault_since a b c closes up on)
 
 -- what is by memory or by the disk is told
-pub told_if_by : (old new : State) (e : StoreError) → IsFaultBy old new e → IsTold old new e
+pub told_if_by : (old new : State) (e : StoreError) → IsFaultBy old new e → HasDiskCause old new e
 told_if_by old new Memory h = tt
 told_if_by old new Disk h = h
 told_if_by old new NotARegistry h = tt
@@ -64,7 +64,7 @@ told_if_by old new (OldLayout number) h = tt
 told_if_by old new (NewerLayout number) h = tt
 
 -- and names no layout
-pub plain_if_by : (old new : State) (e : StoreError) → IsFaultBy old new e → IsNumberless e
+pub plain_if_by : (old new : State) (e : StoreError) → IsFaultBy old new e → HasNoLayoutNumber e
 plain_if_by old new Memory h = tt
 plain_if_by old new Disk h = tt
 plain_if_by old new NotARegistry h = absurd h
@@ -72,11 +72,11 @@ plain_if_by old new (OldLayout number) h = absurd h
 plain_if_by old new (NewerLayout number) h = absurd h
 
 -- a row that can't be read is no fault of the disk
-pub told_by : (old new : State) (e : Error) → old.step_limit ≡ None → IsFault old new e ⊎ IsUnreadable e → IsTold old new (failure_of e)
+pub told_by : (old new : State) (e : Error) → old.step_limit ≡ None → IsFault old new e ⊎ IsUnreadable e → HasDiskCause old new (failure_of e)
 told_by old new e unlimited (inl fault) = told_if_by old new (failure_of e) (fault_by old new e unlimited fault)
 told_by old new e unlimited (inr unread) = go e unread
   where
-    go : (e : Error) → IsUnreadable e → IsTold old new (failure_of e)
+    go : (e : Error) → IsUnreadable e → HasDiskCause old new (failure_of e)
     go (InvalidColumnIndex at) h = tt
     go (InvalidColumnType at type) h = tt
     go (IntegralValueOutOfRange at) h = tt
@@ -90,12 +90,12 @@ told_by old new e unlimited (inr unread) = go e unread
     go QueryReturnedNoRows h = absurd h
 
 -- nor is a statement that is refused
-pub told_anywhere : (old new : State) (e : Error) → old.step_limit ≡ None → IsFault old new e ⊎ (IsRefused e ⊎ IsUnreadable e) → IsTold old new (failure_of e)
+pub told_anywhere : (old new : State) (e : Error) → old.step_limit ≡ None → IsFault old new e ⊎ (IsRefused e ⊎ IsUnreadable e) → HasDiskCause old new (failure_of e)
 told_anywhere old new e unlimited (inl fault) = told_by old new e unlimited (inl fault)
 told_anywhere old new e unlimited (inr (inr unread)) = told_by old new e unlimited (inr unread)
 told_anywhere old new e unlimited (inr (inl refused)) = go e refused
   where
-    by_code : (kind : ErrorCode) → IsRefused (SqliteFailure kind) → IsTold old new (failure_of (SqliteFailure kind))
+    by_code : (kind : ErrorCode) → IsRefused (SqliteFailure kind) → HasDiskCause old new (failure_of (SqliteFailure kind))
     by_code (ConstraintViolation Datatype) h = absurd h
     by_code (ConstraintViolation NotNull) h = absurd h
     by_code (ConstraintViolation Check) h = absurd h
@@ -126,7 +126,7 @@ told_anywhere old new e unlimited (inr (inl refused)) = go e refused
     by_code DiskFull h = absurd h
     by_code Closed h = absurd h
 
-    go : (e : Error) → IsRefused e → IsTold old new (failure_of e)
+    go : (e : Error) → IsRefused e → HasDiskCause old new (failure_of e)
     go (SqliteFailure kind) h = by_code kind h
     go (SqlInputError fault) h = tt
     go MultipleStatement h = tt
@@ -139,7 +139,7 @@ told_anywhere old new e unlimited (inr (inl refused)) = go e refused
     go (IntegralValueOutOfRange at) h = absurd h
     go (Utf8Error at) h = absurd h
 
-pub told_since : (a b c : State) → (IsTrue a.is_open → IsTrue b.is_open ⊎ MoreFaults a.faults b.faults) → a.faults ≤ b.faults → b.faults ≤ c.faults → (e : StoreError) → IsTold b c e → IsTold a c e
+pub told_since : (a b c : State) → (IsTrue a.is_open → IsTrue b.is_open ⊎ MoreFaults a.faults b.faults) → a.faults ≤ b.faults → b.faults ≤ c.faults → (e : StoreError) → HasDiskCause b c e → HasDiskCause a c e
 told_since a b c closes up on Memory h = tt
 told_since a b c closes up on Disk h = fault_since a b c closes up on h
 told_since a b c closes up on NotARegistry h = tt
@@ -156,10 +156,10 @@ if_err_each (Ok x) f = tt
 if_err_each (Err e) f = f e
 
 -- an error of `sqlite` names no layout
-pub numberless : (e : Error) → IsNumberless (failure_of e)
+pub numberless : (e : Error) → HasNoLayoutNumber (failure_of e)
 numberless (SqliteFailure code) = go code
   where
-    go : (code : ErrorCode) → IsNumberless (failure_of (SqliteFailure code))
+    go : (code : ErrorCode) → HasNoLayoutNumber (failure_of (SqliteFailure code))
     go (ConstraintViolation Datatype) = tt
     go (ConstraintViolation NotNull) = tt
     go (ConstraintViolation Check) = tt
@@ -201,7 +201,7 @@ numberless (IntegralValueOutOfRange at) = tt
 numberless (Utf8Error at) = tt
 
 -- an error that names no layout names no wrong one
-pub refused_if_plain : (own : ℕ) (db : Database) (e : StoreError) → IsNumberless e → IsRefusedAs own db e
+pub refused_if_plain : (own : ℕ) (db : Database) (e : StoreError) → HasNoLayoutNumber e → HasMetaNumberOf own db e
 refused_if_plain own db Memory plain = tt
 refused_if_plain own db Disk plain = tt
 refused_if_plain own db NotARegistry plain = tt

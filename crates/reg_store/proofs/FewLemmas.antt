@@ -5,8 +5,8 @@ use Rattle.std.specs.List.{Contains, last_or}
 use Rattle.sqlite_rules.specs.Lists.{Has}
 use Rattle.sqlite_rules.proofs.ListLemmas.{contains_had, has_filtered}
 use Rattle.reg_core.specs.declared.level.Level.{Level}
-use Rattle.reg_core.specs.Compatibility.{latest, names_all}
-use Rattle.reg_core.specs.Needs.{RegistersAs}
+use Rattle.reg_core.specs.Compatibility.{latest, is_transitive}
+use Rattle.reg_core.specs.Needs.{SufficeToRegister}
 use Rattle.reg_core.specs.Registry.{Row}
 use Rattle.reg_core.specs.RegisterCommands.{is_among}
 use Rattle.reg_core.specs.Rows.{rows_with, shown_rows, live_rows}
@@ -50,18 +50,18 @@ none_among id rows e = by (rows_with id rows) e
 -- ---- where no live version has the id
 
 -- a subject with no version needs none
-pub registers_empty : (level : Level) (known : Option ℕ) (seen all : List Row) → seen ≡ latest (live_rows all) → last_or None all ≡ None → RegistersAs level known seen all
+pub registers_empty : (level : Level) (known : Option ℕ) (seen all : List Row) → seen ≡ latest (live_rows all) → last_or None all ≡ None → SufficeToRegister level known seen all
 registers_empty level known seen all is none =
     let empty = none_latest_of all (ap option_to_list none) in
-    subst (λ (rows : List Row). RegistersAs level known rows all) (sym (is ∙ ap (λ (rows : List Row). latest (live_rows rows)) empty)) (registers_none level known all (ap option_to_list none))
+    subst (λ (rows : List Row). SufficeToRegister level known rows all) (sym (is ∙ ap (λ (rows : List Row). latest (live_rows rows)) empty)) (registers_none level known all (ap option_to_list none))
 
-module _ (level : Level) (known : Option ℕ) (seen all : List Row) (last : Row) (few : names_all level ≡ false) (unknown : is_among known (live_rows all) ≡ false) (rising : Rising all) where
+module _ (level : Level) (known : Option ℕ) (seen all : List Row) (last : Row) (few : is_transitive level ≡ false) (unknown : is_among known (live_rows all) ≡ false) (rising : Rising all) where
   -- the last live one, where the last of all is live
-  pub registers_alive : seen ≡ latest (live_rows all) → last_or None all ≡ Some last → last.1.deleted ≡ false → RegistersAs level known seen all
+  pub registers_alive : seen ≡ latest (live_rows all) → last_or None all ≡ Some last → last.1.deleted ≡ false → SufficeToRegister level known seen all
   registers_alive is e alive =
       let one : latest all ≡ last ∷ [] = ap option_to_list e in
-      subst (λ (rows : List Row). RegistersAs level known rows all) (sym (is ∙ last_passes (λ (r : Row). not r.1.deleted) all last one (ap not alive))) (registers_last level known last all few unknown rising one alive)
+      subst (λ (rows : List Row). SufficeToRegister level known rows all) (sym (is ∙ last_passes (λ (r : Row). not r.1.deleted) all last one (ap not alive))) (registers_last level known last all few unknown rising one alive)
 
   -- and behind it the last of all, where that isn't
-  pub registers_gone : seen ≡ latest (live_rows all) ++ last ∷ [] → last_or None all ≡ Some last → last.1.deleted ≡ true → RegistersAs level known seen all
-  registers_gone is e gone = subst (λ (rows : List Row). RegistersAs level known rows all) (sym is) (registers_ends level known last all few unknown rising (ap option_to_list e) gone)
+  pub registers_gone : seen ≡ latest (live_rows all) ++ last ∷ [] → last_or None all ≡ Some last → last.1.deleted ≡ true → SufficeToRegister level known seen all
+  registers_gone is e gone = subst (λ (rows : List Row). SufficeToRegister level known rows all) (sym is) (registers_ends level known last all few unknown rising (ap option_to_list e) gone)

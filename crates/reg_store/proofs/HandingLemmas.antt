@@ -22,17 +22,17 @@ use Rattle.reg_core.specs.KeptReplies.{Kept}
 use Rattle.reg_tables.specs.declared.listed.ListedVersion.{ListedVersion}
 use Rattle.reg_tables.specs.declared.listed.SubjectVersion.{SubjectVersion}
 use Rattle.reg_tables.specs.Contents.{Contents, text_cmp, version_cmp}
-use Rattle.reg_tables.specs.Entries.{KeyedVersion, keyed, NumberedVersion, numbered, subject_versions}
+use Rattle.reg_tables.specs.Entries.{ListedVersionView, listed_version_view, SubjectVersionView, subject_version_view, subject_versions}
 use Rattle.reg_tables.proofs.FirstVersions.{find-map, find-filter}
 use Rattle.reg_tables.proofs.KeyedTables.{version_order}
 use Rattle.reg_tables.proofs.LastVersions.{map_twice}
 use Rattle.reg_tables.proofs.OrderedQueries.{entries_rise, entry_got}
 use Rattle.reg_store.specs.declared.listing.Listing.{Listing}
 use Rattle.reg_store.specs.declared.listing.Listing.TheVariants.{Subjects, Versions, Schemas as AllSchemas}
-use Rattle.reg_store.specs.declared.store.lent.Lines.{Lines}
+use Rattle.reg_store.specs.declared.store.line_iterator.Lines.{Lines}
 use Rattle.reg_store.specs.declared.store.cursor.Cursor.{Cursor}
 use Rattle.reg_store.specs.declared.store.cursor.Cursor.TheVariants.{Version, Schema}
-use Rattle.reg_store.specs.Handing.{is_behind, subject_in, key_in, IsAt, LeadsOn, HasHanded, HandsOn}
+use Rattle.reg_store.specs.NextLines.{is_after, subject_in, key_in, IsCursorAt, IsNextLine, HasYielded, YieldsNext}
 use Rattle.reg_store.specs.Listings.{Fields, fields_of, listing_lines, schema_line, schema_lines, subject_listed, subjects_of, version_line}
 use Rattle.reg_store.specs.Spells.{IsSpelled, stored_version}
 use Rattle.reg_store.specs.Inside.Viewing.{row_spelled, row_numbered}
@@ -44,16 +44,16 @@ use Rattle.reg_store.proofs.Texts.{was_written}
 -- ---- what the tables tell
 
 module _ (contents : Contents) (g : Registry) (spelled : (key : RowKey) → get contents.versions key ≡ option_map stored_version (get g.rows key)) (subject : List ℕ) where
-  pub behind_told : (found : Option ListedVersion) → option_map keyed found ≡ find (λ (e : KeyedVersion). is_gt (text_cmp e.0.0 subject)) (entries contents.versions)
-      → option_map (λ (line : ListedVersion). row_spelled (keyed line)) found ≡ find (λ (row : Row). is_gt (text_cmp row.0.0 subject)) (entries g.rows)
+  pub behind_told : (found : Option ListedVersion) → option_map listed_version_view found ≡ find (λ (e : ListedVersionView). is_gt (text_cmp e.0.0 subject)) (entries contents.versions)
+      → option_map (λ (line : ListedVersion). row_spelled (listed_version_view line)) found ≡ find (λ (row : Row). is_gt (text_cmp row.0.0 subject)) (entries g.rows)
   behind_told found is =
-      sym (map_twice row_spelled keyed found) ∙ ap (option_map row_spelled) is ∙ sym (find-map row_spelled (λ (row : Row). is_gt (text_cmp row.0.0 subject)) (entries contents.versions))
+      sym (map_twice row_spelled listed_version_view found) ∙ ap (option_map row_spelled) is ∙ sym (find-map row_spelled (λ (row : Row). is_gt (text_cmp row.0.0 subject)) (entries contents.versions))
       ∙ ap (find (λ (row : Row). is_gt (text_cmp row.0.0 subject))) (all_spelled contents g spelled)
 
-  pub next_told : (number : ℕ) (found : Option SubjectVersion) → option_map numbered found ≡ find (λ (version : NumberedVersion). is_gt (nat_cmp version.0 number)) (subject_versions subject contents)
-      → option_map (λ (line : SubjectVersion). row_numbered subject (numbered line)) found ≡ find (λ (row : Row). bytes_eq row.0.0 subject && is_gt (nat_cmp row.0.1 number)) (entries g.rows)
+  pub next_told : (number : ℕ) (found : Option SubjectVersion) → option_map subject_version_view found ≡ find (λ (version : SubjectVersionView). is_gt (nat_cmp version.0 number)) (subject_versions subject contents)
+      → option_map (λ (line : SubjectVersion). row_numbered subject (subject_version_view line)) found ≡ find (λ (row : Row). bytes_eq row.0.0 subject && is_gt (nat_cmp row.0.1 number)) (entries g.rows)
   next_told number found is =
-      sym (map_twice (row_numbered subject) numbered found) ∙ ap (option_map (row_numbered subject)) is
+      sym (map_twice (row_numbered subject) subject_version_view found) ∙ ap (option_map (row_numbered subject)) is
       ∙ sym (find-map (row_numbered subject) (λ (row : Row). is_gt (nat_cmp row.0.1 number)) (subject_versions subject contents))
       ∙ ap (find (λ (row : Row). is_gt (nat_cmp row.0.1 number))) (subject_spelled contents g spelled subject)
       ∙ find-filter (λ (row : Row). is_gt (nat_cmp row.0.1 number)) (λ (row : Row). bytes_eq row.0.0 subject) (entries g.rows)
@@ -75,8 +75,8 @@ module _ (g : Registry) where
   pub other_subject : (key : RowKey) → find (λ (r : Row). bytes_eq r.0.0 key.0 && is_gt (nat_cmp r.0.1 key.1)) rows ≡ None → find (λ (r : Row). is_gt (row_cmp r.0 key)) rows ≡ find (λ (r : Row). is_gt (text_cmp r.0.0 key.0)) rows
   other_subject key = none_same (λ (r : Row). r.0.0) (λ (r : Row). r.0.1) key.0 key.1 rows
 
-  pub next_row : (count : ℕ) (last found : Option Row) → last ≡ last_or None (take count rows) → found ≡ find (λ (row : Row). is_behind row_cmp (option_map key_in last) row.0) rows → found ≡ slice_get rows count
-  next_row count last found at is = is ∙ ap (λ o. find (λ (row : Row). is_behind row_cmp (option_map key_in o) row.0) rows) at ∙ next_of row_cmp version_order.total key_in count rows rows_rise
+  pub next_row : (count : ℕ) (last found : Option Row) → last ≡ last_or None (take count rows) → found ≡ find (λ (row : Row). is_after row_cmp (option_map key_in last) row.0) rows → found ≡ slice_get rows count
+  next_row count last found at is = is ∙ ap (λ o. find (λ (row : Row). is_after row_cmp (option_map key_in o) row.0) rows) at ∙ next_of row_cmp version_order.total key_in count rows rows_rise
 
   -- ---- subjects
 
@@ -98,12 +98,12 @@ module _ (g : Registry) where
   itself None = refl
   itself (Some x) = refl
 
-  pub next_subject_is : (count : ℕ) (last found : Option Row) → option_map subject_in last ≡ last_or None (take count subjects) → found ≡ find (λ (row : Row). is_behind text_cmp (option_map subject_in last) row.0.0) rows
+  pub next_subject_is : (count : ℕ) (last found : Option Row) → option_map subject_in last ≡ last_or None (take count subjects) → found ≡ find (λ (row : Row). is_after text_cmp (option_map subject_in last) row.0.0) rows
       → option_map subject_in found ≡ slice_get subjects count
   next_subject_is count last found at is =
       let after = option_map subject_in last in
-      ap (option_map subject_in) is ∙ sym (find-map subject_in (is_behind text_cmp after) rows) ∙ sym (find-dedup (is_behind text_cmp after) (map subject_in rows))
-      ∙ ap (λ o. find (is_behind text_cmp o) subjects) (at ∙ sym (itself (last_or None (take count subjects)))) ∙ next_of text_cmp nat_list_cmp_total (λ x. x) count subjects subjects_rise
+      ap (option_map subject_in) is ∙ sym (find-map subject_in (is_after text_cmp after) rows) ∙ sym (find-dedup (is_after text_cmp after) (map subject_in rows))
+      ∙ ap (λ o. find (is_after text_cmp o) subjects) (at ∙ sym (itself (last_or None (take count subjects)))) ∙ next_of text_cmp nat_list_cmp_total (λ x. x) count subjects subjects_rise
 
   -- ---- lines
 
@@ -138,7 +138,7 @@ found_passes p (y ∷ xs) x h = go (p y) h (found_passes p xs x)
     go false h rest = inr (rest h)
 
 -- each that is found has a subject
-pub of_subject : (contents : Contents) (g : Registry) (k : Kept) → IsSpelled contents g k → (subject : List ℕ) (entry : KeyedVersion) → find (λ (e : KeyedVersion). is_gt (text_cmp e.0.0 subject)) (entries contents.versions) ≡ Some entry → IsTrue (is_subject entry.0.0)
+pub of_subject : (contents : Contents) (g : Registry) (k : Kept) → IsSpelled contents g k → (subject : List ℕ) (entry : ListedVersionView) → find (λ (e : ListedVersionView). is_gt (text_cmp e.0.0 subject)) (entries contents.versions) ≡ Some entry → IsTrue (is_subject entry.0.0)
 of_subject contents g k s subject entry h =
     let got = entry_got version_cmp version_order contents.versions entry (found_passes _ (entries contents.versions) entry h) in
     let it = was_written stored_version (get g.rows entry.0) entry.1 (sym (s.versions entry.0) ∙ got) in
@@ -187,12 +187,12 @@ schema_next g few id next low is found there = elim (cases_lt id (2 ^ 32 - 1)) [
 
 -- ---- kinds
 
-pub of_versions : (kind : Listing) (g : Registry) (count : ℕ) (last : Option Row) → IsAt kind g count (Version last) → kind ≡ Versions
+pub of_versions : (kind : Listing) (g : Registry) (count : ℕ) (last : Option Row) → IsCursorAt kind g count (Version last) → kind ≡ Versions
 of_versions Subjects g count last at = absurd at
 of_versions Versions g count last at = refl
 of_versions AllSchemas g count last at = absurd at
 
-pub of_schemas : (kind : Listing) (g : Registry) (count id : ℕ) → IsAt kind g count (Schema id) → kind ≡ AllSchemas
+pub of_schemas : (kind : Listing) (g : Registry) (count id : ℕ) → IsCursorAt kind g count (Schema id) → kind ≡ AllSchemas
 of_schemas Subjects g count id at = absurd at
 of_schemas Versions g count id at = absurd at
 of_schemas AllSchemas g count id at = refl
@@ -206,7 +206,7 @@ all_taken [] (suc n) h = refl
 all_taken (x ∷ xs) zero h = absurd (none-some x h)
 all_taken (x ∷ xs) (suc n) h = ap (λ ys. x ∷ ys) (all_taken xs n h)
 
-pub hands_on : {S : Type 0} {g : Ghosts S} (old new : Lines S Cursor g) (kind : Listing) (registry : Registry) (done : List Fields) (h : HasHanded old kind registry done) (line : Option (Vec (String Global) Global))
-    → LeadsOn kind registry h.count (line, new.cursor) → HandsOn new kind registry done line
+pub hands_on : {S : Type 0} {g : Ghosts S} (old new : Lines S Cursor g) (kind : Listing) (registry : Registry) (done : List Fields) (h : HasYielded old kind registry done) (line : Option (Vec (String Global) Global))
+    → IsNextLine kind registry h.count (line, new.cursor) → YieldsNext new kind registry done line
 hands_on old new kind registry done h None leads = (h.begins ∙ all_taken (listing_lines kind registry) h.count leads.line, record { count = h.count; begins = h.begins; cursor = leads.cursor })
 hands_on old new kind registry done h (Some line) leads = record { count = h.count + 1; begins = taken_more (listing_lines kind registry) done h.count (fields_of line) h.begins (sym leads.line); cursor = leads.cursor }

@@ -17,7 +17,7 @@ use Rattle.reg_core.proofs.LastRows.{Rising, rows_of-rise}
 use Rattle.reg_tables.specs.Contents.{Contents}
 use Rattle.reg_tables.specs.declared.listed.ListedVersion.{ListedVersion}
 use Rattle.reg_tables.specs.declared.listed.SubjectVersion.{SubjectVersion}
-use Rattle.reg_tables.specs.Entries.{NumberedVersion, numbered, subject_versions, KeyedVersion, keyed, id_versions, most, AreOfId}
+use Rattle.reg_tables.specs.Entries.{SubjectVersionView, subject_version_view, subject_versions, ListedVersionView, listed_version_view, id_versions, versions_limit, AreVersionsOfId}
 use Rattle.reg_tables.proofs.LastVersions.{filter_both}
 use Rattle.reg_tables.proofs.ListMembers.{has_mapped, maps_had}
 use Rattle.reg_store.specs.Spells.{stored_version}
@@ -69,18 +69,18 @@ module _ (deleted : Bool) (subject : List ℕ) (rows : List Row) (row : Row) whe
         (All-cons (λ (r : Row). Shown r → r.0.1 ≤ row.0.1) row [] (λ s. omega arith) (All-nil (λ (r : Row). Shown r → r.0.1 ≤ row.0.1))),
   )
 
-  pub last_of_two : (row_of : ListedVersion → Row) → ((a : ListedVersion) → (row_of a).0.1 ≡ a.number) → (last : Option ListedVersion) (line result : ListedVersion) → row ≡ row_of line → IsLaterOf last line result → Shown row
-      → IsLastShown deleted subject rows (option_map row_of last) → IsLastShown deleted subject (rows ++ row ∷ []) (Some (row_of result))
-  last_of_two row_of numbers None line result it same shown none = subst (λ (r : Row). IsLastShown deleted subject (rows ++ row ∷ []) (Some r)) (it ∙ ap row_of (sym same)) (last_begins shown none)
-  last_of_two row_of numbers (Some before) line result it (inl kept) shown is =
-      let low : row.0.1 ≤ (row_of before).0.1 = omega (arith, kept.1, ap (λ (r : Row). r.0.1) it, numbers line, numbers before) in
-      subst (λ (r : Row). IsLastShown deleted subject (rows ++ row ∷ []) (Some r)) (ap row_of (sym kept.0)) (last_is_kept (row_of before) low is)
-  last_of_two row_of numbers (Some before) line result it (inr passed) shown is =
-      let high : (row_of before).0.1 ≤ row.0.1 = omega (arith, passed.1, ap (λ (r : Row). r.0.1) it, numbers line, numbers before) in
-      subst (λ (r : Row). IsLastShown deleted subject (rows ++ row ∷ []) (Some r)) (it ∙ ap row_of (sym passed.0)) (last_is_passed (row_of before) shown high is)
+  pub last_of_two : (line_row : ListedVersion → Row) → ((a : ListedVersion) → (line_row a).0.1 ≡ a.number) → (last : Option ListedVersion) (line result : ListedVersion) → row ≡ line_row line → IsLaterOf last line result → Shown row
+      → IsLastShown deleted subject rows (option_map line_row last) → IsLastShown deleted subject (rows ++ row ∷ []) (Some (line_row result))
+  last_of_two line_row numbers None line result it same shown none = subst (λ (r : Row). IsLastShown deleted subject (rows ++ row ∷ []) (Some r)) (it ∙ ap line_row (sym same)) (last_begins shown none)
+  last_of_two line_row numbers (Some before) line result it (inl kept) shown is =
+      let low : row.0.1 ≤ (line_row before).0.1 = omega (arith, kept.1, ap (λ (r : Row). r.0.1) it, numbers line, numbers before) in
+      subst (λ (r : Row). IsLastShown deleted subject (rows ++ row ∷ []) (Some r)) (ap line_row (sym kept.0)) (last_is_kept (line_row before) low is)
+  last_of_two line_row numbers (Some before) line result it (inr passed) shown is =
+      let high : (line_row before).0.1 ≤ row.0.1 = omega (arith, passed.1, ap (λ (r : Row). r.0.1) it, numbers line, numbers before) in
+      subst (λ (r : Row). IsLastShown deleted subject (rows ++ row ∷ []) (Some r)) (it ∙ ap line_row (sym passed.0)) (last_is_passed (line_row before) shown high is)
 
 -- the subject of the last one is known
-pub last_of_subject : (deleted : Bool) (subject : List ℕ) (rows : List Row) (line : ListedVersion) → IsLastShown deleted subject rows (Some (row_spelled (keyed line)))
+pub last_of_subject : (deleted : Bool) (subject : List ℕ) (rows : List Row) (line : ListedVersion) → IsLastShown deleted subject rows (Some (row_spelled (listed_version_view line)))
     → IsLastShown deleted subject rows (Some (row_numbered subject (line.number, record { id = line.id; deleted = line.deleted })))
 last_of_subject deleted subject rows line is =
     let same : string_bytes line.subject ≡ subject = (bytes_eq-Decides (string_bytes line.subject) subject).0 (both_parts (bytes_eq (string_bytes line.subject) subject) (deleted || not line.deleted) is.1).0 in
@@ -131,7 +131,7 @@ module _ (g : Registry) (subject : List ℕ) (deleted : Bool) (id : ℕ) where
       has_kept is_it (shown_rows deleted (rows_of g subject)) row (has_kept (λ (r : Row). deleted || not r.1.deleted) (rows_of g subject) row (has_kept (λ (r : Row). bytes_eq r.0.0 subject) (entries g.rows) row one.0 parts.0) parts.1) one.1
 
   -- the last one that is shown among all of the id is the subject's
-  pub last_is_told : (rows : List Row) → AreSome rows (rows_with id (entries g.rows)) → length rows < most → (last : Option Row) → IsLastShown deleted subject rows last → last ≡ last_or None its
+  pub last_is_told : (rows : List Row) → AreSome rows (rows_with id (entries g.rows)) → length rows < versions_limit → (last : Option Row) → IsLastShown deleted subject rows last → last ≡ last_or None its
   last_is_told rows some few None none = by its (λ row there. there)
     where
       by : (xs : List Row) → ((row : Row) → Has xs row → Has its row) → None ≡ last_or None xs
@@ -145,7 +145,7 @@ module _ (g : Registry) (subject : List ℕ) (deleted : Bool) (id : ℕ) where
       (λ r there. let it = its_are_shown r there in All-contains (λ (x : Row). is_shown_of deleted subject x ≡ true → x.0.1 ≤ last.0.1) rows r is.2 (some.few few r (contains_had (rows_with id (entries g.rows)) r it.0)) it.1))
 
 -- the lines of few versions of an id are all that it has
-module _ (contents : Contents) (g : Registry) (id : ℕ) (spelled : map row_spelled (id_versions id contents) ≡ rows_with id (entries g.rows)) (versions : List KeyedVersion) (are : AreOfId id contents versions) where
+module _ (contents : Contents) (g : Registry) (id : ℕ) (spelled : map row_spelled (id_versions id contents) ≡ rows_with id (entries g.rows)) (versions : List ListedVersionView) (are : AreVersionsOfId id contents versions) where
   pub some_are_told : AreSome (map row_spelled versions) (rows_with id (entries g.rows))
   some_are_told = record {
     each = λ row there.
@@ -157,19 +157,19 @@ module _ (contents : Contents) (g : Registry) (id : ℕ) (spelled : map row_spel
     few = λ low row there.
         let version = has_mapped row_spelled (id_versions id contents) row (subst (λ l. Has l row) (sym spelled) (has_contained (rows_with id (entries g.rows)) row there)) in
         let known = contains_had (id_versions id contents) version.0 version.1 in
-        let fewer : length versions < most = omega (arith, low, length-map versions row_spelled) in
+        let fewer : length versions < versions_limit = omega (arith, low, length-map versions row_spelled) in
         contains_had (map row_spelled versions) row (subst (Has (map row_spelled versions)) (sym version.2) (maps_had row_spelled versions version.0 (has_contained versions version.0 (are.all fewer version.0 known))));
   }
 
 -- the last one of the subject, as a line tells it
 module _ (contents : Contents) (g : Registry) (spelled : (key : RowKey) → get contents.versions key ≡ option_map stored_version (get g.rows key)) (subject : List ℕ) (id : ℕ) (deleted : Bool) where
   pub last_with_id_told : (found : Option SubjectVersion)
-      → option_map numbered found ≡ last_or None (filter (λ (version : NumberedVersion). (deleted || not version.1.deleted) && (version.1.id == id)) (subject_versions subject contents))
-      → option_map (λ (line : SubjectVersion). row_numbered subject (numbered line)) found ≡ last_or None (rows_with id (shown_rows deleted (rows_of g subject)))
+      → option_map subject_version_view found ≡ last_or None (filter (λ (version : SubjectVersionView). (deleted || not version.1.deleted) && (version.1.id == id)) (subject_versions subject contents))
+      → option_map (λ (line : SubjectVersion). row_numbered subject (subject_version_view line)) found ≡ last_or None (rows_with id (shown_rows deleted (rows_of g subject)))
   last_with_id_told found is =
       let shown = λ (row : Row). (deleted || not row.1.deleted) && (row.1.id == id) in
-      map_map numbered (row_numbered subject) found ∙ ap (option_map (row_numbered subject)) is
-      ∙ sym (last_or-map (row_numbered subject) None (filter (λ (version : NumberedVersion). (deleted || not version.1.deleted) && (version.1.id == id)) (subject_versions subject contents)))
+      map_map subject_version_view (row_numbered subject) found ∙ ap (option_map (row_numbered subject)) is
+      ∙ sym (last_or-map (row_numbered subject) None (filter (λ (version : SubjectVersionView). (deleted || not version.1.deleted) && (version.1.id == id)) (subject_versions subject contents)))
       ∙ ap (last_or None)
       (sym (filter-map shown (row_numbered subject) (subject_versions subject contents)) ∙ ap (filter shown) (subject_spelled contents g spelled subject)
       ∙ sym (filter_both (λ (row : Row). row.1.id == id) (λ (row : Row). deleted || not row.1.deleted) (rows_of g subject)))

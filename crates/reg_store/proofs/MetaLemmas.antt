@@ -12,27 +12,27 @@ use Rattle.sqlite.specs.Held.{Held, state}
 use Rattle.sqlite.specs.State.{State, HasCleanDisk}
 use Rattle.sqlite.specs.declared.error.Error.{Error}
 use Rattle.sqlite_trees.specs.declared.store.Store.{Ghosts}
-use Rattle.reg_tables.specs.declared.meta.MetaLine.{MetaLine}
+use Rattle.reg_tables.specs.declared.meta.RawMeta.{RawMeta}
 use Rattle.reg_tables.specs.Layout.{HasFiveTables, meta}
 use Rattle.reg_tables.specs.Contents.{pair_form, text_cmp}
-use Rattle.reg_tables.specs.Frames.{StaysIdle}
+use Rattle.reg_tables.specs.Frames.{ReadsInAutocommit}
 use Rattle.reg_tables.specs.Listings.{RowParts, Lists, entry_parts, without_rowid, meta_entry, ListsMeta}
 use Rattle.reg_tables.specs.Selects.{ReadsMeta}
-use Rattle.reg_tables.specs.Reads.{CanBeRead, HoldsMeta, CanTellMeta}
+use Rattle.reg_tables.specs.Reads.{CanBeRead, HoldsMeta, CanReadMeta}
 use Rattle.reg_tables.specs.FailedCalls.{IsFault}
 use Rattle.reg_tables.proofs.KeyedTables.{text_order, distinct_texts}
 use Rattle.reg_tables.proofs.ListingLemmas.{find_had, stored, listed_if_shown}
 use Rattle.reg_tables.proofs.UniqueKeys.{rowids_of}
 use Rattle.reg_tables.proofs.Tables.{openable_has_eight, five, eight_has_five}
 use Rattle.reg_tables.proofs.Statements.{laid_out, one_has_five}
-use Rattle.reg_rows.specs.Meta.{value_at, names, second_names, has_value, has_level, has_mode, has_common, names_known, number_in, layout_in}
+use Rattle.reg_rows.specs.Meta.{value_at, layout_one_names, layout_two_names, has_value, has_level, has_mode, has_common, has_only_known_names, number_in, layout_in}
 use Rattle.reg_store.specs.declared.error.StoreError.{StoreError}
 use Rattle.reg_store.specs.declared.error.StoreError.TheVariants.{Memory, Disk, NotARegistry, OldLayout, NewerLayout}
 use Rattle.reg_store.specs.declared.layout.Layout.{Layout}
 use Rattle.reg_store.specs.declared.layout.Layout.TheVariants.{One, Two}
-use Rattle.reg_store.specs.Failures.{failure_of, IsTold}
-use Rattle.reg_store.specs.Opening.{Says, RowsNameLayout, NamesLayout, ShowsLayout, HasOther, refusal_of, IsRefusedAs, TellsOther}
-use Rattle.reg_store.specs.Inside.Testing.{AreApart, pairs_of, number_of, is_meta_of, PassesMeta, Allows, JudgesMeta, MetaPass, SpellsAs, Tests}
+use Rattle.reg_store.specs.Failures.{failure_of, HasDiskCause}
+use Rattle.reg_store.specs.Opening.{HasMetaRow, RowsNameLayout, NamesLayout, ShowsLayout, HasOtherLayout, layout_error, HasMetaNumberOf, ReportsOther}
+use Rattle.reg_store.specs.Inside.Testing.{AreDistinct, pairs_of, number_of, is_meta_of, PassesMeta, Allows, JudgesMeta, MetaPass, SpellsAs, Tests}
 use Rattle.reg_store.proofs.Bases.{some_of_one, some_unopened}
 use Rattle.reg_store.proofs.MetaRows.{value_is, layout_is, meta_found, meta_fit, layout_two_meta_fit}
 use Rattle.reg_store.proofs.LayoutNumbers.{above_zero}
@@ -41,27 +41,27 @@ use Rattle.reg_store.proofs.Maps.{same_bytes}
 use Rattle.reg_store.proofs.TestLemmas.{framed, some_known, some_can_be_read}
 
 -- the rows of a registry name its layout
-layout_named : (number : ℕ) (text : List ℕ) (lines : List MetaLine) → number_in text ≡ Some number → has_common text (pairs_of lines) ≡ true → layout_in (pairs_of lines) ≡ Some number
+layout_named : (number : ℕ) (text : List ℕ) (lines : List RawMeta) → number_in text ≡ Some number → has_common text (pairs_of lines) ≡ true → layout_in (pairs_of lines) ≡ Some number
 layout_named number text lines is common =
     let format = has_value (codes "avroreg") (value_at (codes "format") (pairs_of lines)) in
     let layout = has_value text (value_at (codes "layout") (pairs_of lines)) in
     let one = (and_parts format layout (and_parts (format && layout) (has_level (value_at (codes "global") (pairs_of lines))) common).0).0 in
     ap (λ b. if b then option_and_then number_in (value_at (codes "layout") (pairs_of lines)) else None) one ∙ ap (option_and_then number_in) (layout_is lines text common) ∙ is
 
-names_own : (layout : Layout) (lines : List MetaLine) → IsTrue (is_meta_of layout (pairs_of lines)) → layout_in (pairs_of lines) ≡ Some (number_of layout)
-names_own One lines passes = layout_named 1 (codes "1") lines refl (and_parts (has_common (codes "1") (pairs_of lines)) (names_known names (pairs_of lines)) passes).0
+names_own : (layout : Layout) (lines : List RawMeta) → IsTrue (is_meta_of layout (pairs_of lines)) → layout_in (pairs_of lines) ≡ Some (number_of layout)
+names_own One lines passes = layout_named 1 (codes "1") lines refl (and_parts (has_common (codes "1") (pairs_of lines)) (has_only_known_names layout_one_names (pairs_of lines)) passes).0
 names_own Two lines passes =
-    let parts = and_parts (has_common (codes "2") (pairs_of lines) && has_mode (value_at (codes "mode") (pairs_of lines))) (names_known second_names (pairs_of lines)) passes in
+    let parts = and_parts (has_common (codes "2") (pairs_of lines) && has_mode (value_at (codes "mode") (pairs_of lines))) (has_only_known_names layout_two_names (pairs_of lines)) passes in
     layout_named 2 (codes "2") lines refl (and_parts (has_common (codes "2") (pairs_of lines)) (has_mode (value_at (codes "mode") (pairs_of lines))) parts.0).0
 
 -- tables that spell a registry have rows of `meta` that pass
-spelled_passes : (layout : Layout) (db : Database) → SpellsAs layout db → (lines : List MetaLine) → ListsMeta db lines → PassesMeta layout lines
+spelled_passes : (layout : Layout) (db : Database) → SpellsAs layout db → (lines : List RawMeta) → ListsMeta db lines → PassesMeta layout lines
 spelled_passes One db s lines lists =
     let shown = listed_if_shown pair_form text_cmp text_order distinct_texts (db.trees meta.tree) (map meta_entry lines) lists s.spells.contents.meta distinct_texts (five s.spells.holds (one_has_five s.spells.schema s.spells.known)).meta in
-    (subst AreApart (rowids_of meta_entry (λ (line : MetaLine). line.rowid) (λ line. refl) lines) shown.apart.rowids, meta_fit lines shown.apart s.stored.registry.global (sym shown.is ∙ s.spells.spelled.meta))
+    (subst AreDistinct (rowids_of meta_entry (λ (line : RawMeta). line.rowid) (λ line. refl) lines) shown.apart.rowids, meta_fit lines shown.apart s.stored.registry.global (sym shown.is ∙ s.spells.spelled.meta))
 spelled_passes Two db s lines lists =
     let shown = listed_if_shown pair_form text_cmp text_order distinct_texts (db.trees meta.tree) (map meta_entry lines) lists s.spells.contents.meta distinct_texts (five s.spells.holds (eight_has_five s.spells.schema (openable_has_eight s.spells.schema s.spells.known))).meta in
-    (subst AreApart (rowids_of meta_entry (λ (line : MetaLine). line.rowid) (λ line. refl) lines) shown.apart.rowids, layout_two_meta_fit lines shown.apart s.stored.registry.global s.stored.registry.global_mode (sym shown.is ∙ s.spells.spelled.meta))
+    (subst AreDistinct (rowids_of meta_entry (λ (line : RawMeta). line.rowid) (λ line. refl) lines) shown.apart.rowids, layout_two_meta_fit lines shown.apart s.stored.registry.global s.stored.registry.global_mode (sym shown.is ∙ s.spells.spelled.meta))
 
 spelled_has_five : (layout : Layout) (db : Database) → SpellsAs layout db → HasFiveTables db.schema
 spelled_has_five One db s = some_known db (some_of_one s)
@@ -79,9 +79,9 @@ text_of : (o : Option (List ℕ)) (number : ℕ) → option_and_then number_in o
 text_of None number h = absurd (cc)
 text_of (Some text) number h = (text, refl, h)
 
-module _ (lines : List MetaLine) (rows : List Row) (lists : Lists pair_form rows (map meta_entry lines)) where
+module _ (lines : List RawMeta) (rows : List Row) (lists : Lists pair_form rows (map meta_entry lines)) where
   -- what the lines say, a row says
-  said : (q v : List ℕ) → value_at q (pairs_of lines) ≡ Some v → Says rows q v
+  said : (q v : List ℕ) → value_at q (pairs_of lines) ≡ Some v → HasMetaRow rows q v
   said q v there =
       let entries = map meta_entry lines in
       let e = find_had text_cmp text_order entries q v (sym (get-from_entries text_order.total (map without_rowid entries) q) ∙ sym (meta_found lines q) ∙ there) in
@@ -94,10 +94,10 @@ module _ (lines : List MetaLine) (rows : List Row) (lists : Lists pair_form rows
       let it = text_of (value_at (codes "layout") (pairs_of lines)) number both.1 in
       record { format = said (codes "format") (codes "avroreg") (value_is (codes "avroreg") _ both.0); text = it.0; layout = said (codes "layout") it.0 it.1; is = it.2 }
 
-module _ (lines : List MetaLine) (db : Database) (lists : ListsMeta db lines) where
+module _ (lines : List RawMeta) (db : Database) (lists : ListsMeta db lines) where
   -- and the lines say what a row says, where no name comes twice
   module _ (holds : HoldsMeta db) where
-    found : (q v : List ℕ) → Says (db.trees meta.tree) q v → value_at q (pairs_of lines) ≡ Some v
+    found : (q v : List ℕ) → HasMetaRow (db.trees meta.tree) q v → value_at q (pairs_of lines) ≡ Some v
     found q v says =
         let shown = listed_if_shown pair_form text_cmp text_order distinct_texts (db.trees meta.tree) (map meta_entry lines) lists holds.names distinct_texts holds.shows in
         let entry = holds.shows.sound says.0 says.1 in
@@ -112,14 +112,14 @@ module _ (lines : List MetaLine) (db : Database) (lists : ListsMeta db lines) wh
         ∙ ap (option_and_then number_in) (found (codes "layout") n.text n.layout) ∙ n.is
 
 -- in any database, the lines name the layout that the rows of `meta` name
-shows_layout : (lines : List MetaLine) (db : Database) → ReadsMeta db lines → (number : ℕ) → layout_in (pairs_of lines) ≡ Some number → ShowsLayout db number
+shows_layout : (lines : List RawMeta) (db : Database) → ReadsMeta db lines → (number : ℕ) → layout_in (pairs_of lines) ≡ Some number → ShowsLayout db number
 shows_layout lines db reads number is =
     let entries = map (entry_parts pair_form) (map meta_entry lines) in
     let lists : Lists pair_form reads.rows (map meta_entry lines) = subst (λ (parts : List RowParts). IsPermutation parts entries) (sym reads.read) (IsPermutation-refl entries) in
     record { rows = reads.rows; shows = reads.shows; names = names_if_in lines reads.rows lists number is }
 
 -- what is allowed of the rows is what is judged of the lines
-pub judged : (layout : Layout) (lines : List MetaLine) (named : Option ℕ) (passes : Bool) (r : Result (Unit {0}) StoreError) → named ≡ layout_in (pairs_of lines) → (IsTrue passes → PassesMeta layout lines) → (PassesMeta layout lines → IsTrue passes)
+pub judged : (layout : Layout) (lines : List RawMeta) (named : Option ℕ) (passes : Bool) (r : Result (Unit {0}) StoreError) → named ≡ layout_in (pairs_of lines) → (IsTrue passes → PassesMeta layout lines) → (PassesMeta layout lines → IsTrue passes)
     → Allows (number_of layout) named passes r → JudgesMeta layout lines r
 judged layout lines named passes (Ok y) is to from a = to a
 judged layout lines named passes (Err Memory) is to from a = absurd a
@@ -132,20 +132,20 @@ same_number : (a b : ℕ) → Some a ≡ Some b → a ≡ b
 same_number a b h = cc
 
 -- the five tables come first
-pub tells_meta : (s : State) → CanBeRead s → CanTellMeta s
+pub tells_meta : (s : State) → CanBeRead s → CanReadMeta s
 tells_meta s can is_open =
     let there = can is_open in
     record { first = laid_out there.holds there.known; names = there.contents.meta; shows = (five there.holds there.known).meta; readable = there.readable.meta }
 
 -- how another layout is refused
-refuses_old : (own number : ℕ) → number < own → OldLayout number ≡ refusal_of own number
+refuses_old : (own number : ℕ) → number < own → OldLayout number ≡ layout_error own number
 refuses_old own number less = go (nat_lt number own) refl
   where
     go : (b : Bool) → nat_lt number own ≡ b → OldLayout number ≡ (if b then OldLayout number else NewerLayout number)
     go true e = refl
     go false e = absurd (grind (arith, nat_tests))
 
-refuses_newer : (own number : ℕ) → own < number → NewerLayout number ≡ refusal_of own number
+refuses_newer : (own number : ℕ) → own < number → NewerLayout number ≡ layout_error own number
 refuses_newer own number more = go (nat_lt number own) refl
   where
     go : (b : Bool) → nat_lt number own ≡ b → NewerLayout number ≡ (if b then OldLayout number else NewerLayout number)
@@ -154,11 +154,11 @@ refuses_newer own number more = go (nat_lt number own) refl
 
 module _ {S : Type 0} (g : Ghosts S) (old new : Held S) (layout : Layout) where
   -- `meta` wasn't read
-  pub other_unread : (r : Result (Unit {0}) StoreError) (e : Error) → old.step_limit ≡ None → (CanTellMeta (state g old) → IsFault (state g old) (state g new) e) → IsErrAnd r (λ failure. failure ≡ failure_of e) → IfErr r (TellsOther (number_of layout) (state g old))
-  other_unread r e unlimited fault is = passed (TellsOther (number_of layout) (state g old)) r (failure_of e) is (λ number is_open out.
+  pub other_unread : (r : Result (Unit {0}) StoreError) (e : Error) → old.step_limit ≡ None → (CanReadMeta (state g old) → IsFault (state g old) (state g new) e) → IsErrAnd r (λ failure. failure ≡ failure_of e) → IfErr r (ReportsOther (number_of layout) (state g old))
+  other_unread r e unlimited fault is = passed (ReportsOther (number_of layout) (state g old)) r (failure_of e) is (λ number is_open out.
       inr (fault_if_by (state g old) (state g new) (failure_of e) (fault_by (state g old) (state g new) e unlimited (fault (λ _. out.holds)))))
 
-  module _ {X : Type 0} (x : X) (lines : List MetaLine) (f : StaysIdle {X = X} {E = Error} g old new (Ok x)) (listed : HasCleanDisk (state g new) → HasFiveTables (state g old).now.schema → ListsMeta (state g old).now lines) where
+  module _ {X : Type 0} (x : X) (lines : List RawMeta) (f : ReadsInAutocommit {X = X} {E = Error} g old new (Ok x)) (listed : HasCleanDisk (state g new) → HasFiveTables (state g old).now.schema → ListsMeta (state g old).now lines) where
     abbrev db : Database
     db = (state g old).now
 
@@ -170,27 +170,27 @@ module _ {S : Type 0} (g : Ghosts S) (old new : Held S) (layout : Layout) where
 
     -- `meta` was read, and judged
     pub meta_tests : (r : Result (Unit {0}) StoreError) → JudgesMeta layout lines r → Tests HasFiveTables (SpellsAs layout) g old new r (λ _. MetaPass layout)
-    meta_tests (Ok y) j = record { frame = framed g old new (Ok x) (Ok y) f f.was_open; tells = λ clean known. record { lines = lines; lists = listed clean known; apart = j.0; fit = j.1 }; fault = λ clean. tt; told = λ clean. tt }
-    meta_tests (Err Memory) j = record { frame = framed g old new (Ok x) (Err Memory) f (λ clean. tt); tells = λ clean. tt; fault = λ clean over. tt; told = λ clean known. tt }
+    meta_tests (Ok y) j = record { frame = framed g old new (Ok x) (Ok y) f f.was_open; tells = λ clean known. record { lines = lines; lists = listed clean known; apart = j.0; fit = j.1 }; fault = λ clean. tt; disk_cause = λ clean. tt }
+    meta_tests (Err Memory) j = record { frame = framed g old new (Ok x) (Err Memory) f (λ clean. tt); tells = λ clean. tt; fault = λ clean over. tt; disk_cause = λ clean known. tt }
     meta_tests (Err Disk) j = absurd j
-    meta_tests (Err NotARegistry) j = record { frame = framed g old new (Ok x) (Err NotARegistry) f (λ clean. tt); tells = λ clean. tt; fault = λ clean over. absurd (j.0 (spelled clean (over (f.was_open clean)))); told = λ clean known. tt }
+    meta_tests (Err NotARegistry) j = record { frame = framed g old new (Ok x) (Err NotARegistry) f (λ clean. tt); tells = λ clean. tt; fault = λ clean over. absurd (j.0 (spelled clean (over (f.was_open clean)))); disk_cause = λ clean known. tt }
     meta_tests (Err (OldLayout number)) j = record {
       frame = framed g old new (Ok x) (Err (OldLayout number)) f (λ clean. tt);
       tells = λ clean. tt;
       fault = λ clean over. absurd (let is = other_spelled clean (over (f.was_open clean)) number j.0 in let less = j.1 in omega (arith, is, less));
-      told = λ clean known. tt;
+      disk_cause = λ clean known. tt;
     }
     meta_tests (Err (NewerLayout number)) j = record {
       frame = framed g old new (Ok x) (Err (NewerLayout number)) f (λ clean. tt);
       tells = λ clean. tt;
       fault = λ clean over. absurd (let is = other_spelled clean (over (f.was_open clean)) number j.0 in let more = j.1 in omega (arith, is, more));
-      told = λ clean known. tt;
+      disk_cause = λ clean known. tt;
     }
 
     names_first : HasCleanDisk (state g new) → (number : ℕ) → layout_in (pairs_of lines) ≡ Some number → HasFiveTables db.schema → NamesLayout db number
     names_first clean number is first = names_if_in lines (db.trees meta.tree) (listed clean first) number is
 
-    pub meta_refused : (HasCleanDisk (state g new) → ReadsMeta db lines) → (r : Result (Unit {0}) StoreError) → JudgesMeta layout lines r → HasCleanDisk (state g new) → IfErr r (IsRefusedAs (number_of layout) db)
+    pub meta_refused : (HasCleanDisk (state g new) → ReadsMeta db lines) → (r : Result (Unit {0}) StoreError) → JudgesMeta layout lines r → HasCleanDisk (state g new) → IfErr r (HasMetaNumberOf (number_of layout) db)
     meta_refused reads (Ok y) j clean = tt
     meta_refused reads (Err Memory) j clean = tt
     meta_refused reads (Err Disk) j clean = tt
@@ -199,7 +199,7 @@ module _ {S : Type 0} (g : Ghosts S) (old new : Held S) (layout : Layout) where
     meta_refused reads (Err (NewerLayout number)) j clean = (j.1, shows_layout lines db (reads clean) number j.0, names_first clean number j.0)
 
     -- no fault of the disk is told of what was read
-    pub meta_told : (r : Result (Unit {0}) StoreError) → JudgesMeta layout lines r → IfErr r (IsTold (state g old) (state g new))
+    pub meta_told : (r : Result (Unit {0}) StoreError) → JudgesMeta layout lines r → IfErr r (HasDiskCause (state g old) (state g new))
     meta_told (Ok y) j = tt
     meta_told (Err Memory) j = tt
     meta_told (Err Disk) j = absurd j
@@ -207,19 +207,19 @@ module _ {S : Type 0} (g : Ghosts S) (old new : Held S) (layout : Layout) where
     meta_told (Err (OldLayout number)) j = tt
     meta_told (Err (NewerLayout number)) j = tt
 
-    named : HasCleanDisk (state g new) → (number : ℕ) → HasOther (number_of layout) db number → layout_in (pairs_of lines) ≡ Some number
+    named : HasCleanDisk (state g new) → (number : ℕ) → HasOtherLayout (number_of layout) db number → layout_in (pairs_of lines) ≡ Some number
     named clean number out = in_if_names lines db (listed clean out.holds.first) out.holds number out.names
 
-    pub meta_other : (r : Result (Unit {0}) StoreError) → JudgesMeta layout lines r → HasCleanDisk (state g new) → IfErr r (TellsOther (number_of layout) (state g old))
+    pub meta_other : (r : Result (Unit {0}) StoreError) → JudgesMeta layout lines r → HasCleanDisk (state g new) → IfErr r (ReportsOther (number_of layout) (state g old))
     meta_other (Ok y) j clean = tt
     meta_other (Err Memory) j clean = λ number is_open out. inr refl
     meta_other (Err Disk) j clean = absurd j
     meta_other (Err NotARegistry) j clean = λ number is_open out. absurd (out.other (j.1 number (named clean number out)))
     meta_other (Err (OldLayout older)) j clean = λ number is_open out.
-        inl (let is = same_number older number (sym j.0 ∙ named clean number out) in refuses_old (number_of layout) older j.1 ∙ ap (refusal_of (number_of layout)) is)
+        inl (let is = same_number older number (sym j.0 ∙ named clean number out) in refuses_old (number_of layout) older j.1 ∙ ap (layout_error (number_of layout)) is)
     meta_other (Err (NewerLayout newer)) j clean = λ number is_open out.
-        inl (let is = same_number newer number (sym j.0 ∙ named clean number out) in refuses_newer (number_of layout) newer j.1 ∙ ap (refusal_of (number_of layout)) is)
+        inl (let is = same_number newer number (sym j.0 ∙ named clean number out) in refuses_newer (number_of layout) newer j.1 ∙ ap (layout_error (number_of layout)) is)
 
 -- a registry's tables name no other layout
-pub not_other : (layout : Layout) (db : Database) (number : ℕ) → MetaPass layout db → HasOther (number_of layout) db number → ⊥
+pub not_other : (layout : Layout) (db : Database) (number : ℕ) → MetaPass layout db → HasOtherLayout (number_of layout) db number → ⊥
 not_other layout db number p out = out.other (same_number number (number_of layout) (sym (in_if_names p.lines db p.lists out.holds number out.names) ∙ names_own layout p.lines p.fit))

@@ -10,20 +10,20 @@ use Rattle.reg_core.specs.Registry.{own_with, own_without}
 use Rattle.reg_core.specs.Subjects.{is_subject}
 use Rattle.reg_tables.specs.Changes.{with_global_mode, with_mode, without_mode}
 use Rattle.reg_tables.specs.Writing.{Changes}
-use Rattle.reg_store.specs.Inside.Making.{Makes}
+use Rattle.reg_store.specs.Inside.Making.{StoresChange}
 use Rattle.reg_store.proofs.Deletions.{left_value}
 use Rattle.reg_store.proofs.Maps.{insert_both, remove_both}
 use Rattle.reg_store.proofs.SpelledTwo.{spelled_in, mode_changed, changed}
 use Rattle.reg_store.proofs.Spelling.{each_entry, spelled_beside}
 
 module _ (old new : State) where
-  pub makes_global_mode : (mode : Mode) → Changes old new (with_global_mode (mode_text mode)) → Makes old new (SetGlobalMode mode)
+  pub makes_global_mode : (mode : Mode) → Changes old new (with_global_mode (mode_text mode)) → StoresChange old new (SetGlobalMode mode)
   makes_global_mode mode changes was s fits =
       let g = was.registry in
       changed old new (with_global_mode (mode_text mode)) changes was s _
       (spelled_in s.contents was s.spelled _ _ _ (spelled_beside s.contents g was.replies s.spelled.base (with_global_mode (mode_text mode) s.contents) (refl, refl, refl, refl) g.global mode g.own_modes) (mode_changed s.contents.meta (level_text g.global) (mode_text g.global_mode) (mode_text mode) s.spelled.meta) refl (refl, refl, refl))
 
-  pub makes_mode : (subject : List ℕ) (mode : Mode) → IsTrue (is_subject subject) → Changes old new (with_mode subject (mode_text mode)) → Makes old new (SetMode subject mode)
+  pub makes_mode : (subject : List ℕ) (mode : Mode) → IsTrue (is_subject subject) → Changes old new (with_mode subject (mode_text mode)) → StoresChange old new (SetMode subject mode)
   makes_mode subject mode within changes was s fits = record {
     schema = s.schema;
     known = s.known;
@@ -38,7 +38,7 @@ module _ (old new : State) where
     };
   }
 
-  pub makes_no_mode : (subject : List ℕ) → Changes old new (without_mode subject) → Makes old new (DropMode subject)
+  pub makes_no_mode : (subject : List ℕ) → Changes old new (without_mode subject) → StoresChange old new (DropMode subject)
   makes_no_mode subject changes was s fits = record {
     schema = s.schema;
     known = s.known;

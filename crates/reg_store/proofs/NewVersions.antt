@@ -8,14 +8,14 @@ use Rattle.sqlite.specs.declared.error.Error.{Error}
 use Rattle.avro_nodes.specs.Nodes.{NodeView}
 use Rattle.avro_nodes.specs.Identity.{identity}
 use Rattle.reg_core.specs.declared.decision.Change.TheVariants.{AddRow}
-use Rattle.reg_core.specs.Evidence.{Evidence, GoesWith}
+use Rattle.reg_core.specs.Evidence.{Evidence, IsCompatibleWith}
 use Rattle.reg_core.specs.Levels.{level_text}
 use Rattle.reg_core.specs.Registry.{Row, RowKey, schema_at}
 use Rattle.reg_core.specs.Stored.{Stored}
 use Rattle.reg_core.specs.Subjects.{is_subject}
 use Rattle.reg_core.specs.Views.{ChangeFits}
 use Rattle.reg_core.proofs.RowLemmas.{row_schema}
-use Rattle.reg_tables.specs.Contents.{version_cmp, Contents, HoldsIn}
+use Rattle.reg_tables.specs.Contents.{version_cmp, Contents, HoldsContents}
 use Rattle.reg_tables.specs.Changes.{with_evidence, with_version}
 use Rattle.std.proofs.lemmas.List.Elements.{All-weaker}
 use Rattle.reg_tables.specs.FailedCalls.{IsInsertFault}
@@ -25,8 +25,8 @@ use Rattle.reg_tables.proofs.Tables.{openable_has_eight}
 use Rattle.reg_tables.proofs.MapLemmas.{get-insert-same}
 use Rattle.reg_tables.proofs.KeyedTables.{version_order}
 use Rattle.reg_store.specs.Spells.{Spells, IsSpelledEvidence, IsSpelledLayoutTwo, stored_version}
-use Rattle.reg_store.specs.Changes.{made_of}
-use Rattle.reg_store.specs.Inside.Making.{HasNoPlace, HasTexts, PutsOwn, IsFaultOfOwn, with_ids, with_own}
+use Rattle.reg_store.specs.Changes.{stored_after_changes}
+use Rattle.reg_store.specs.Inside.Making.{HasNoPositions, HasTexts, PutsOwn, IsFaultOfOwn, with_ids, with_own}
 use Rattle.reg_store.proofs.Additions.{number_is_free, spelled_row}
 use Rattle.reg_store.proofs.Evidence.{evidence_beside, evidence_more, has_no_place}
 use Rattle.reg_store.proofs.Places.{ids_beside}
@@ -49,26 +49,26 @@ module _ (old mid new : State) (row : Row) (own : Evidence) (puts : ChangesIf ol
   absent : get s.contents.versions row.0 ≡ None
   absent = number_is_free s.contents was.registry was.replies s.spelled.base row fits.0
 
-  held : HoldsIn s.schema mid.now (with_row row s.contents)
+  held : HoldsContents s.schema mid.now (with_row row s.contents)
   held = puts s.schema s.known s.contents s.holds absent
 
   bare : get s.contents.evidence row.0 ≡ None
   bare = no_level s row.0 absent
 
-  free : HasNoPlace s.contents row.0
+  free : HasNoPositions s.contents row.0
   free = has_no_place s.contents was.evidence s.spelled.evidence row.0 bare
 
   -- the schemas that true evidence names have texts
   named : (nodes : List NodeView) → schema_at was.registry.schemas row.1.id ≡ Some nodes → HasTexts (with_row row s.contents) row.0 own.against
   named nodes schema = record {
     version = subst IsSome (sym (get-insert-same version_cmp version_order s.contents.versions row.0 (stored_version row.1))) refl;
-    texts = All-weaker (GoesWith was.registry.schemas own.level nodes) (λ id. IsSome (get s.contents.texts id)) (λ id goes. subst IsSome (sym (s.spelled.base.texts id ∙ ap (option_map identity) goes.1)) refl) own.against (fits.1.holds nodes schema);
+    texts = All-weaker (IsCompatibleWith was.registry.schemas own.level nodes) (λ id. IsSome (get s.contents.texts id)) (λ id goes. subst IsSome (sym (s.spelled.base.texts id ∙ ap (option_map identity) goes.1)) refl) own.against (fits.1.holds nodes schema);
   }
 
   has_texts : HasTexts (with_row row s.contents) row.0 own.against
   has_texts = let its = row_schema was.registry.schemas row.0 row.1 fits.0.fits in named its.0 its.1
 
-  pub spells_row : IsTrue (is_subject row.0.0) → PutsOwn mid new row.0 own → Spells new.now (made_of (AddRow row own ∷ []) was)
+  pub spells_row : IsTrue (is_subject row.0.0) → PutsOwn mid new row.0 own → Spells new.now (stored_after_changes (AddRow row own ∷ []) was)
   spells_row within given =
       let bare_there = with_evidence row.0 (level_text own.level) (with_row row s.contents) in
       let same = ids_beside row.0 1 own.against bare_there in
@@ -78,7 +78,7 @@ module _ (old mid new : State) (row : Row) (own : Evidence) (puts : ChangesIf ol
         known = s.known;
         contents = with_own row.0 own (with_row row s.contents);
         holds = given.puts s.schema s.known (with_row row s.contents) held bare free;
-        spelled = subst (λ (c : Contents). IsSpelledLayoutTwo c (made_of (AddRow row own ∷ []) was)) (sym same) (record {
+        spelled = subst (λ (c : Contents). IsSpelledLayoutTwo c (stored_after_changes (AddRow row own ∷ []) was)) (sym same) (record {
           base = spelled_as (with_row row s.contents) _ was.replies (spelled_row s.contents was.registry was.replies s.spelled.base row own within fits.0) (record bare_there { against = (with_ids row.0 1 own.against bare_there).against }) (refl, refl, refl, refl);
           meta = s.spelled.meta;
           modes = s.spelled.modes;

@@ -10,9 +10,9 @@ use Rattle.sqlite_rules.specs.Lists.{Has}
 use Rattle.sqlite_rules.proofs.ListLemmas.{all_has, all_from}
 use Rattle.reg_tables.proofs.MapLemmas.{tied_key, other_key}
 use Rattle.reg_tables.proofs.KeyedTables.{number_order}
-use Rattle.reg_tables.specs.declared.text_lines.TextLine.{TextLine}
+use Rattle.reg_tables.specs.declared.raw_texts.RawText.{RawText}
 use Rattle.reg_rows.specs.Spelling.{AreNumbered, Text}
-use Rattle.reg_store.specs.Opening.{text_shown}
+use Rattle.reg_store.specs.Opening.{text_columns}
 
 -- none is greater than one after it
 abbrev pub Rises : List ℕ → Type 0
@@ -59,23 +59,23 @@ few_numbered first most (n ∷ ns) h high l =
     let rest = few_numbered (first + 1) most ns h.1 (λ m there. high m (inr there)) (omega (arith, a, e)) in
     omega (arith, rest)
 
-abbrev ids : List TextLine → List ℕ
-ids lines = map (λ (row : ℕ × Text). row.0) (map text_shown lines)
+abbrev ids : List RawText → List ℕ
+ids lines = map (λ (row : ℕ × Text). row.0) (map text_columns lines)
 
 -- so none stands twice
-pub ids_apart : (lines : List TextLine) → AreNumbered 1 (ids lines) → IsDistinct (eq_by_cmp int_cmp) (map (λ (line : TextLine). pos line.id) lines)
+pub ids_apart : (lines : List RawText) → AreNumbered 1 (ids lines) → IsDistinct (eq_by_cmp int_cmp) (map (λ (line : RawText). pos line.id) lines)
 unfolding IsDistinct
 ids_apart lines n = from 1 lines n
   where
-    later : (first : ℕ) (ls : List TextLine) → AreNumbered first (ids ls) → (i : ℤ) → Has (map (λ (line : TextLine). pos line.id) ls) i → (m : ℕ) × (i ≡ pos m) × (first ≤ m)
+    later : (first : ℕ) (ls : List RawText) → AreNumbered first (ids ls) → (i : ℤ) → Has (map (λ (line : RawText). pos line.id) ls) i → (m : ℕ) × (i ≡ pos m) × (first ≤ m)
     later first [] h i there = absurd there
     later first (l ∷ ls) h i (inl e) = (l.id, e, (let a = h.0 in omega (arith, a)))
     later first (l ∷ ls) h i (inr rest) = let it = later (first + 1) ls h.1 i rest in (it.0, it.1, (let a = it.2 in omega (arith, a)))
 
-    from : (first : ℕ) (ls : List TextLine) → AreNumbered first (ids ls) → IsDistinct (eq_by_cmp int_cmp) (map (λ (line : TextLine). pos line.id) ls)
+    from : (first : ℕ) (ls : List RawText) → AreNumbered first (ids ls) → IsDistinct (eq_by_cmp int_cmp) (map (λ (line : RawText). pos line.id) ls)
     from first [] h = tt
     from first (l ∷ ls) h = (
-      all_from (λ i. eq_by_cmp int_cmp (pos l.id) i ≡ false) (map (λ (line : TextLine). pos line.id) ls) (λ i there.
+      all_from (λ i. eq_by_cmp int_cmp (pos l.id) i ≡ false) (map (λ (line : RawText). pos line.id) ls) (λ i there.
           let it = later (first + 1) ls h.1 i there in
           other_key int_cmp (record { total = int_cmp_total; antisymmetric = int_cmp-IsAntisymmetric }) (pos l.id) i (λ e.
           let same : pos l.id ≡ pos it.0 = e ∙ it.1 in

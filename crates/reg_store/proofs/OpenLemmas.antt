@@ -10,18 +10,18 @@ use Rattle.sqlite_trees.specs.declared.store.Store.{Ghosts}
 use Rattle.reg_core.specs.Stored.{Stored}
 use Rattle.reg_tables.specs.Layout.{HasFiveTables, IsLayoutOne, no_schema, layout_two_unindexed, layout_two_indexed_last, IsOpenable}
 use Rattle.reg_tables.proofs.Statements.{one_has_five}
-use Rattle.reg_tables.specs.Contents.{Contents, HoldsIn}
+use Rattle.reg_tables.specs.Contents.{Contents, HoldsContents}
 use Rattle.reg_tables.specs.Reads.{OnlyReads}
 use Rattle.reg_store.specs.declared.error.StoreError.{StoreError}
 use Rattle.reg_store.specs.declared.error.StoreError.TheVariants.{NotARegistry}
 use Rattle.reg_store.specs.declared.layout.Layout.TheVariants.{One}
-use Rattle.reg_store.specs.Failures.{IsFaultBy, IsTold}
-use Rattle.reg_store.specs.UnopenedFaults.{IsFaultOverLayoutOne, IsUnread}
-use Rattle.reg_store.specs.Opening.{IsRefusedAs, TellsOther, OpensOver, LacksIndex, IsIndexed, LosesNothing, HasVersionRows, FindsLayoutOne}
+use Rattle.reg_store.specs.Failures.{IsFaultBy, HasDiskCause}
+use Rattle.reg_store.specs.OpenFailures.{IsFaultOverLayoutOne, IsCheckFailure}
+use Rattle.reg_store.specs.Opening.{HasMetaNumberOf, ReportsOther, OpensOver, LacksIndex, IsIndexed, CrashKeepsStored, HasVersionRows, FindsLayoutOne}
 use Rattle.reg_store.specs.Spells.{IsSpelledLayoutTwo, Spells, SpellsLayoutOne, SpellsUnopened}
-use Rattle.reg_store.specs.Stores.{LeavesCommit, LeavesConnection, IsUnmade}
+use Rattle.reg_store.specs.Stores.{RecoversLastCommit, KeepsConnection, IsCreateFailure}
 use Rattle.reg_store.specs.Inside.Testing.{SpellsSome, FivePass, EightPass}
-use Rattle.reg_store.specs.Inside.Making.{TakesIndex}
+use Rattle.reg_store.specs.Inside.Making.{HoldsWithIndex}
 use Rattle.reg_store.proofs.Committing.{left_if_spelled, leaves_before}
 use Rattle.reg_store.proofs.Rereading.{same_now}
 use Rattle.reg_store.proofs.EightTests.{spelled_if_five_passed, spelled_if_all_passed}
@@ -29,11 +29,11 @@ use Rattle.reg_store.proofs.EightTests.{spelled_if_five_passed, spelled_if_all_p
 -- the tables lack the index and spell what is stored
 pub record SpellsBare (db : Database) (was : Stored) : Type 0 where
   pub contents : Contents
-  pub holds : HoldsIn layout_two_unindexed db contents
+  pub holds : HoldsContents layout_two_unindexed db contents
   pub spelled : IsSpelledLayoutTwo contents was
 
 pub spells_bare : (db : Database) (was : Stored) → db.schema ≡ layout_two_unindexed → SpellsUnopened db was → SpellsBare db was
-spells_bare db was is s = record { contents = s.contents; holds = subst (λ x. HoldsIn x db s.contents) (sym s.holds.declared ∙ is) s.holds; spelled = s.spelled }
+spells_bare db was is s = record { contents = s.contents; holds = subst (λ x. HoldsContents x db s.contents) (sym s.holds.declared ∙ is) s.holds; spelled = s.spelled }
 
 module _ (old mid : State) (reads : OnlyReads old mid) (settled : IsTrue old.is_open → old.now ≡ old.committed) (known : IsOpenable old.now.schema) (sound : IsDatabase old.now) (passed : EightPass old.now) where
   -- the index is there, and nothing is changed
@@ -53,7 +53,7 @@ module _ (old mid : State) (reads : OnlyReads old mid) (settled : IsTrue old.is_
 
   -- the index is added
   pub opens_with_index : (new : State) → mid.now.schema ≡ layout_two_unindexed → IsTrue mid.is_open → IsTrue new.is_open → new.committed ≡ new.now
-      → ((contents : Contents) → HoldsIn layout_two_unindexed mid.now contents → HoldsIn layout_two_indexed_last new.now contents) → OpensOver old new
+      → ((contents : Contents) → HoldsContents layout_two_unindexed mid.now contents → HoldsContents layout_two_indexed_last new.now contents) → OpensOver old new
   opens_with_index new bare mid_open is_open committed made =
       let it = spelled_if_all_passed old.now known sound passed in
       let same = same_now old mid reads settled mid_open in
@@ -68,7 +68,7 @@ module _ (old mid : State) (reads : OnlyReads old mid) (settled : IsTrue old.is_
             schema = layout_two_indexed_last;
             known = inr refl;
             contents = spells.contents;
-            holds = made spells.contents (subst (λ (d : Database). HoldsIn layout_two_unindexed d spells.contents) (sym same) spells.holds);
+            holds = made spells.contents (subst (λ (d : Database). HoldsContents layout_two_unindexed d spells.contents) (sym same) spells.holds);
             spelled = spells.spelled;
           };
         };
@@ -81,23 +81,23 @@ module _ (old mid : State) (reads : OnlyReads old mid) (settled : IsTrue old.is_
       record { stored = it.stored; spelled = it.spells; bare = sym (ap (λ (d : Database). d.schema) (same_now old mid reads settled mid_open)) ∙ bare }
 
 -- such tables hold contents
-pub bare_contents : (db : Database) → LacksIndex db → (contents : Contents) × HoldsIn layout_two_unindexed db contents
+pub bare_contents : (db : Database) → LacksIndex db → (contents : Contents) × HoldsContents layout_two_unindexed db contents
 bare_contents db it = let spells = spells_bare db it.stored it.bare it.spelled in (spells.contents, spells.holds)
 
 module _ (old mid new : State) (reads : HasCleanDisk mid → OnlyReads old mid) (settled : IsTrue old.is_open → old.now ≡ old.committed) (bare : HasCleanDisk new → IsTrue mid.is_open → LacksIndex old.now) where
   -- a crash leaves what it left before, or the tables with the index
-  pub index_survives : Survives old mid (λ _. ⊥) → Survives mid new (λ db. IsTrue mid.is_open × TakesIndex mid.now db) → Survives old new (IsIndexed old.now)
-  index_survives p q = survives_then old mid new (λ _. ⊥) (λ db. IsTrue mid.is_open × TakesIndex mid.now db) (IsIndexed old.now) (λ _ db none. absurd none) made p q
+  pub index_survives : Survives old mid (λ _. ⊥) → Survives mid new (λ db. IsTrue mid.is_open × HoldsWithIndex mid.now db) → Survives old new (IsIndexed old.now)
+  index_survives p q = survives_then old mid new (λ _. ⊥) (λ db. IsTrue mid.is_open × HoldsWithIndex mid.now db) (IsIndexed old.now) (λ _ db none. absurd none) made p q
     where
-      made : HasCleanDisk new → (db : Trees) → IsTrue mid.is_open × TakesIndex mid.now db → IsIndexed old.now db
+      made : HasCleanDisk new → (db : Trees) → IsTrue mid.is_open × HoldsWithIndex mid.now db → IsIndexed old.now db
       made clean db it =
           let early : HasCleanDisk mid = omega (arith, q.clean) in
           let there = bare clean it.0 in
-          record { found = there; indexed = λ held holds. it.1 held (subst (λ (d : Database). HoldsIn layout_two_unindexed d held) (sym (same_now old mid (reads early) settled it.0)) holds) }
+          record { found = there; indexed = λ held holds. it.1 held (subst (λ (d : Database). HoldsContents layout_two_unindexed d held) (sym (same_now old mid (reads early) settled it.0)) holds) }
 
 -- a crash leaves what the tables spelled, with or without the index
 module _ (old new : State) (settled : IsTrue old.is_open → old.now ≡ old.committed) (only : (db : Trees) → IsTrue old.is_open → old.may_leave db → db ≡ old.committed.trees) (survives : Survives old new (IsIndexed old.now)) where
-  pub loses_nothing : HasCleanDisk new → LosesNothing old new
+  pub loses_nothing : HasCleanDisk new → CrashKeepsStored old new
   loses_nothing clean is_open was spelled db it = elim (survives.crash clean db it) [
     | inl left ↦ left_if_spelled db old.now was (only db is_open left ∙ sym (ap (λ (d : Database). d.trees) (settled is_open))) spelled
     | inr made ↦
@@ -120,7 +120,7 @@ pub only_reads : (old new : State) → KeepsCommit old new → (IsTrue new.is_op
 only_reads old new stays settled = record { commit_stays = stays; settled = settled }
 
 -- a call that did nothing leaves all
-pub leaves_all : (s : State) (e : StoreError) → (IsTrue s.is_open → s.now ≡ s.committed) → LeavesCommit s → LeavesConnection s s e
+pub leaves_all : (s : State) (e : StoreError) → (IsTrue s.is_open → s.now ≡ s.committed) → RecoversLastCommit s → KeepsConnection s s e
 leaves_all s e settled commit = record {
   nothing = λ clean. only_reads s s (record { was_open = λ is_open. is_open; committed = λ is_open. refl }) settled;
   before = λ clean is_open. leaves_before s s e (λ db it. it);
@@ -129,9 +129,9 @@ leaves_all s e settled commit = record {
 }
 
 -- the limit on steps makes no difference
-pub leaves_unlimited : {S : Type 0} (g : Ghosts S) (conn begun : Held S) → begun ≡ record conn { step_limit = None } → (new : State) (e : StoreError) → LeavesConnection (state g begun) new e → LeavesConnection (state g conn) new e
+pub leaves_unlimited : {S : Type 0} (g : Ghosts S) (conn begun : Held S) → begun ≡ record conn { step_limit = None } → (new : State) (e : StoreError) → KeepsConnection (state g begun) new e → KeepsConnection (state g conn) new e
 leaves_unlimited g conn begun is new e leaves =
-    let it = subst (λ h. LeavesConnection (state g h) new e) is leaves in
+    let it = subst (λ h. KeepsConnection (state g h) new e) is leaves in
     record {
       nothing = λ clean.
           (let reads = it.nothing clean in
@@ -142,8 +142,8 @@ leaves_unlimited g conn begun is new e leaves =
     }
 
 -- no registry is made next to other tables
-pub unmade_beside : {S : Type 0} (g : Ghosts S) (conn begun : Held S) → begun ≡ record conn { step_limit = None } → {LeavesNew : Trees → Type 0} → (state g begun).now.schema ≢ no_schema
-    → (IsTrue (state g begun).is_open → (state g begun).now ≡ (state g begun).committed) → LeavesCommit (state g begun) → IsUnmade LeavesNew (state g conn) (state g begun) NotARegistry
+pub unmade_beside : {S : Type 0} (g : Ghosts S) (conn begun : Held S) → begun ≡ record conn { step_limit = None } → {RecoversToNew : Trees → Type 0} → (state g begun).now.schema ≢ no_schema
+    → (IsTrue (state g begun).is_open → (state g begun).now ≡ (state g begun).committed) → RecoversLastCommit (state g begun) → IsCreateFailure RecoversToNew (state g conn) (state g begun) NotARegistry
 unmade_beside g conn begun is others settled commit = record {
   fault = λ clean none. absurd (others (ap (λ (h : Held _). h.schema) is ∙ none));
   leaves = leaves_unlimited g conn begun is (state g begun) NotARegistry (leaves_all (state g begun) NotARegistry settled commit);
@@ -153,9 +153,9 @@ unmade_beside g conn begun is others settled commit = record {
 -- nor for the errors of `check_first`
 pub unread_unlimited : {S X : Type 0} (g : Ghosts S) (conn begun : Held S) → begun ≡ record conn { step_limit = None } → (new : State) (r : Result X StoreError)
     → IfErr r (λ e. (IsTrue (state g begun).is_open → SpellsSome SpellsLayoutOne (state g begun).now) → IsFaultBy (state g begun) new e)
-    → IfErr r (IsTold (state g begun) new) → IfErr r (IsRefusedAs 1 (state g begun).now) → IfErr r (TellsOther 1 (state g begun)) → IfErr r (IsUnread (state g conn) new)
+    → IfErr r (HasDiskCause (state g begun) new) → IfErr r (HasMetaNumberOf 1 (state g begun).now) → IfErr r (ReportsOther 1 (state g begun)) → IfErr r (IsCheckFailure (state g conn) new)
 unread_unlimited g conn begun is new (Ok x) fault told refused other = tt
 unread_unlimited g conn begun is new (Err e) fault told refused other =
     let first : IsFaultOverLayoutOne (state g begun) new e = λ was over. fault (λ is_open. record { stored = was; spells = over is_open }) in
-    let it = subst (λ h. IsUnread (state g h) new e) is (record { fault = first; told = told; refused = refused; other = other }) in
-    record { fault = it.fault; told = it.told; refused = it.refused; other = it.other }
+    let it = subst (λ h. IsCheckFailure (state g h) new e) is (record { fault = first; disk_cause = told; meta_number = refused; other = other }) in
+    record { fault = it.fault; disk_cause = it.disk_cause; meta_number = it.meta_number; other = it.other }

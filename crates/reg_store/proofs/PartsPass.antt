@@ -13,10 +13,10 @@ use Rattle.sqlite.specs.Effect.{Database}
 use Rattle.sqlite_rules.specs.Lists.{Has}
 use Rattle.sqlite_rules.proofs.ListLemmas.{all_has, has_contained, contains_had, has_filtered}
 use Rattle.reg_core.specs.Registry.{RowKey}
-use Rattle.reg_tables.specs.declared.evidence.EvidenceLine.{EvidenceLine}
-use Rattle.reg_tables.specs.declared.evidence.AgainstLine.{AgainstLine}
+use Rattle.reg_tables.specs.declared.evidence.RawEvidence.{RawEvidence}
+use Rattle.reg_tables.specs.declared.evidence.RawAgainst.{RawAgainst}
 use Rattle.reg_tables.specs.Layout.{table_at}
-use Rattle.reg_tables.specs.Contents.{version_cmp, place_cells, evidence_form, against_form, TableName, Against, Contents, HoldsIn}
+use Rattle.reg_tables.specs.Contents.{version_cmp, position_cells, evidence_form, against_form, TableName, Against, Contents, HoldsContents}
 use Rattle.reg_tables.specs.TableMaps.{ShowsMap}
 use Rattle.reg_tables.specs.Listings.{parts_of, entry_parts, evidence_entry, against_entry, against_rows, is_of, ListsEvidence, ListsAgainst}
 use Rattle.reg_tables.proofs.KeyedTables.{distinct_texts, version_order, distinct_versions}
@@ -24,14 +24,14 @@ use Rattle.reg_tables.proofs.ListMembers.{has_mapped}
 use Rattle.reg_tables.proofs.ListingLemmas.{listed_if_shown}
 use Rattle.reg_tables.proofs.MapLemmas.{same_or_not, tied_key}
 use Rattle.reg_tables.proofs.Tables.{shown_by}
-use Rattle.reg_rows.specs.Places.{Place, AreCounted, ArePositions}
+use Rattle.reg_rows.specs.Positions.{VersionPosition, IsContiguousFor, AreContiguous}
 use Rattle.reg_store.specs.Spells.{SpellsUnopened}
-use Rattle.reg_store.specs.Inside.Testing.{AreApart, against_fits, version_at, place_at, evidence_fits, StandInOrder, JudgesVersions, EvidenceFits, EvidencePasses, SpellsSome}
+use Rattle.reg_store.specs.Inside.Testing.{AreDistinct, against_fits, version_at, place_at, evidence_fits, ArePositionsInOrder, JudgesVersions, EvidenceFits, EvidencePasses, SpellsSome}
 use Rattle.reg_store.proofs.EvidenceMaps.{evidence_if_spelled}
 use Rattle.reg_store.proofs.EvidenceRows.{version_listed}
 use Rattle.reg_store.proofs.EightTests.{eight_known, evidence_passes}
 use Rattle.reg_store.proofs.TextParts.{Splits, split, all_pass, none_passes}
-use Rattle.reg_store.proofs.VersionParts.{key_is, row_of, counted_if, if_counted, many_lines, of_itself, of_one, close, uncounted, rows_of, joined, Parts, all_listed, version_read, against, lists_all, positions_if_fit, fits_if_fit}
+use Rattle.reg_store.proofs.VersionParts.{key_is, line_row, counted_if, if_counted, many_lines, of_itself, of_one, close, uncounted, rows_of, joined, Parts, all_listed, version_read, against, lists_all, positions_if_fit, fits_if_fit}
 
 -- ---- the rows of versions that differ, one version after the other
 
@@ -60,7 +60,7 @@ has_among (first ∷ versions) version row (inr later) is = go (is_of first row)
 
 -- each row has a place
 abbrev ArePlaced : List Row → Type 0
-ArePlaced rows = (row : Row) → Has rows row → (place : Place) × (against_form.key_of row ≡ place_cells place)
+ArePlaced rows = (row : Row) → Has rows row → (place : VersionPosition) × (against_form.key_of row ≡ position_cells place)
 
 module _ (db : Database) (keyed : ArePlaced (against_rows db)) where
   parted : (versions : List RowKey) → IsDistinct (eq_by_cmp version_cmp) versions → IsPermutation (filter (among versions) (against_rows db)) (rows_of db versions)
@@ -88,14 +88,14 @@ module _ (db : Database) (keyed : ArePlaced (against_rows db)) where
 
 -- ---- both ways
 
-module _ (db : Database) (evidence : List EvidenceLine) (lists : ListsEvidence db evidence) (rowids : List ℤ) (fit : Bool) (it : JudgesVersions (map version_at evidence) db rowids fit) where
+module _ (db : Database) (evidence : List RawEvidence) (lists : ListsEvidence db evidence) (rowids : List ℤ) (fit : Bool) (it : JudgesVersions (map version_at evidence) db rowids fit) where
   abbrev versions : List RowKey
   versions = map version_at evidence
 
-  abbrev ids : List AgainstLine
+  abbrev ids : List RawAgainst
   ids = against db versions rowids fit it
 
-  pub parts_passed : AreApart (map (λ (line : EvidenceLine). line.rowid) evidence) × AllByRecursion evidence_fits evidence → AreApart rowids → length (against_rows db) ≡ length rowids → IsTrue fit → EvidencePasses db
+  pub parts_passed : AreDistinct (map (λ (line : RawEvidence). line.rowid) evidence) × AllByRecursion evidence_fits evidence → AreDistinct rowids → length (against_rows db) ≡ length rowids → IsTrue fit → EvidencePasses db
   parts_passed passed apart many sure =
       let listed = lists_all db versions rowids fit it apart many in
       record {
@@ -105,12 +105,12 @@ module _ (db : Database) (evidence : List EvidenceLine) (lists : ListsEvidence d
         fits = record {
           apart = passed.0;
           fit = passed.1;
-          places_apart = subst AreApart (sym it.have) apart;
+          places_apart = subst AreDistinct (sym it.have) apart;
           places_fit = fits_if_fit db versions rowids fit it sure;
           placed = (
             λ place h.
                 (let l = has_mapped place_at ids place (has_contained (map place_at ids) place h) in
-                subst (λ (p : Place). Contains versions p.0) (sym l.2) (contains_had versions (place_at l.0).0 (version_read db versions it.parts it.lists l.0 l.1))),
+                subst (λ (p : VersionPosition). Contains versions p.0) (sym l.2) (contains_had versions (place_at l.0).0 (version_read db versions it.parts it.lists l.0 l.1))),
             positions_if_fit db versions rowids fit it listed sure,
           );
         };
@@ -120,8 +120,8 @@ module _ (db : Database) (evidence : List EvidenceLine) (lists : ListsEvidence d
     abbrev held : Contents
     held = s.spells.contents
 
-    holds : HoldsIn db.schema db held
-    holds = subst (λ x. HoldsIn x db held) (sym s.spells.holds.declared) s.spells.holds
+    holds : HoldsContents db.schema db held
+    holds = subst (λ x. HoldsContents x db held) (sym s.spells.holds.declared) s.spells.holds
 
     shows : ShowsMap against_form (against_rows db) (get held.against)
     shows = shown_by holds Against (eight_known db s)
@@ -151,34 +151,34 @@ module _ (db : Database) (evidence : List EvidenceLine) (lists : ListsEvidence d
     pub fits : EvidenceFits evidence ids
     fits = evidence_passes db s evidence ids lists all
 
-    stand : (some : List RowKey) (parts : List (List AgainstLine)) → Parts db some parts → AllByRecursion against_fits (joined db parts) → AllByRecursion StandInOrder parts
+    stand : (some : List RowKey) (parts : List (List RawAgainst)) → Parts db some parts → AllByRecursion against_fits (joined db parts) → AllByRecursion ArePositionsInOrder parts
     stand [] [] lists fit = tt
     stand [] (lines ∷ parts) lists fit = absurd lists
     stand (version ∷ some) [] lists fit = absurd lists
     stand (version ∷ some) (lines ∷ parts) lists fit = ((front lines fit, positions), stand some parts lists.1 (behind lines fit))
       where
-        front : (lines : List AgainstLine) → AllByRecursion against_fits (joined db (lines ∷ parts)) → AllByRecursion against_fits lines
+        front : (lines : List RawAgainst) → AllByRecursion against_fits (joined db (lines ∷ parts)) → AllByRecursion against_fits lines
         front [] fit = tt
         front (line ∷ lines) fit = (fit.0, front lines fit.1)
 
-        behind : (lines : List AgainstLine) → AllByRecursion against_fits (joined db (lines ∷ parts)) → AllByRecursion against_fits (joined db parts)
+        behind : (lines : List RawAgainst) → AllByRecursion against_fits (joined db (lines ∷ parts)) → AllByRecursion against_fits (joined db parts)
         behind [] fit = fit
         behind (line ∷ lines) fit = behind lines fit.1
 
-        positions : ArePositions (map place_at lines)
+        positions : AreContiguous (map place_at lines)
         positions other = elim (same_or_not version_cmp version_order other version) [
           | inl same ↦
-              subst (λ v. AreCounted (map place_at lines) v) (sym same)
+              subst (λ v. IsContiguousFor (map place_at lines) v) (sym same)
               (if_counted (filter (is_of version) (against_rows db)) lines lists.0 version (close (against_rows db) version (counted_if (against_rows db) ids all version (fits.placed.1 version))))
           | inr apart ↦ uncounted (map place_at lines) other (λ position h.
               let l = has_mapped place_at lines (other, position) (has_contained (map place_at lines) (other, position) h) in
-              let r = row_of (filter (is_of version) (against_rows db)) lines lists.0 l.0 l.1 in
+              let r = line_row (filter (is_of version) (against_rows db)) lines lists.0 l.0 l.1 in
               let kept = has_filtered (is_of version) (against_rows db) r.0 r.1 in
-              apart (ap (λ (p : Place). p.0) l.2 ∙ of_one r.0 (place_at l.0) version (key_is r.0 l.0 r.2) kept.1))
+              apart (ap (λ (p : VersionPosition). p.0) l.2 ∙ of_one r.0 (place_at l.0) version (key_is r.0 l.0 r.2) kept.1))
         ]
 
-    pub parts_apart : AreApart rowids
-    parts_apart = subst AreApart it.have fits.places_apart
+    pub parts_apart : AreDistinct rowids
+    parts_apart = subst AreDistinct it.have fits.places_apart
 
     pub parts_counted : length (against_rows db) ≡ length rowids
     parts_counted = sym (many_lines (against_rows db) ids all) ∙ ap length it.have

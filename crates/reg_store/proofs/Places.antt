@@ -5,11 +5,11 @@ use Rattle.std.proofs.lemmas.List.{take_more, length-take-le}
 use Rattle.std.proofs.lemmas.Option.{slice_get_past}
 use Rattle.std.specs.FinMap.{get}
 use Rattle.reg_core.specs.Registry.{RowKey}
-use Rattle.reg_tables.specs.Contents.{PlaceKey, place_cmp, Contents}
+use Rattle.reg_tables.specs.Contents.{PositionKey, position_cmp, Contents}
 use Rattle.reg_tables.specs.Changes.{with_against}
 use Rattle.reg_tables.proofs.MapLemmas.{get-insert-same, get-insert-other}
-use Rattle.reg_tables.proofs.Keys.{place_order}
-use Rattle.reg_store.specs.Inside.Making.{with_ids, HasNoPlace, HasTexts}
+use Rattle.reg_tables.proofs.Keys.{position_order}
+use Rattle.reg_store.specs.Inside.Making.{with_ids, HasNoPositions, HasTexts}
 
 module _ (key : RowKey) where
   -- nothing else changes
@@ -23,19 +23,19 @@ module _ (key : RowKey) where
   ids_append n (x ∷ ids) id contents = ids_append (n + 1) ids id (with_against (key, n) x contents) ∙ ap (λ (p : ℕ). with_against (key, p) id (with_ids key (n + 1) ids (with_against (key, n) x contents))) (omega arith)
 
   -- the places of another version stay
-  pub ids_elsewhere : (n : ℕ) (ids : List ℕ) (contents : Contents) (place : PlaceKey) → place.0 ≢ key → get (with_ids key n ids contents).against place ≡ get contents.against place
+  pub ids_elsewhere : (n : ℕ) (ids : List ℕ) (contents : Contents) (place : PositionKey) → place.0 ≢ key → get (with_ids key n ids contents).against place ≡ get contents.against place
   ids_elsewhere n [] contents place other = refl
   ids_elsewhere n (id ∷ ids) contents place other =
-      ids_elsewhere (n + 1) ids (with_against (key, n) id contents) place other ∙ get-insert-other place_cmp place_order contents.against (key, n) id place (λ e. other (ap (λ (p : PlaceKey). p.0) e))
+      ids_elsewhere (n + 1) ids (with_against (key, n) id contents) place other ∙ get-insert-other position_cmp position_order contents.against (key, n) id place (λ e. other (ap (λ (p : PositionKey). p.0) e))
 
-  another : (position n : ℕ) → (position ≡ n → ⊥) → ◌≢◌ {A = PlaceKey} (key, position) (key, n)
-  another position n apart e = apart (ap (λ (p : PlaceKey). p.1) e)
+  another : (position n : ℕ) → (position ≡ n → ⊥) → ◌≢◌ {A = PositionKey} (key, position) (key, n)
+  another position n apart e = apart (ap (λ (p : PositionKey). p.1) e)
 
   -- and so do those before the first
   ids_before : (n : ℕ) (ids : List ℕ) (contents : Contents) (position : ℕ) → position < n → get (with_ids key n ids contents).against (key, position) ≡ get contents.against (key, position)
   ids_before n [] contents position low = refl
   ids_before n (id ∷ ids) contents position low =
-      ids_before (n + 1) ids (with_against (key, n) id contents) position (omega (arith, low)) ∙ get-insert-other place_cmp place_order contents.against (key, n) id (key, position) (another position n (λ e. omega (arith, low, e)))
+      ids_before (n + 1) ids (with_against (key, n) id contents) position (omega (arith, low)) ∙ get-insert-other position_cmp position_order contents.against (key, n) id (key, position) (another position n (λ e. omega (arith, low, e)))
 
   -- where places were free, the ids stand there in their order, and no more
   ids_since : (n : ℕ) (ids : List ℕ) (contents : Contents) → ((position : ℕ) → n ≤ position → get contents.against (key, position) ≡ None) → (k : ℕ) → get (with_ids key n ids contents).against (key, n + k) ≡ slice_get ids k
@@ -44,13 +44,13 @@ module _ (key : RowKey) where
       let here : n + 0 ≡ n = omega arith in
       ap (λ (p : ℕ). get (with_ids key n (id ∷ ids) contents).against (key, p)) here
       ∙ ids_before (n + 1) ids (with_against (key, n) id contents) n (omega arith)
-      ∙ get-insert-same place_cmp place_order contents.against (key, n) id
+      ∙ get-insert-same position_cmp position_order contents.against (key, n) id
   ids_since n (id ∷ ids) contents free (suc k) =
       let there : n + suc k ≡ n + 1 + k = omega arith in
       ap (λ (p : ℕ). get (with_ids key n (id ∷ ids) contents).against (key, p)) there
-      ∙ ids_since (n + 1) ids (with_against (key, n) id contents) (λ p up. get-insert-other place_cmp place_order contents.against (key, n) id (key, p) (another p n (λ e. omega (arith, up, e))) ∙ free p (omega (arith, up))) k
+      ∙ ids_since (n + 1) ids (with_against (key, n) id contents) (λ p up. get-insert-other position_cmp position_order contents.against (key, n) id (key, p) (another p n (λ e. omega (arith, up, e))) ∙ free p (omega (arith, up))) k
 
-  module _ (ids : List ℕ) (contents : Contents) (free : HasNoPlace contents key) where
+  module _ (ids : List ℕ) (contents : Contents) (free : HasNoPositions contents key) where
     -- no id has the position 0
     pub at_zero : get (with_ids key 1 ids contents).against (key, 0) ≡ None
     at_zero = ids_before 1 ids contents 0 (omega arith) ∙ free 0
@@ -63,7 +63,7 @@ module _ (key : RowKey) where
 
   module _ (ids : List ℕ) (contents : Contents) (i position : ℕ) (within : i < length ids) (next : position ≡ i + 1) where
     -- behind some of the ids the next position is free
-    pub next_is_free : HasNoPlace contents key → get (with_ids key 1 (take i ids) contents).against (key, position) ≡ None
+    pub next_is_free : HasNoPositions contents key → get (with_ids key 1 (take i ids) contents).against (key, position) ≡ None
     next_is_free free =
         let there : position ≡ suc i = next ∙ omega arith in
         ap (λ (p : ℕ). get (with_ids key 1 (take i ids) contents).against (key, p)) there

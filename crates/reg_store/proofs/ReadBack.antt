@@ -10,11 +10,11 @@ use Rattle.reg_core.specs.Stored.{Stored}
 use Rattle.reg_core.specs.declared.mode.Mode.{Mode}
 use Rattle.reg_core.specs.declared.mode.Mode.TheVariants.{Readwrite, Readonly}
 use Rattle.reg_core.specs.Modes.{mode_text, mode_of}
-use Rattle.reg_tables.specs.Contents.{text_cmp, KeptRow, Contents}
+use Rattle.reg_tables.specs.Contents.{text_cmp, KeptReplyView, Contents}
 use Rattle.reg_tables.proofs.MapLemmas.{get-insert-same, get-insert-other}
 use Rattle.reg_tables.proofs.KeyedTables.{text_order}
-use Rattle.reg_core.specs.KeptReplies.{Entry}
-use Rattle.reg_store.specs.Spells.{IsSpelledLayoutTwo, row_of}
+use Rattle.reg_core.specs.KeptReplies.{KeptEntry}
+use Rattle.reg_store.specs.Spells.{IsSpelledLayoutTwo, stored_reply}
 use Rattle.reg_store.proofs.SpelledTwo.{other_name}
 
 -- a level's text spells it alone
@@ -45,13 +45,13 @@ text_there_is None there h = sym h
 text_there_is (Some text) there h = sym h
 
 -- what is kept is what its row says
-pub kept_is : (o : Option Entry) (entry : Entry) → option_map row_of o ≡ Some (row_of entry) → o ≡ Some entry
+pub kept_is : (o : Option KeptEntry) (entry : KeptEntry) → option_map stored_reply o ≡ Some (stored_reply entry) → o ≡ Some entry
 kept_is None entry h = absurd (cc)
 kept_is (Some e) entry h =
-    let same : row_of e ≡ row_of entry = cc in
-    let text : e.command ≡ entry.command = ap (λ (r : KeptRow). r.command) same in
-    let status : e.reply.status ≡ entry.reply.status = ap (λ (r : KeptRow). r.status) same in
-    let body : e.reply.body ≡ entry.reply.body = ap (λ (r : KeptRow). r.body) same in
+    let same : stored_reply e ≡ stored_reply entry = cc in
+    let text : e.command ≡ entry.command = ap (λ (r : KeptReplyView). r.command) same in
+    let status : e.reply.status ≡ entry.reply.status = ap (λ (r : KeptReplyView). r.status) same in
+    let body : e.reply.body ≡ entry.reply.body = ap (λ (r : KeptReplyView). r.body) same in
     λ i. Some (record { command = text i; reply = record { status = status i; body = body i } })
 
 -- the mode that a text spells is the one that was written so

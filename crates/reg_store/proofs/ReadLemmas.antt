@@ -8,19 +8,19 @@ use Rattle.sqlite_trees.specs.declared.store.Store.{Ghosts}
 use Rattle.sqlite.specs.Effect.{Database}
 use Rattle.sqlite.specs.Schema.{Schema}
 use Rattle.reg_tables.specs.Layout.{HasFiveTables, HasEightTables}
-use Rattle.reg_tables.specs.Frames.{StaysIdle}
+use Rattle.reg_tables.specs.Frames.{ReadsInAutocommit}
 use Rattle.reg_tables.specs.Reads.{HoldsReadable, CanBeRead, CanBeReadIn, HasLayout}
 use Rattle.reg_tables.specs.FailedCalls.{IsFault}
 use Rattle.reg_tables.proofs.Tables.{eight_has_five}
 use Rattle.reg_tables.proofs.Transactions.{keeps_then, survives_both}
 use Rattle.reg_store.specs.declared.error.StoreError.{StoreError}
 use Rattle.reg_store.specs.declared.error.StoreError.TheVariants.{Memory}
-use Rattle.reg_store.specs.declared.idle.Idle.{Idle}
+use Rattle.reg_store.specs.declared.idle.StoreConnection.{StoreConnection}
 use Rattle.reg_core.specs.Stored.{Stored}
 use Rattle.reg_store.specs.Spells.{IsOpenOver, SpellsWhileOpen}
-use Rattle.reg_store.specs.Failures.{failure_of, IsFaultBy, IsTold}
-use Rattle.reg_store.specs.Inside.Reads.{shown, Rests, MayRead, Reads}
-use Rattle.reg_store.specs.Stores.{TellsStored}
+use Rattle.reg_store.specs.Failures.{failure_of, IsFaultBy, HasDiskCause}
+use Rattle.reg_store.specs.Inside.Reads.{shown, CommitsNothing, MayRead, Reads}
+use Rattle.reg_store.specs.Stores.{AnswersFromStored}
 use Rattle.reg_store.proofs.Failing.{by_since, fault_by, told_since}
 use Rattle.reg_store.proofs.EightTests.{can_read_eight}
 use Rattle.reg_store.proofs.Committing.{still_spells}
@@ -57,14 +57,14 @@ match_on (Err e) f k p q = k q e
 
 -- ---- what is kept
 
-pub rests_still : (s : State) → Rests s s
+pub rests_still : (s : State) → CommitsNothing s s
 rests_still s = record {
   commit_stays = λ _. record { was_open = λ h. h; committed = λ _. refl };
   settled = λ _ _ h. h;
   survives = record { clean = omega arith; shield = λ h. h; counts = omega arith; limit = refl; closes = λ _ h. inl h; crash = λ _ db h. inl h };
 }
 
-pub rests_read : {S X E : Type 0} (g : Ghosts S) (a b : Held S) (r : Result X E) → StaysIdle g a b r → Rests (state g a) (state g b)
+pub rests_read : {S X E : Type 0} (g : Ghosts S) (a b : Held S) (r : Result X E) → ReadsInAutocommit g a b r → CommitsNothing (state g a) (state g b)
 rests_read g a b r frame = record {
   commit_stays = λ clean. (frame.only_reads clean).commit_stays;
   settled = λ clean is_open _. (frame.only_reads clean).settled is_open;
@@ -72,10 +72,10 @@ rests_read g a b r frame = record {
 }
 
 module _ (a b c : State) where
-  pub clean_at : Rests b c → HasCleanDisk c → HasCleanDisk b
+  pub clean_at : CommitsNothing b c → HasCleanDisk c → HasCleanDisk b
   clean_at q clean = omega (arith, q.survives.clean)
 
-  pub rests_on : Rests a b → Rests b c → Rests a c
+  pub rests_on : CommitsNothing a b → CommitsNothing b c → CommitsNothing a c
   rests_on p q = record {
     commit_stays = λ clean. keeps_then a b c (p.commit_stays (clean_at q clean)) (q.commit_stays clean);
     settled = λ clean is_open h. q.settled clean is_open (p.settled (clean_at q clean) ((q.commit_stays clean).was_open is_open) h);
@@ -83,19 +83,19 @@ module _ (a b c : State) where
   }
 
   -- a later read's fault is one of all
-  pub fault_of_all : Rests a b → Rests b c → HasCleanDisk c → (e : StoreError) → IsFaultBy b c e → IsFaultBy a c e
+  pub fault_of_all : CommitsNothing a b → CommitsNothing b c → HasCleanDisk c → (e : StoreError) → IsFaultBy b c e → IsFaultBy a c e
   fault_of_all p q clean = by_since a b c (p.survives.closes (clean_at q clean)) p.survives.counts q.survives.counts
 
-  pub told_of_all : Rests a b → Rests b c → HasCleanDisk c → (e : StoreError) → IsTold b c e → IsTold a c e
+  pub told_of_all : CommitsNothing a b → CommitsNothing b c → HasCleanDisk c → (e : StoreError) → HasDiskCause b c e → HasDiskCause a c e
   told_of_all p q clean = told_since a b c (p.survives.closes (clean_at q clean)) p.survives.counts q.survives.counts
 
 -- after reads the tables spell what they spelled
-pub spell_on : (a b : State) → Rests a b → HasCleanDisk b → (was : Stored) → SpellsWhileOpen a was → SpellsWhileOpen b was
+pub spell_on : (a b : State) → CommitsNothing a b → HasCleanDisk b → (was : Stored) → SpellsWhileOpen a was → SpellsWhileOpen b was
 spell_on a b p clean was over is_open =
     let keeps = p.commit_stays clean in
     still_spells a b was keeps (λ _. p.settled clean is_open (sym (over (keeps.was_open is_open)).settled)) over is_open
 
-module _ (a b : State) (p : Rests a b) (settled : IsTrue a.is_open → a.now ≡ a.committed) (clean : HasCleanDisk b) where
+module _ (a b : State) (p : CommitsNothing a b) (settled : IsTrue a.is_open → a.now ≡ a.committed) (clean : HasCleanDisk b) where
   -- after reads the tables hold what they held
   pub same_db : IsTrue b.is_open → b.now ≡ a.now
   same_db is_open =
@@ -113,29 +113,29 @@ module _ (a b : State) (p : Rests a b) (settled : IsTrue a.is_open → a.now ≡
 
 module _ {S : Type 0} {g : Ghosts S} where
   -- nothing is read
-  pub unread : {X : Type 0} {Tells : Stored → X → Type 0} {x : X} (db : Idle S g) → ((was : Stored) → Tells was x) → MayRead db db (Ok x) Tells
+  pub unread : {X : Type 0} {IsAnswer : Stored → X → Type 0} {x : X} (db : StoreConnection S g) → ((was : Stored) → IsAnswer was x) → MayRead db db (Ok x) IsAnswer
   unread db tells = record { rests = rests_still (shown db); answers = λ clean was over. tells was }
 
-  module _ {X : Type 0} {Tells : Stored → X → Type 0} {old new : Idle S g} {r : Result X StoreError} where
+  module _ {X : Type 0} {IsAnswer : Stored → X → Type 0} {old new : StoreConnection S g} {r : Result X StoreError} where
     -- a table was read
-    pub read : {Y : Type 0} {y : Y} → StaysIdle {E = Error} g old.idle.conn new.idle.conn (Ok y)
-        → (HasCleanDisk (shown new) → (was : Stored) → IsOpenOver (shown old) was → MatchResult r (Tells was) (IsFaultBy (shown old) (shown new))) → Reads old new r Tells
+    pub read : {Y : Type 0} {y : Y} → ReadsInAutocommit {E = Error} g old.idle.conn new.idle.conn (Ok y)
+        → (HasCleanDisk (shown new) → (was : Stored) → IsOpenOver (shown old) was → MatchResult r (IsAnswer was) (IsFaultBy (shown old) (shown new))) → Reads old new r IsAnswer
     read {y = y} frame answers = record {
       may = record { rests = rests_read g old.idle.conn new.idle.conn (Ok y) frame; answers = λ clean was over. answers clean was (over (frame.was_open clean)) };
       was_open = λ clean. on_ok_each r (frame.was_open clean);
     }
 
     -- it was, and then memory was refused
-    pub read_refused : {Y : Type 0} {y : Y} → StaysIdle {E = Error} g old.idle.conn new.idle.conn (Ok y) → IsErrAnd r (λ failure. failure ≡ Memory) → Reads old new r Tells
-    read_refused frame is = read frame (λ clean was over. passed_on (Tells was) (IsFaultBy (shown old) (shown new)) r Memory is tt)
+    pub read_refused : {Y : Type 0} {y : Y} → ReadsInAutocommit {E = Error} g old.idle.conn new.idle.conn (Ok y) → IsErrAnd r (λ failure. failure ≡ Memory) → Reads old new r IsAnswer
+    read_refused frame is = read frame (λ clean was over. passed_on (IsAnswer was) (IsFaultBy (shown old) (shown new)) r Memory is tt)
 
     -- a table of these schemas wasn't
-    pub not_read_in : {Known : Schema → Type 0} → ((schema : Schema) → HasEightTables schema → Known schema) → {Y : Type 0} {e : Error} → StaysIdle {X = Y} g old.idle.conn new.idle.conn (Err e)
-        → (HasCleanDisk (shown new) → CanBeReadIn Known (shown old) → IsFault (shown old) (shown new) e) → IsErrAnd r (λ failure. failure ≡ failure_of e) → Reads old new r Tells
+    pub not_read_in : {IsAllowed : Schema → Type 0} → ((schema : Schema) → HasEightTables schema → IsAllowed schema) → {Y : Type 0} {e : Error} → ReadsInAutocommit {X = Y} g old.idle.conn new.idle.conn (Err e)
+        → (HasCleanDisk (shown new) → CanBeReadIn IsAllowed (shown old) → IsFault (shown old) (shown new) e) → IsErrAnd r (λ failure. failure ≡ failure_of e) → Reads old new r IsAnswer
     not_read_in has {e = e} frame fault is = record {
       may = record {
         rests = rests_read g old.idle.conn new.idle.conn (Err e) frame;
-        answers = λ clean was over. passed_on (Tells was) (IsFaultBy (shown old) (shown new)) r (failure_of e) is (fault_by (shown old) (shown new) e old.unlimited (fault clean (λ is_open.
+        answers = λ clean was over. passed_on (IsAnswer was) (IsFaultBy (shown old) (shown new)) r (failure_of e) is (fault_by (shown old) (shown new) e old.unlimited (fault clean (λ is_open.
             let it = can_read_eight (shown old) was over is_open in
             record { schema = it.schema; known = has it.schema it.known; contents = it.contents; holds = it.holds; readable = it.readable })));
       };
@@ -143,13 +143,13 @@ module _ {S : Type 0} {g : Ghosts S} where
     }
 
     -- one of the five tables wasn't
-    pub not_read : {Y : Type 0} {e : Error} → StaysIdle {X = Y} g old.idle.conn new.idle.conn (Err e) → (HasCleanDisk (shown new) → CanBeRead (shown old) → IsFault (shown old) (shown new) e)
-        → IsErrAnd r (λ failure. failure ≡ failure_of e) → Reads old new r Tells
+    pub not_read : {Y : Type 0} {e : Error} → ReadsInAutocommit {X = Y} g old.idle.conn new.idle.conn (Err e) → (HasCleanDisk (shown new) → CanBeRead (shown old) → IsFault (shown old) (shown new) e)
+        → IsErrAnd r (λ failure. failure ≡ failure_of e) → Reads old new r IsAnswer
     not_read frame fault is = not_read_in eight_has_five frame fault is
 
   -- ---- what is made of a read
 
-  module _ {X Y : Type 0} {P : Stored → X → Type 0} {Q : Stored → Y → Type 0} {a b : Idle S g} {r : Result Y StoreError} where
+  module _ {X Y : Type 0} {P : Stored → X → Type 0} {Q : Stored → Y → Type 0} {a b : StoreConnection S g} {r : Result Y StoreError} where
     pub may_tell : {p : Result X StoreError} → MayRead a b p P → ((was : Stored) → MatchResult p (P was) (IsFaultBy (shown a) (shown b)) → MatchResult r (Q was) (IsFaultBy (shown a) (shown b))) → MayRead a b r Q
     may_tell one made = record { rests = one.rests; answers = λ clean was over. made was (one.answers clean was over) }
 
@@ -175,7 +175,7 @@ module _ {S : Type 0} {g : Ghosts S} where
     may_refuse {x} one is = may_tell {p = Ok x} one (λ was p. passed_on (Q was) (IsFaultBy (shown a) (shown b)) r Memory is tt)
 
   -- the same result tells something else
-  module _ {X : Type 0} {P Q : Stored → X → Type 0} {a b : Idle S g} {r : Result X StoreError} where
+  module _ {X : Type 0} {P Q : Stored → X → Type 0} {a b : StoreConnection S g} {r : Result X StoreError} where
     pub may_retell : MayRead a b r P → ((was : Stored) (x : X) → P was x → Q was x) → MayRead a b r Q
     may_retell one made = may_tell one (λ was. match_each r (made was) (λ e h. h))
 
@@ -188,7 +188,7 @@ module _ {S : Type 0} {g : Ghosts S} where
 
   -- ---- one after the other
 
-  module _ {X Y Z : Type 0} {P : Stored → X → Type 0} {Q : Stored → Y → Type 0} {R : Stored → Z → Type 0} {a b c : Idle S g} {x : X} {r : Result Z StoreError} where
+  module _ {X Y Z : Type 0} {P : Stored → X → Type 0} {Q : Stored → Y → Type 0} {R : Stored → Z → Type 0} {a b c : StoreConnection S g} {x : X} {r : Result Z StoreError} where
     pub may_go_on : {q : Result Y StoreError} → MayRead a b (Ok x) P → MayRead b c q Q
         → ((was : Stored) → SpellsWhileOpen (shown a) was → P was x → MatchResult q (Q was) (IsFaultBy (shown a) (shown c)) → MatchResult r (R was) (IsFaultBy (shown a) (shown c))) → MayRead a c r R
     may_go_on {q} one two made = record {
@@ -214,10 +214,10 @@ module _ {S : Type 0} {g : Ghosts S} where
     stop one two is = surely one two (may_stop one.may two is)
 
   -- where the second one surely reads, the first one had an open connection
-  pub opened_by : {X Y : Type 0} {P : Stored → X → Type 0} {Q : Stored → Y → Type 0} {a b c : Idle S g} {x : X} {y : Y} → MayRead a b (Ok x) P → Reads b c (Ok y) Q → HasCleanDisk (shown c) → IsTrue (shown a).is_open
+  pub opened_by : {X Y : Type 0} {P : Stored → X → Type 0} {Q : Stored → Y → Type 0} {a b c : StoreConnection S g} {x : X} {y : Y} → MayRead a b (Ok x) P → Reads b c (Ok y) Q → HasCleanDisk (shown c) → IsTrue (shown a).is_open
   opened_by {a} {b} {c} one two clean = (one.rests.commit_stays (clean_at (shown a) (shown b) (shown c) two.may.rests clean)).was_open (two.was_open clean)
 
-  module _ {X Y Z : Type 0} {P : Stored → X → Type 0} {Q : Stored → Y → Type 0} {R : Stored → Z → Type 0} {a b c : Idle S g} {x : X} {r : Result Z StoreError} where
+  module _ {X Y Z : Type 0} {P : Stored → X → Type 0} {Q : Stored → Y → Type 0} {R : Stored → Z → Type 0} {a b c : StoreConnection S g} {x : X} {r : Result Z StoreError} where
     pub read_later : {y : Y} → MayRead a b (Ok x) P → Reads b c (Ok y) Q
         → ((was : Stored) → IsOpenOver (shown a) was → P was x → Q was y → MatchResult r (R was) (IsFaultBy (shown a) (shown c))) → Reads a c r R
     read_later one two made = record {
@@ -234,7 +234,7 @@ module _ {S : Type 0} {g : Ghosts S} where
     fail_later {e} one two is = record { may = may_stop one two is; was_open = λ clean. none_ok (IsTrue (shown a).is_open) r e is }
 
   -- two that succeed, as one
-  module _ {X Y : Type 0} {P : Stored → X → Type 0} {Q : Stored → Y → Type 0} {a b c : Idle S g} {x : X} {y : Y} where
+  module _ {X Y : Type 0} {P : Stored → X → Type 0} {Q : Stored → Y → Type 0} {a b c : StoreConnection S g} {x : X} {y : Y} where
     pub may_both : MayRead a b (Ok x) P → MayRead b c (Ok y) Q → MayRead {X = X × Y} a c (Ok (x, y)) (λ was found. P was found.0 × Q was found.1)
     may_both one two = may_go_on one two (λ was over p q. (p, q))
 
@@ -243,7 +243,7 @@ module _ {S : Type 0} {g : Ghosts S} where
 
   -- ---- what a caller learns of it
 
-  pub tells_stored : {X Goes : Type 0} {Tells : Stored → X → Type 0} {a b : Idle S g} {r : Result X StoreError} → Reads a b r Tells → HasCleanDisk (shown b) → TellsStored (shown a) (shown b) Goes r Tells
+  pub tells_stored : {X WasUsable : Type 0} {IsAnswer : Stored → X → Type 0} {a b : StoreConnection S g} {r : Result X StoreError} → Reads a b r IsAnswer → HasCleanDisk (shown b) → AnswersFromStored (shown a) (shown b) WasUsable r IsAnswer
   tells_stored {a} {b} {r = r} reads clean = record {
     answers = λ was over. match_each r (λ x told. told) (λ e fault _. fault) (reads.may.answers clean was over);
     same = spell_on (shown a) (shown b) reads.may.rests clean;

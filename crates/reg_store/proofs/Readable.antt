@@ -10,7 +10,7 @@ use Rattle.reg_core.specs.Modes.{mode_text}
 use Rattle.reg_core.specs.Registry.{RowKey}
 use Rattle.reg_core.specs.Stored.{Stored}
 use Rattle.reg_tables.specs.Layout.{HasEightTables}
-use Rattle.reg_tables.specs.Contents.{text_cmp, version_cmp, place_cmp, AreReadable}
+use Rattle.reg_tables.specs.Contents.{text_cmp, version_cmp, position_cmp, AreReadable}
 use Rattle.reg_tables.proofs.References.{has_evidence_version, has_against_text}
 use Rattle.reg_tables.proofs.Opening.{nothing_held}
 use Rattle.reg_store.specs.Spells.{IsSpelledLayoutTwo, SpellsLayoutOne, SpellsIn}
@@ -29,10 +29,10 @@ one_readable db was s =
     let none = nothing_held s.schema s.known db.trees s.contents s.holds.shows in
     readable_base s.contents was.registry was.replies s.spelled.base (λ name value there. utf8_first_meta was.registry.global name value (sym (ap (λ m. get m name) s.spelled.meta) ∙ there))
     (λ subject mode there. absurd (none_in text_cmp s.contents.modes none.0 subject mode there)) (λ key level there. absurd (none_in version_cmp s.contents.evidence none.1 key level there))
-    (λ place id there. absurd (none_in place_cmp s.contents.against none.2 place id there))
+    (λ place id there. absurd (none_in position_cmp s.contents.against none.2 place id there))
 
 -- what is spelled in layout 2 can be read, in all eight tables
-pub all_readable : (db : Database) (was : Stored) → {Known : Schema → Type 0} → (s : SpellsIn Known IsSpelledLayoutTwo db was) → HasEightTables s.schema → AreReadable s.contents
+pub all_readable : (db : Database) (was : Stored) → {IsAllowed : Schema → Type 0} → (s : SpellsIn IsAllowed IsSpelledLayoutTwo db was) → HasEightTables s.schema → AreReadable s.contents
 all_readable db was s tables =
     readable_base s.contents was.registry was.replies s.spelled.base (λ name value there. utf8_second_meta was.registry.global was.registry.global_mode name value (sym (ap (λ m. get m name) s.spelled.meta) ∙ there))
     (λ subject mode there.

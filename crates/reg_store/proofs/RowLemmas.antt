@@ -16,7 +16,7 @@ use Rattle.reg_core.specs.Subjects.{is_subject}
 use Rattle.reg_core.specs.KeptReplies.{Kept}
 use Rattle.reg_tables.specs.declared.listed.ListedVersion.{ListedVersion}
 use Rattle.reg_tables.specs.Contents.{Contents, version_cmp}
-use Rattle.reg_tables.specs.Entries.{KeyedVersion, keyed, subject_versions, id_versions}
+use Rattle.reg_tables.specs.Entries.{ListedVersionView, listed_version_view, subject_versions, id_versions}
 use Rattle.reg_tables.proofs.KeyedTables.{version_order}
 use Rattle.reg_tables.proofs.OrderedQueries.{entry_got}
 use Rattle.reg_store.specs.Spells.{IsSpelled, stored_version}
@@ -27,26 +27,26 @@ use Rattle.reg_store.specs.Inside.Viewing.{HasSubject, version_spelled, row_spel
 -- ---- entries
 
 -- the row of `versions` that spells a version
-abbrev entry_of : Row → KeyedVersion
-entry_of row = (row.0, stored_version row.1)
+abbrev keep_entry : Row → ListedVersionView
+keep_entry row = (row.0, stored_version row.1)
 
-entries_back : (rows : List Row) → map row_spelled (map entry_of rows) ≡ rows
+entries_back : (rows : List Row) → map row_spelled (map keep_entry rows) ≡ rows
 entries_back [] = refl
 entries_back (row ∷ rows) = ap (λ rest. row ∷ rest) (entries_back rows)
 
 -- other values leave the keys' order
-sorted_mapped : (rows : List Row) → is_sorted version_cmp (map entry_of rows) ≡ is_sorted row_cmp rows
+sorted_mapped : (rows : List Row) → is_sorted version_cmp (map keep_entry rows) ≡ is_sorted row_cmp rows
 sorted_mapped [] = refl
 sorted_mapped (row ∷ rows) = λ i. below rows i && sorted_mapped rows i
   where
-    below : (rs : List Row) → below_all version_cmp row.0 (map entry_of rs) ≡ below_all row_cmp row.0 rs
+    below : (rs : List Row) → below_all version_cmp row.0 (map keep_entry rs) ≡ below_all row_cmp row.0 rs
     below [] = refl
     below (r ∷ rs) = ap (λ b. is_lt (row_cmp row.0 r.0) && b) (below rs)
 
 module _ (contents : Contents) (g : Registry) (spelled : (key : RowKey) → get contents.versions key ≡ option_map stored_version (get g.rows key)) where
-  entries_spelled : entries contents.versions ≡ map entry_of (entries g.rows)
+  entries_spelled : entries contents.versions ≡ map keep_entry (entries g.rows)
   entries_spelled =
-      let es = map entry_of (entries g.rows) in
+      let es = map keep_entry (entries g.rows) in
       let sorted = subst T (sym (sorted_mapped (entries g.rows))) (entries_sorted g.rows) in
       let same = same_map version_order.total version_order.antisymmetric contents.versions (from_sorted es) (λ key.
       spelled key ∙ ap (option_map stored_version) (get-entries g.rows key) ∙ sym (find-mapped version_cmp stored_version key (entries g.rows)) ∙ sym (get-from_sorted version_cmp es key sorted)) in
@@ -60,11 +60,11 @@ module _ (contents : Contents) (g : Registry) (spelled : (key : RowKey) → get 
   pub id_spelled : (id : ℕ) → map row_spelled (id_versions id contents) ≡ rows_with id (entries g.rows)
   id_spelled id = filtered (entries contents.versions) ∙ ap (rows_with id) all_spelled
     where
-      filtered : (es : List KeyedVersion) → map row_spelled (filter (λ (e : KeyedVersion). e.1.id == id) es) ≡ rows_with id (map row_spelled es)
+      filtered : (es : List ListedVersionView) → map row_spelled (filter (λ (e : ListedVersionView). e.1.id == id) es) ≡ rows_with id (map row_spelled es)
       filtered [] = refl
-      filtered (e ∷ es) = by (e.1.id == id) (filter (λ (x : KeyedVersion). x.1.id == id) es) (rows_with id (map row_spelled es)) (filtered es)
+      filtered (e ∷ es) = by (e.1.id == id) (filter (λ (x : ListedVersionView). x.1.id == id) es) (rows_with id (map row_spelled es)) (filtered es)
         where
-          by : (b : Bool) (xs : List KeyedVersion) (ys : List Row) → map row_spelled xs ≡ ys → map row_spelled (cond b (e ∷ xs) xs) ≡ cond b (row_spelled e ∷ ys) ys
+          by : (b : Bool) (xs : List ListedVersionView) (ys : List Row) → map row_spelled xs ≡ ys → map row_spelled (cond b (e ∷ xs) xs) ≡ cond b (row_spelled e ∷ ys) ys
           by true xs ys h = ap (λ rest. row_spelled e ∷ rest) h
           by false xs ys h = h
 
@@ -72,12 +72,12 @@ module _ (contents : Contents) (g : Registry) (spelled : (key : RowKey) → get 
   pub subject_spelled : (subject : List ℕ) → map (row_numbered subject) (subject_versions subject contents) ≡ rows_of g subject
   subject_spelled subject = numbered (entries contents.versions) ∙ ap (filter (λ (row : Row). bytes_eq row.0.0 subject)) all_spelled
     where
-      numbered : (es : List KeyedVersion) → map (row_numbered subject) (map (λ (e : KeyedVersion). (e.0.1, e.1)) (filter (λ (e : KeyedVersion). bytes_eq e.0.0 subject) es)) ≡ filter (λ (row : Row). bytes_eq row.0.0 subject) (map row_spelled es)
+      numbered : (es : List ListedVersionView) → map (row_numbered subject) (map (λ (e : ListedVersionView). (e.0.1, e.1)) (filter (λ (e : ListedVersionView). bytes_eq e.0.0 subject) es)) ≡ filter (λ (row : Row). bytes_eq row.0.0 subject) (map row_spelled es)
       numbered [] = refl
-      numbered (e ∷ es) = by (bytes_eq e.0.0 subject) refl (filter (λ (x : KeyedVersion). bytes_eq x.0.0 subject) es) (filter (λ (row : Row). bytes_eq row.0.0 subject) (map row_spelled es)) (numbered es)
+      numbered (e ∷ es) = by (bytes_eq e.0.0 subject) refl (filter (λ (x : ListedVersionView). bytes_eq x.0.0 subject) es) (filter (λ (row : Row). bytes_eq row.0.0 subject) (map row_spelled es)) (numbered es)
         where
-          by : (b : Bool) → bytes_eq e.0.0 subject ≡ b → (xs : List KeyedVersion) (ys : List Row) → map (row_numbered subject) (map (λ (x : KeyedVersion). (x.0.1, x.1)) xs) ≡ ys
-              → map (row_numbered subject) (map (λ (x : KeyedVersion). (x.0.1, x.1)) (cond b (e ∷ xs) xs)) ≡ cond b (row_spelled e ∷ ys) ys
+          by : (b : Bool) → bytes_eq e.0.0 subject ≡ b → (xs : List ListedVersionView) (ys : List Row) → map (row_numbered subject) (map (λ (x : ListedVersionView). (x.0.1, x.1)) xs) ≡ ys
+              → map (row_numbered subject) (map (λ (x : ListedVersionView). (x.0.1, x.1)) (cond b (e ∷ xs) xs)) ≡ cond b (row_spelled e ∷ ys) ys
           by true is xs ys h = let its : e.0.0 ≡ subject = (bytes_eq-Decides e.0.0 subject).0 is in λ i. ((sym its i, e.0.1), version_spelled e.1) ∷ h i
           by false is xs ys h = h
 
@@ -87,7 +87,7 @@ all_of : {X : Type 0} (P : X → Type 0) (xs : List X) → AllByRecursion P xs �
 all_of P [] h = All-nil P
 all_of P (x ∷ xs) h = All-cons P x xs h.0 (all_of P xs h.1)
 
-abbrev IsOfSubject : KeyedVersion → Type 0
+abbrev IsOfSubject : ListedVersionView → Type 0
 IsOfSubject entry = IsTrue (is_subject entry.0.0)
 
 module _ (contents : Contents) (g : Registry) (k : Kept) (s : IsSpelled contents g k) where
@@ -98,9 +98,9 @@ module _ (contents : Contents) (g : Registry) (k : Kept) (s : IsSpelled contents
       s.registered entry.0 it.0 it.1))
 
   -- each line of the table has a subject
-  pub all_lines : (lines : List ListedVersion) → map keyed lines ≡ entries contents.versions → All HasSubject lines
-  all_lines lines is = All-mapped IsOfSubject keyed lines (subst (All IsOfSubject) (sym is) of_subjects)
+  pub all_lines : (lines : List ListedVersion) → map listed_version_view lines ≡ entries contents.versions → All HasSubject lines
+  all_lines lines is = All-mapped IsOfSubject listed_version_view lines (subst (All IsOfSubject) (sym is) of_subjects)
 
   -- and each of an id
-  pub id_lines : (lines : List ListedVersion) (id : ℕ) → map keyed lines ≡ id_versions id contents → All HasSubject lines
-  id_lines lines id is = All-mapped IsOfSubject keyed lines (subst (All IsOfSubject) (sym is) (All-filter (λ (e : KeyedVersion). e.1.id == id) IsOfSubject (entries contents.versions) of_subjects))
+  pub id_lines : (lines : List ListedVersion) (id : ℕ) → map listed_version_view lines ≡ id_versions id contents → All HasSubject lines
+  id_lines lines id is = All-mapped IsOfSubject listed_version_view lines (subst (All IsOfSubject) (sym is) (All-filter (λ (e : ListedVersionView). e.1.id == id) IsOfSubject (entries contents.versions) of_subjects))

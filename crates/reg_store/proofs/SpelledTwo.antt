@@ -11,7 +11,7 @@ use Rattle.reg_core.specs.KeptReplies.{Kept}
 use Rattle.reg_core.specs.Stored.{Stored}
 use Rattle.reg_tables.specs.Contents.{TextMap, Contents}
 use Rattle.reg_tables.specs.Writing.{Changes, ChangesIf}
-use Rattle.reg_tables.specs.Changes.{numbered_meta}
+use Rattle.reg_tables.specs.Changes.{meta_before_level}
 use Rattle.reg_store.specs.Spells.{layout_two_meta, IsSpelled, IsSpelledLayoutTwo, Spells}
 use Rattle.reg_store.proofs.Evidence.{evidence_beside}
 use Rattle.reg_store.proofs.Maps.{insert-insert, insert-swap}
@@ -26,8 +26,8 @@ module _ (meta : TextMap (List ℕ)) where
   pub level_changed : (was level : Level) (mode : List ℕ) → meta ≡ layout_two_meta (level_text was) mode → insert meta (codes "global") (level_text level) ≡ layout_two_meta (level_text level) mode
   level_changed was level mode is =
       ap (λ m. insert m (codes "global") (level_text level)) is
-      ∙ insert-swap (insert (numbered_meta (codes "2")) (codes "global") (level_text was)) (codes "mode") mode (codes "global") (level_text level) other_name
-      ∙ ap (λ m. insert m (codes "mode") mode) (insert-insert (numbered_meta (codes "2")) (codes "global") (level_text was) (level_text level))
+      ∙ insert-swap (insert (meta_before_level (codes "2")) (codes "global") (level_text was)) (codes "mode") mode (codes "global") (level_text level) other_name
+      ∙ ap (λ m. insert m (codes "mode") mode) (insert-insert (meta_before_level (codes "2")) (codes "global") (level_text was) (level_text level))
 
   -- and with another mode
   pub mode_changed : (level was mode : List ℕ) → meta ≡ layout_two_meta level was → insert meta (codes "mode") mode ≡ layout_two_meta level mode

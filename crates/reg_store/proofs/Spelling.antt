@@ -20,12 +20,12 @@ use Rattle.reg_core.specs.Registry.{Schemas, Rows, Registry, OwnModes, IsRow, Is
 use Rattle.reg_tables.specs.Contents.{Contents}
 use Rattle.reg_tables.specs.Writing.{Changes, ChangesIf}
 use Rattle.reg_tables.specs.Changes.{with_global, with_level, with_kept}
-use Rattle.reg_core.specs.KeptReplies.{Entry, Kept, kept_with}
+use Rattle.reg_core.specs.KeptReplies.{KeptEntry, Kept, kept_with}
 use Rattle.reg_core.specs.Stored.{Stored}
 use Rattle.reg_store.specs.declared.keep.Keep.{Keep}
-use Rattle.reg_store.specs.Changes.{entry_of, made_of}
-use Rattle.reg_store.specs.Spells.{CanBeKept, IsSpelled, row_of}
-use Rattle.reg_store.specs.Inside.Making.{Makes, Keeps}
+use Rattle.reg_store.specs.Changes.{keep_entry, stored_after_changes}
+use Rattle.reg_store.specs.Spells.{CanBeKept, IsSpelled, stored_reply}
+use Rattle.reg_store.specs.Inside.Making.{StoresChange, StoresReply}
 use Rattle.reg_store.proofs.Maps.{insert_both}
 use Rattle.reg_store.proofs.SpelledTwo.{spelled_in, level_changed, changed, put}
 
@@ -88,7 +88,7 @@ module _ (contents : Contents) (g : Registry) (k : Kept) (s : IsSpelled contents
     keys = s.keys;
   }
 
-  spelled_kept : (key : List ℕ) (entry : Entry) → CanBeKept key entry → IsSpelled (with_kept key (row_of entry) contents) g (kept_with k key entry)
+  spelled_kept : (key : List ℕ) (entry : KeptEntry) → CanBeKept key entry → IsSpelled (with_kept key (stored_reply entry) contents) g (kept_with k key entry)
   spelled_kept key entry fits = record {
     registry = same_registry g _ refl refl s.registry;
     texts = s.texts;
@@ -97,37 +97,37 @@ module _ (contents : Contents) (g : Registry) (k : Kept) (s : IsSpelled contents
     registered = s.registered;
     levels = s.levels;
     subjects = s.subjects;
-    kept = insert_both row_of contents.kept k key entry s.kept;
+    kept = insert_both stored_reply contents.kept k key entry s.kept;
     keys = each_entry CanBeKept k key entry fits s.keys;
   }
 
 -- ---- the tables
 
 module _ (old new : State) where
-  pub respells_global : (level : Level) → Changes old new (with_global (level_text level)) → Makes old new (SetGlobal level)
+  pub respells_global : (level : Level) → Changes old new (with_global (level_text level)) → StoresChange old new (SetGlobal level)
   respells_global level changes was s fits =
       let g = was.registry in
       changed old new (with_global (level_text level)) changes was s _
       (spelled_in s.contents was s.spelled _ _ _ (spelled_beside s.contents g was.replies s.spelled.base (with_global (level_text level) s.contents) (refl, refl, refl, refl) level g.global_mode g.own_modes) (level_changed s.contents.meta g.global level (mode_text g.global_mode) s.spelled.meta) refl (refl, refl, refl))
 
-  pub respells_level : (subject : List ℕ) (level : Level) → IsTrue (is_subject subject) → Changes old new (with_level subject (level_text level)) → Makes old new (SetLevel subject level)
+  pub respells_level : (subject : List ℕ) (level : Level) → IsTrue (is_subject subject) → Changes old new (with_level subject (level_text level)) → StoresChange old new (SetLevel subject level)
   respells_level subject level within changes was s fits =
       changed old new (with_level subject (level_text level)) changes was s _
       (spelled_in s.contents was s.spelled _ _ _ (spelled_level s.contents was.registry was.replies s.spelled.base subject level within) s.spelled.meta refl (refl, refl, refl))
 
-  pub respells_kept : (keep : Keep) → CanBeKept keep.key.now (entry_of keep) → ChangesIf old new (λ contents. get contents.kept keep.key.now ≡ None) (with_kept keep.key.now (row_of (entry_of keep))) → Keeps old new (Some keep)
+  pub respells_kept : (keep : Keep) → CanBeKept keep.key.now (keep_entry keep) → ChangesIf old new (λ contents. get contents.kept keep.key.now ≡ None) (with_kept keep.key.now (stored_reply (keep_entry keep))) → StoresReply old new (Some keep)
   respells_kept keep fits puts was s fresh =
-      put old new (λ contents. get contents.kept keep.key.now ≡ None) (with_kept keep.key.now (row_of (entry_of keep))) puts was s (s.spelled.base.kept keep.key.now ∙ ap (option_map row_of) fresh) _
-      (spelled_in s.contents was s.spelled _ _ _ (spelled_kept s.contents was.registry was.replies s.spelled.base keep.key.now (entry_of keep) fits) s.spelled.meta refl (refl, refl, refl))
+      put old new (λ contents. get contents.kept keep.key.now ≡ None) (with_kept keep.key.now (stored_reply (keep_entry keep))) puts was s (s.spelled.base.kept keep.key.now ∙ ap (option_map stored_reply) fresh) _
+      (spelled_in s.contents was s.spelled _ _ _ (spelled_kept s.contents was.registry was.replies s.spelled.base keep.key.now (keep_entry keep) fits) s.spelled.meta refl (refl, refl, refl))
 
 -- ---- several changes
 
-made_of-append : (changes : List Change) (change : Change) (was : Stored) → made_of (changes ++ change ∷ []) was ≡ made_of (change ∷ []) (made_of changes was)
-made_of-append [] change was = refl
-made_of-append (c ∷ cs) change was = made_of-append cs change (made_of (c ∷ []) was)
+stored_after_changes-append : (changes : List Change) (change : Change) (was : Stored) → stored_after_changes (changes ++ change ∷ []) was ≡ stored_after_changes (change ∷ []) (stored_after_changes changes was)
+stored_after_changes-append [] change was = refl
+stored_after_changes-append (c ∷ cs) change was = stored_after_changes-append cs change (stored_after_changes (c ∷ []) was)
 
-pub made_of-more : (changes : List Change) (i : ℕ) (change : Change) (was : Stored) → i < length changes → made_of (take (i + 1) changes) was ≡ made_of (get_or changes i change ∷ []) (made_of (take i changes) was)
-made_of-more changes i change was lt = ap (λ l. made_of l was) (take_more changes i change lt) ∙ made_of-append (take i changes) (get_or changes i change) was
+pub stored_after_changes-more : (changes : List Change) (i : ℕ) (change : Change) (was : Stored) → i < length changes → stored_after_changes (take (i + 1) changes) was ≡ stored_after_changes (get_or changes i change ∷ []) (stored_after_changes (take i changes) was)
+stored_after_changes-more changes i change was lt = ap (λ l. stored_after_changes l was) (take_more changes i change lt) ∙ stored_after_changes-append (take i changes) (get_or changes i change) was
 
 -- what fits at its turn fits the registry after those before it
 pub fits_at : (changes : List Change) (i : ℕ) (change : Change) (g : Registry) → i < length changes → change ≡ get_or changes i change → ChangesFit changes g → ChangeFits change (after_changes (take i changes) g)

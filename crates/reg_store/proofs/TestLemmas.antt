@@ -13,19 +13,19 @@ use Rattle.sqlite.specs.State.{State, HasCleanDisk}
 use Rattle.sqlite.specs.declared.error.Error.{Error}
 use Rattle.sqlite_trees.specs.declared.store.Store.{Ghosts}
 use Rattle.reg_core.specs.Registry.{Registry}
-use Rattle.reg_tables.specs.declared.text_lines.TextLine.{TextLine}
-use Rattle.reg_tables.specs.declared.versions.VersionLine.{VersionLine}
-use Rattle.reg_tables.specs.declared.levels.LevelLine.{LevelLine}
-use Rattle.reg_tables.specs.declared.kept.KeptLine.{KeptLine}
-use Rattle.reg_tables.specs.declared.meta.MetaLine.{MetaLine}
-use Rattle.reg_tables.specs.declared.modes.ModeLine.{ModeLine}
-use Rattle.reg_tables.specs.declared.evidence.EvidenceLine.{EvidenceLine}
-use Rattle.reg_tables.specs.declared.evidence.AgainstLine.{AgainstLine}
+use Rattle.reg_tables.specs.declared.raw_texts.RawText.{RawText}
+use Rattle.reg_tables.specs.declared.versions.RawVersion.{RawVersion}
+use Rattle.reg_tables.specs.declared.levels.RawLevel.{RawLevel}
+use Rattle.reg_tables.specs.declared.kept.RawKept.{RawKept}
+use Rattle.reg_tables.specs.declared.meta.RawMeta.{RawMeta}
+use Rattle.reg_tables.specs.declared.modes.RawMode.{RawMode}
+use Rattle.reg_tables.specs.declared.evidence.RawEvidence.{RawEvidence}
+use Rattle.reg_tables.specs.declared.evidence.RawAgainst.{RawAgainst}
 use Rattle.reg_tables.specs.Layout.{HasFiveTables, texts, versions, levels, kept}
-use Rattle.reg_tables.specs.Contents.{text_form, version_form, pair_form, kept_form, evidence_form, against_form, text_cmp, version_cmp, place_cmp, TableName, HoldsIn}
-use Rattle.reg_tables.specs.Frames.{StaysIdle}
-use Rattle.reg_tables.specs.Listings.{HasNoTwins, parts_of, entry_parts, text_entry, version_entry, level_entry, kept_entry, mode_entry, evidence_entry, against_entry, ListsTexts, ListsVersions, ListsLevels, ListsKept, ListsMeta}
-use Rattle.reg_tables.specs.Inside.AllLines.{ListsIn, ListsAll, HaveNoTwins, Lines, contents_of}
+use Rattle.reg_tables.specs.Contents.{text_form, version_form, pair_form, kept_form, evidence_form, against_form, text_cmp, version_cmp, position_cmp, TableName, HoldsContents}
+use Rattle.reg_tables.specs.Frames.{ReadsInAutocommit}
+use Rattle.reg_tables.specs.Listings.{HasNoDuplicates, parts_of, entry_parts, text_entry, version_entry, level_entry, kept_entry, mode_entry, evidence_entry, against_entry, ListsTexts, ListsVersions, ListsLevels, ListsKept, ListsMeta}
+use Rattle.reg_tables.specs.Inside.AllRawRows.{ListsIn, ListsAll, HaveNoDuplicates, RawRows, contents_of}
 use Rattle.reg_tables.specs.Reads.{CanBeRead}
 use Rattle.reg_tables.specs.FailedCalls.{IsFault, IsUnreadable}
 use Rattle.reg_tables.proofs.KeyedTables.{text_order, distinct_texts, number_order, distinct_numbers, version_order, distinct_versions}
@@ -38,13 +38,13 @@ use Rattle.reg_tables.proofs.UniqueKeys.{HasFiveKeys, one_keys, apart_by_id, ver
 use Rattle.reg_rows.specs.Spelling.{Text, AreTexts, IsVersionRow, IsLevelRow, IsKeptRow}
 use Rattle.reg_store.specs.declared.error.StoreError.{StoreError}
 use Rattle.reg_store.specs.declared.error.StoreError.TheVariants.{Memory, NotARegistry}
-use Rattle.reg_store.specs.Failures.{failure_of, IsFaultBy, IsTold}
-use Rattle.reg_store.specs.Opening.{text_shown, version_shown, level_shown, kept_shown, HasVersionRows}
+use Rattle.reg_store.specs.Failures.{failure_of, IsFaultBy, HasDiskCause}
+use Rattle.reg_store.specs.Opening.{text_columns, version_columns, level_columns, kept_columns, HasVersionRows}
 use Rattle.reg_core.specs.KeptReplies.{Kept}
 use Rattle.reg_core.specs.Stored.{Stored}
 use Rattle.reg_store.specs.Spells.{IsSpelled}
 use Rattle.reg_store.specs.Inside.Reads.{SpellsBase}
-use Rattle.reg_store.specs.Inside.Testing.{AreApart, version_fits, level_fits, kept_fits, SpellsSome, Tests, RestPasses}
+use Rattle.reg_store.specs.Inside.Testing.{AreDistinct, version_fits, level_fits, kept_fits, SpellsSome, Tests, RestPasses}
 use Rattle.reg_store.proofs.Bridge.{levels_fit, kept_fit, spelled_if_rows}
 use Rattle.reg_store.proofs.Numbering.{Rises, ids_apart}
 use Rattle.reg_store.proofs.Schemas.{texts_fit, versions_fit}
@@ -64,11 +64,11 @@ each_line f P [] h = tt
 each_line f P (x ∷ xs) h = (h.0, each_line f P xs h.1)
 
 -- lines that are sorted are those of the same table
-pub lists_sorted : (db : Database) (old new : List TextLine) → IsPermutation old new → ListsTexts db old → ListsTexts db new
+pub lists_sorted : (db : Database) (old new : List RawText) → IsPermutation old new → ListsTexts db old → ListsTexts db new
 lists_sorted db old new same lists = IsPermutation-trans _ _ _ lists (IsPermutation-map (entry_parts text_form) _ _ (IsPermutation-map text_entry old new same))
 
 -- the lines of `versions` are as many as its rows
-pub versions_counted : (db : Database) (lines : List VersionLine) → ListsVersions db lines → HasVersionRows db (length lines)
+pub versions_counted : (db : Database) (lines : List RawVersion) → ListsVersions db lines → HasVersionRows db (length lines)
 versions_counted db lines lists =
     sym (length-map (map version_entry lines) (entry_parts version_form) ∙ length-map lines version_entry) ∙ length_permutation _ _ lists ∙ length-map (db.trees versions.tree) (parts_of version_form)
 
@@ -78,36 +78,36 @@ pub is_known : (db : Database) (was : Stored) → SpellsBase db was → HasFiveT
 is_known db was s = laid_out s.holds s.first
 
 module _ (db : Database) (was : Stored) (s : SpellsBase db was) where
-  pub texts_pass : (lines : List TextLine) → ListsTexts db lines → Rises (map (λ (row : ℕ × Text). row.0) (map text_shown lines)) → AreTexts (map text_shown lines)
+  pub texts_pass : (lines : List RawText) → ListsTexts db lines → Rises (map (λ (row : ℕ × Text). row.0) (map text_columns lines)) → AreTexts (map text_columns lines)
   texts_pass lines lists rising =
       let shown = listed_if_shown text_form _ number_order distinct_numbers (db.trees texts.tree) (map text_entry lines) lists s.contents.texts distinct_texts (five s.holds s.first).texts in
       texts_fit lines shown.apart was.registry.schemas s.spelled.registry.schemas s.spelled.registry.few (λ id. sym (ap (λ m. get m id) shown.is) ∙ s.spelled.texts id) rising
 
-  pub versions_pass : (lines : List VersionLine) → ListsVersions db lines → AreApart (map (λ (line : VersionLine). line.rowid) lines) × AllByRecursion version_fits lines
+  pub versions_pass : (lines : List RawVersion) → ListsVersions db lines → AreDistinct (map (λ (line : RawVersion). line.rowid) lines) × AllByRecursion version_fits lines
   versions_pass lines lists =
       let shown = listed_if_shown version_form version_cmp version_order distinct_versions (db.trees versions.tree) (map version_entry lines) lists s.contents.versions distinct_version_rows (five s.holds s.first).versions in (
-        subst AreApart (rowids_of version_entry (λ (line : VersionLine). line.rowid) (λ line. refl) lines) shown.apart.rowids,
-        each_line version_shown IsVersionRow lines (versions_fit lines shown.apart was.registry.schemas was.registry.rows (λ key. sym (ap (λ m. get m key) shown.is) ∙ s.spelled.versions key) s.spelled.registry.rows s.spelled.registered),
+        subst AreDistinct (rowids_of version_entry (λ (line : RawVersion). line.rowid) (λ line. refl) lines) shown.apart.rowids,
+        each_line version_columns IsVersionRow lines (versions_fit lines shown.apart was.registry.schemas was.registry.rows (λ key. sym (ap (λ m. get m key) shown.is) ∙ s.spelled.versions key) s.spelled.registry.rows s.spelled.registered),
       )
 
-  pub levels_pass : (lines : List LevelLine) → ListsLevels db lines → AreApart (map (λ (line : LevelLine). line.rowid) lines) × AllByRecursion level_fits lines
+  pub levels_pass : (lines : List RawLevel) → ListsLevels db lines → AreDistinct (map (λ (line : RawLevel). line.rowid) lines) × AllByRecursion level_fits lines
   levels_pass lines lists =
       let shown = listed_if_shown pair_form text_cmp text_order distinct_texts (db.trees levels.tree) (map level_entry lines) lists s.contents.levels distinct_texts (five s.holds s.first).levels in (
-        subst AreApart (rowids_of level_entry (λ (line : LevelLine). line.rowid) (λ line. refl) lines) shown.apart.rowids,
-        each_line level_shown IsLevelRow lines (levels_fit lines shown.apart was.registry.own (λ q. sym (ap (λ m. get m q) shown.is) ∙ s.spelled.levels q) s.spelled.subjects),
+        subst AreDistinct (rowids_of level_entry (λ (line : RawLevel). line.rowid) (λ line. refl) lines) shown.apart.rowids,
+        each_line level_columns IsLevelRow lines (levels_fit lines shown.apart was.registry.own (λ q. sym (ap (λ m. get m q) shown.is) ∙ s.spelled.levels q) s.spelled.subjects),
       )
 
-  pub kept_pass : (lines : List KeptLine) → ListsKept db lines → AreApart (map (λ (line : KeptLine). line.rowid) lines) × AllByRecursion kept_fits lines
+  pub kept_pass : (lines : List RawKept) → ListsKept db lines → AreDistinct (map (λ (line : RawKept). line.rowid) lines) × AllByRecursion kept_fits lines
   kept_pass lines lists =
       let shown = listed_if_shown kept_form text_cmp text_order distinct_texts (db.trees kept.tree) (map kept_entry lines) lists s.contents.kept distinct_kept_rows (five s.holds s.first).kept in (
-        subst AreApart (rowids_of kept_entry (λ (line : KeptLine). line.rowid) (λ line. refl) lines) shown.apart.rowids,
-        each_line kept_shown IsKeptRow lines (kept_fit lines shown.apart was.replies (λ q. sym (ap (λ m. get m q) shown.is) ∙ s.spelled.kept q) s.spelled.keys),
+        subst AreDistinct (rowids_of kept_entry (λ (line : RawKept). line.rowid) (λ line. refl) lines) shown.apart.rowids,
+        each_line kept_columns IsKeptRow lines (kept_fit lines shown.apart was.replies (λ q. sym (ap (λ m. get m q) shown.is) ∙ s.spelled.kept q) s.spelled.keys),
       )
 
 -- ---- tables that pass spell a registry
 
 -- the lines of the tables; layout 1 has none of modes and of evidence
-abbrev pub lines_in : {db : Database} → List MetaLine → RestPasses db → List ModeLine → List EvidenceLine → List AgainstLine → Lines
+abbrev pub lines_in : {db : Database} → List RawMeta → RestPasses db → List RawMode → List RawEvidence → List RawAgainst → RawRows
 lines_in meta rest modes evidence against TableName.Texts = rest.texts.lines
 lines_in meta rest modes evidence against TableName.Versions = rest.versions.lines
 lines_in meta rest modes evidence against TableName.Levels = rest.levels.lines
@@ -117,12 +117,12 @@ lines_in meta rest modes evidence against TableName.Modes = modes
 lines_in meta rest modes evidence against TableName.Evidence = evidence
 lines_in meta rest modes evidence against TableName.Against = against
 
-module _ (db : Database) (known : HasFiveKeys db.schema) (sound : IsDatabase db) (meta : List MetaLine) (lists : ListsMeta db meta) (ids : AreApart (map (λ (line : MetaLine). line.rowid) meta)) (rest : RestPasses db)
-    (modes : List ModeLine) (evidence : List EvidenceLine) (against : List AgainstLine) where
-  abbrev lines : Lines
+module _ (db : Database) (known : HasFiveKeys db.schema) (sound : IsDatabase db) (meta : List RawMeta) (lists : ListsMeta db meta) (ids : AreDistinct (map (λ (line : RawMeta). line.rowid) meta)) (rest : RestPasses db)
+    (modes : List RawMode) (evidence : List RawEvidence) (against : List RawAgainst) where
+  abbrev lines : RawRows
   lines = lines_in meta rest modes evidence against
 
-  pub apart_if_passed : HasNoTwins text_cmp (map mode_entry modes) → HasNoTwins version_cmp (map evidence_entry evidence) → HasNoTwins place_cmp (map against_entry against) → HaveNoTwins lines
+  pub apart_if_passed : HasNoDuplicates text_cmp (map mode_entry modes) → HasNoDuplicates version_cmp (map evidence_entry evidence) → HasNoDuplicates position_cmp (map against_entry against) → HaveNoDuplicates lines
   apart_if_passed m e a TableName.Texts = apart_by_id rest.texts.lines (ids_apart rest.texts.lines rest.texts.fit.numbered)
   apart_if_passed m e a TableName.Versions = versions_apart db known sound rest.versions.lines rest.versions.lists rest.versions.apart
   apart_if_passed m e a TableName.Levels = levels_apart db known sound rest.levels.lines rest.levels.lists rest.levels.apart
@@ -136,14 +136,14 @@ module _ (db : Database) (known : HasFiveKeys db.schema) (sound : IsDatabase db)
       → ListsAll db.schema db.trees lines
   lists_if_passed = lists_by_name db.schema (one_keys db.schema known) db.trees lines rest.texts.lists rest.versions.lists rest.levels.lists rest.kept.lists lists
 
-  module _ (apart : HaveNoTwins lines) (all : ListsAll db.schema db.trees lines) where
-    pub holds_if_passed : HoldsIn db.schema db (contents_of lines)
+  module _ (apart : HaveNoDuplicates lines) (all : ListsAll db.schema db.trees lines) where
+    pub holds_if_passed : HoldsContents db.schema db (contents_of lines)
     holds_if_passed = holds_if_listed db.schema db lines all refl sound apart
 
     pub spelled_if_passed : (g : Registry) × (k : Kept) × IsSpelled (contents_of lines) g k
     spelled_if_passed =
         spelled_if_rows lines apart (one_id db.schema db (contents_of lines) known holds_if_passed) (has_text db.schema db (contents_of lines) known holds_if_passed)
-        rest.texts.fit (each_row version_shown IsVersionRow rest.versions.lines rest.versions.fit) (each_row level_shown IsLevelRow rest.levels.lines rest.levels.fit) (each_row kept_shown IsKeptRow rest.kept.lines rest.kept.fit)
+        rest.texts.fit (each_row version_columns IsVersionRow rest.versions.lines rest.versions.fit) (each_row level_columns IsLevelRow rest.levels.lines rest.levels.fit) (each_row kept_columns IsKeptRow rest.kept.lines rest.kept.fit)
 
 -- ---- how a test comes out
 
@@ -156,12 +156,12 @@ some_can_be_read s over = λ is_open.
     record { schema = it.schema; known = it.first; contents = it.contents; holds = it.holds; readable = it.readable }
 
 module _ {S X : Type 0} (g : Ghosts S) (old new : Held S) where
-  pub framed : {Y E F : Type 0} (a : Result X E) (b : Result Y F) → StaysIdle g old new a → (HasCleanDisk (state g new) → OnOk b (IsTrue (state g old).is_open)) → StaysIdle g old new b
+  pub framed : {Y E F : Type 0} (a : Result X E) (b : Result Y F) → ReadsInAutocommit g old new a → (HasCleanDisk (state g new) → OnOk b (IsTrue (state g old).is_open)) → ReadsInAutocommit g old new b
   framed a b f was_open = record { was_open = was_open; only_reads = f.only_reads; survives = f.survives }
 
 module _ {S X Y : Type 0} {Declared : Schema → Type 0} {Spelled : Database → Type 0} {P : Y → Database → Type 0} (g : Ghosts S) (old new : Held S) where
   -- the table wasn't read
-  pub test_unread : {CanTell : Type 0} (r : Result Y StoreError) (e : Error) → ((IsTrue (state g old).is_open → Spelled (state g old).now) → CanTell) → old.step_limit ≡ None → StaysIdle {X = X} {E = Error} g old new (Err e)
+  pub test_unread : {CanTell : Type 0} (r : Result Y StoreError) (e : Error) → ((IsTrue (state g old).is_open → Spelled (state g old).now) → CanTell) → old.step_limit ≡ None → ReadsInAutocommit {X = X} {E = Error} g old new (Err e)
       → (HasCleanDisk (state g new) → CanTell → IsFault (state g old) (state g new) e)
       → (HasCleanDisk (state g new) → (IsTrue (state g old).is_open → Declared (state g old).now.schema) → IsFault (state g old) (state g new) e ⊎ IsUnreadable e) → IsErrAnd r (λ failure. failure ≡ failure_of e) → Tests Declared Spelled g old new r P
   test_unread (Ok x) e can unlimited f fault told is = absurd is
@@ -169,13 +169,13 @@ module _ {S X Y : Type 0} {Declared : Schema → Type 0} {Spelled : Database →
     frame = framed g old new (Err e) (Err failure) f (λ clean. tt);
     tells = λ clean. tt;
     fault = λ clean over. subst (IsFaultBy (state g old) (state g new)) (sym is) (fault_by (state g old) (state g new) e unlimited (fault clean (can over)));
-    told = λ clean known. subst (IsTold (state g old) (state g new)) (sym is) (told_by (state g old) (state g new) e unlimited (told clean known));
+    disk_cause = λ clean known. subst (HasDiskCause (state g old) (state g new)) (sym is) (told_by (state g old) (state g new) e unlimited (told clean known));
   }
 
 module _ {S X : Type 0} {Declared : Schema → Type 0} {Spelled : Database → Type 0} (g : Ghosts S) (old new : Held S) where
   -- the table was read
-  pub test_read : {P : X → Database → Type 0} (x : X) → StaysIdle {X = X} {E = Error} g old new (Ok x) → (HasCleanDisk (state g new) → Declared (state g old).now.schema → P x (state g old).now) → Tests Declared Spelled g old new (Ok x) P
-  test_read x f tells = record { frame = framed g old new (Ok x) (Ok x) f f.was_open; tells = tells; fault = λ clean. tt; told = λ clean. tt }
+  pub test_read : {P : X → Database → Type 0} (x : X) → ReadsInAutocommit {X = X} {E = Error} g old new (Ok x) → (HasCleanDisk (state g new) → Declared (state g old).now.schema → P x (state g old).now) → Tests Declared Spelled g old new (Ok x) P
+  test_read x f tells = record { frame = framed g old new (Ok x) (Ok x) f f.was_open; tells = tells; fault = λ clean. tt; disk_cause = λ clean. tt }
 
   module _ {P : X → Database → Type 0} {x : X} (t : Tests Declared Spelled g old new (Ok x) P) where
     -- memory was refused then
@@ -185,25 +185,25 @@ module _ {S X : Type 0} {Declared : Schema → Type 0} {Spelled : Database → T
       frame = framed g old new (Ok x) (Err failure) t.frame (λ clean. tt);
       tells = λ clean. tt;
       fault = λ clean over. subst (IsFaultBy (state g old) (state g new)) (sym is) tt;
-      told = λ clean known. subst (IsTold (state g old) (state g new)) (sym is) tt;
+      disk_cause = λ clean known. subst (HasDiskCause (state g old) (state g new)) (sym is) tt;
     }
 
     -- what was read passes or doesn't
     pub test_judged : {Q : Unit {0} → Database → Type 0} (r : Result (Unit {0}) StoreError) (b : Bool) → OnOk r (IsTrue b) → IfErr r (λ e. (e ≡ NotARegistry) × (b ≡ false)) → ((db : Database) → Spelled db → Declared db.schema)
         → ((db : Database) → P x db → IsTrue b → Q tt db) → ((db : Database) → P x db → b ≡ false → Spelled db → ⊥) → Tests Declared Spelled g old new r Q
-    test_judged (Ok y) b ok err declared passes fails = record { frame = framed g old new (Ok x) (Ok y) t.frame t.frame.was_open; tells = λ clean known. passes (state g old).now (t.tells clean known) ok; fault = λ clean. tt; told = λ clean. tt }
+    test_judged (Ok y) b ok err declared passes fails = record { frame = framed g old new (Ok x) (Ok y) t.frame t.frame.was_open; tells = λ clean known. passes (state g old).now (t.tells clean known) ok; fault = λ clean. tt; disk_cause = λ clean. tt }
     test_judged (Err e) b ok err declared passes fails = record {
       frame = framed g old new (Ok x) (Err e) t.frame (λ clean. tt);
       tells = λ clean. tt;
       fault = λ clean over.
           (let spelled = over (t.frame.was_open clean) in
           absurd (fails (state g old).now (t.tells clean (declared (state g old).now spelled)) err.1 spelled));
-      told = λ clean known. subst (IsTold (state g old) (state g new)) (sym err.0) tt;
+      disk_cause = λ clean known. subst (HasDiskCause (state g old) (state g new)) (sym err.0) tt;
     }
 
     -- something else is answered
     pub test_tells : {Y : Type 0} {Q : Y → Database → Type 0} (y : Y) → ((db : Database) → P x db → Q y db) → Tests Declared Spelled g old new (Ok y) Q
-    test_tells y f = record { frame = framed g old new (Ok x) (Ok y) t.frame t.frame.was_open; tells = λ clean known. f (state g old).now (t.tells clean known); fault = λ clean. tt; told = λ clean. tt }
+    test_tells y f = record { frame = framed g old new (Ok x) (Ok y) t.frame t.frame.was_open; tells = λ clean known. f (state g old).now (t.tells clean known); fault = λ clean. tt; disk_cause = λ clean. tt }
 
   -- an error that `?` passes on
   pub test_fails : {Y : Type 0} {P : X → Database → Type 0} {Q : Y → Database → Type 0} (r : Result Y StoreError) (e : StoreError) → Tests {X = X} Declared Spelled g old new (Err e) P → IsErrAnd r (λ failure. failure ≡ e) → Tests Declared Spelled g old new r Q
@@ -212,20 +212,20 @@ module _ {S X : Type 0} {Declared : Schema → Type 0} {Spelled : Database → T
     frame = framed g old new (Err e) (Err failure) t.frame (λ clean. tt);
     tells = λ clean. tt;
     fault = λ clean over. subst (IsFaultBy (state g old) (state g new)) (sym is) (t.fault clean over);
-    told = λ clean known. subst (IsTold (state g old) (state g new)) (sym is) (t.told clean known);
+    disk_cause = λ clean known. subst (HasDiskCause (state g old) (state g new)) (sym is) (t.disk_cause clean known);
   }
 
   pub test_says : {P Q : X → Database → Type 0} (r : Result X StoreError) → Tests Declared Spelled g old new r P → ((x : X) (db : Database) → P x db → Q x db) → Tests Declared Spelled g old new r Q
-  test_says r t f = record { frame = t.frame; tells = λ clean. if_ok r (λ x p known. f x (state g old).now (p known)) (t.tells clean); fault = t.fault; told = t.told }
+  test_says r t f = record { frame = t.frame; tells = λ clean. if_ok r (λ x p known. f x (state g old).now (p known)) (t.tells clean); fault = t.fault; disk_cause = t.disk_cause }
 
   -- the same of tables of which more is said
-  pub test_of : {P : X → Database → Type 0} {Known : Schema → Type 0} {Spells : Database → Type 0} (r : Result X StoreError) → ((schema : Schema) → Known schema → Declared schema) → ((db : Database) → Spells db → Spelled db)
-      → Tests Declared Spelled g old new r P → Tests Known Spells g old new r P
+  pub test_of : {P : X → Database → Type 0} {IsAllowed : Schema → Type 0} {Spells : Database → Type 0} (r : Result X StoreError) → ((schema : Schema) → IsAllowed schema → Declared schema) → ((db : Database) → Spells db → Spelled db)
+      → Tests Declared Spelled g old new r P → Tests IsAllowed Spells g old new r P
   test_of r declared spelled t = record {
     frame = t.frame;
     tells = λ clean. if_ok r (λ x p known. p (declared (state g old).now.schema known)) (t.tells clean);
     fault = λ clean. if_err r (λ e h over. h (λ is_open. spelled (state g old).now (over is_open))) (t.fault clean);
-    told = λ clean. if_err r (λ e h known. h (λ is_open. declared (state g old).now.schema (known is_open))) (t.told clean);
+    disk_cause = λ clean. if_err r (λ e h known. h (λ is_open. declared (state g old).now.schema (known is_open))) (t.disk_cause clean);
   }
 
 -- ---- several tests, one after the other
@@ -246,7 +246,7 @@ module _ {S : Type 0} {Declared : Schema → Type 0} {Spelled : Database → Typ
     };
     tells = λ clean. both r (two.frame.was_open clean) (two.tells clean) clean;
     fault = λ clean. failed r (two.fault clean) clean;
-    told = λ clean. told r (two.told clean) clean;
+    disk_cause = λ clean. told r (two.disk_cause clean) clean;
   }
     where
       before : HasCleanDisk (state g c) → HasCleanDisk (state g b)
@@ -268,7 +268,7 @@ module _ {S : Type 0} {Declared : Schema → Type 0} {Spelled : Database → Typ
       failed (Ok y) h clean = tt
       failed (Err e) h clean = λ over. by_since (state g a) (state g b) (state g c) (one.frame.survives.closes (before clean)) one.frame.survives.counts two.frame.survives.counts e (h (λ is_open. subst Spelled (sym (same clean is_open)) (over (was_open clean is_open))))
 
-      told : (r : Result Y StoreError) → IfErr r (λ e. (IsTrue (state g b).is_open → Declared (state g b).now.schema) → IsTold (state g b) (state g c) e) → HasCleanDisk (state g c)
-          → IfErr r (λ e. (IsTrue (state g a).is_open → Declared (state g a).now.schema) → IsTold (state g a) (state g c) e)
+      told : (r : Result Y StoreError) → IfErr r (λ e. (IsTrue (state g b).is_open → Declared (state g b).now.schema) → HasDiskCause (state g b) (state g c) e) → HasCleanDisk (state g c)
+          → IfErr r (λ e. (IsTrue (state g a).is_open → Declared (state g a).now.schema) → HasDiskCause (state g a) (state g c) e)
       told (Ok y) h clean = tt
       told (Err e) h clean = λ known. told_since (state g a) (state g b) (state g c) (one.frame.survives.closes (before clean)) one.frame.survives.counts two.frame.survives.counts e (h (λ is_open. subst (λ (d : Database). Declared d.schema) (sym (same clean is_open)) (known (was_open clean is_open))))

@@ -14,7 +14,7 @@ use Rattle.sqlite.specs.Order.{Row}
 use Rattle.sqlite.specs.Tree.{rowid}
 use Rattle.sqlite.specs.Effect.{Database}
 use Rattle.sqlite_rules.specs.Lists.{Has}
-use Rattle.reg_tables.specs.declared.text_lines.TextLine.{TextLine}
+use Rattle.reg_tables.specs.declared.raw_texts.RawText.{RawText}
 use Rattle.reg_tables.specs.Layout.{texts}
 use Rattle.reg_tables.specs.Contents.{text_form}
 use Rattle.reg_tables.specs.Listings.{RowParts, parts_of, entry_parts, text_entry, is_between, ListsIds, ListsTexts, ListsTextsBetween}
@@ -100,7 +100,7 @@ pub mapped-append : {A B : Type 0} (f : A → B) (xs ys : List A) → map f (xs 
 mapped-append f [] ys = refl
 mapped-append f (x ∷ xs) ys = ap (λ l. f x ∷ l) (mapped-append f xs ys)
 
-fits-append : (xs ys : List TextLine) → (AllByRecursion text_fits xs × AllByRecursion text_fits ys) ↔ AllByRecursion text_fits (xs ++ ys)
+fits-append : (xs ys : List RawText) → (AllByRecursion text_fits xs × AllByRecursion text_fits ys) ↔ AllByRecursion text_fits (xs ++ ys)
 fits-append [] ys = (λ h. h.1, λ h. (tt, h))
 fits-append (x ∷ xs) ys = let rest = fits-append xs ys in (λ h. (h.0.0, rest.0 (h.0.1, h.1)), λ h. let r = rest.1 h.1 in ((h.0, r.0), r.1))
 
@@ -109,10 +109,10 @@ fits-append (x ∷ xs) ys = let rest = fits-append xs ys in (λ h. (h.0.0, rest.
 abbrev parts : Row → RowParts
 parts = parts_of text_form
 
-abbrev shown : List TextLine → List RowParts
+abbrev shown : List RawText → List RowParts
 shown lines = map (entry_parts text_form) (map text_entry lines)
 
-shown-append : (xs ys : List TextLine) → shown (xs ++ ys) ≡ shown xs ++ shown ys
+shown-append : (xs ys : List RawText) → shown (xs ++ ys) ≡ shown xs ++ shown ys
 shown-append xs ys = ap (map (entry_parts text_form)) (mapped-append text_entry xs ys) ∙ mapped-append (entry_parts text_form) (map text_entry xs) (map text_entry ys)
 
 module _ (db : Database) (have : HaveIds (db.trees texts.tree)) where
@@ -233,13 +233,13 @@ same_ints (n ∷ ns) [] h = absurd (cc)
 same_ints (n ∷ ns) (m ∷ ms) h = let head : n ≡ m = cc in let tail : map int_of ns ≡ map int_of ms = cc in λ i. head i ∷ same_ints ns ms tail i
 
 -- the lines of the table in the order of its ids
-pub in_order : (db : Database) (count : ℕ) (numbers : NumbersTexts db count) (lines : List TextLine) → ListsTexts db lines → (sorted : List TextLine) × IsPermutation lines sorted × (map (λ (line : TextLine). line.id) sorted ≡ numbers.ids)
+pub in_order : (db : Database) (count : ℕ) (numbers : NumbersTexts db count) (lines : List RawText) → ListsTexts db lines → (sorted : List RawText) × IsPermutation lines sorted × (map (λ (line : RawText). line.id) sorted ≡ numbers.ids)
 in_order db count numbers lines lists =
     let rows = db.trees texts.tree in
-    let id_of = λ (line : TextLine). line.id in
+    let id_of = λ (line : RawText). line.id in
     let first = λ (p : RowParts). p.0 in
-    let ids : IsPermutation (map rowid rows) (map (λ (line : TextLine). int_of line.id) lines) =
-    subst (IsPermutation (map rowid rows)) (ap (map first) (map-map (entry_parts text_form) text_entry lines) ∙ map-map first (λ (line : TextLine). entry_parts text_form (text_entry line)) lines)
+    let ids : IsPermutation (map rowid rows) (map (λ (line : RawText). int_of line.id) lines) =
+    subst (IsPermutation (map rowid rows)) (ap (map first) (map-map (entry_parts text_form) text_entry lines) ∙ map-map first (λ (line : RawText). entry_parts text_form (text_entry line)) lines)
     (subst (λ l. IsPermutation l (map first (shown lines))) (map-map first parts rows) (IsPermutation-map first (map parts rows) (shown lines) lists)) in
-    let it = reordered (λ (line : TextLine). int_of line.id) lines (map int_of numbers.ids) (IsPermutation-trans _ _ _ (IsPermutation-sym _ _ ids) numbers.lists) in
+    let it = reordered (λ (line : RawText). int_of line.id) lines (map int_of numbers.ids) (IsPermutation-trans _ _ _ (IsPermutation-sym _ _ ids) numbers.lists) in
     (it.0, it.1, same_ints (map id_of it.0) numbers.ids (map-map int_of id_of it.0 ∙ it.2))

@@ -14,15 +14,15 @@ use Rattle.sqlite.specs.State.{HasCleanDisk}
 use Rattle.sqlite_trees.specs.declared.store.Store.{Ghosts}
 use Rattle.sqlite_rules.proofs.ListLemmas.{all_has, all_from}
 use Rattle.reg_rows.specs.Spelling.{Text, AreNumbered, IsTextRow}
-use Rattle.reg_tables.specs.declared.text_lines.TextLine.{TextLine}
-use Rattle.reg_tables.specs.Frames.{StaysIdle}
+use Rattle.reg_tables.specs.declared.raw_texts.RawText.{RawText}
+use Rattle.reg_tables.specs.Frames.{ReadsInAutocommit}
 use Rattle.reg_tables.specs.Listings.{ListsTexts}
 use Rattle.reg_tables.specs.Reads.{HoldsReadable}
 use Rattle.reg_tables.proofs.ListMembers.{has_permuted}
 use Rattle.reg_store.specs.declared.error.StoreError.{StoreError}
-use Rattle.reg_store.specs.Opening.{text_shown}
+use Rattle.reg_store.specs.Opening.{text_columns}
 use Rattle.reg_store.specs.Inside.Testing.{text_fits, SpellsSome, Tests, TextsPass, NumbersTexts, Judges}
-use Rattle.reg_store.specs.Inside.Reads.{SpellsBase, Rests}
+use Rattle.reg_store.specs.Inside.Reads.{SpellsBase, CommitsNothing}
 use Rattle.reg_store.proofs.Numbering.{Rises}
 use Rattle.reg_store.proofs.TestLemmas.{each_row, lists_sorted, texts_pass}
 use Rattle.reg_store.proofs.TextParts.{within, in_order}
@@ -30,7 +30,7 @@ use Rattle.reg_store.proofs.ReadLemmas.{rests_read, rests_on, clean_at, same_db,
 
 -- ---- what all lines say of the table
 
-fits_permuted : (old new : List TextLine) → IsPermutation old new → AllByRecursion text_fits old → AllByRecursion text_fits new
+fits_permuted : (old new : List RawText) → IsPermutation old new → AllByRecursion text_fits old → AllByRecursion text_fits new
 fits_permuted old new same all = all_from text_fits new (λ line there. all_has text_fits old line all (has_permuted new old line (IsPermutation-sym old new same) there))
 
 numbered_rise : (first : ℕ) (ids : List ℕ) → AreNumbered first ids → Rises ids
@@ -38,14 +38,14 @@ numbered_rise first [] h = tt
 numbered_rise first (id ∷ ids) h = (all_from (λ m. id ≤ m) ids (λ m there. let low = (within (first + 1) ids h.1 m there).0 in let is = h.0 in omega (arith, low, is)), numbered_rise (first + 1) ids h.1)
 
 module _ (db : Database) (count : ℕ) (numbers : NumbersTexts db count) (fit : Bool) (it : Judges (ListsTexts db) fit) where
-  ordered : (sorted : List TextLine) × IsPermutation it.lines sorted × (map (λ (line : TextLine). line.id) sorted ≡ numbers.ids)
+  ordered : (sorted : List RawText) × IsPermutation it.lines sorted × (map (λ (line : RawText). line.id) sorted ≡ numbers.ids)
   ordered = in_order db count numbers it.lines it.lists
 
   lists : ListsTexts db ordered.0
   lists = lists_sorted db it.lines ordered.0 ordered.1 it.lists
 
-  ids : map (λ (row : ℕ × Text). row.0) (map text_shown ordered.0) ≡ numbers.ids
-  ids = map-map (λ (row : ℕ × Text). row.0) text_shown ordered.0 ∙ ordered.2
+  ids : map (λ (row : ℕ × Text). row.0) (map text_columns ordered.0) ≡ numbers.ids
+  ids = map-map (λ (row : ℕ × Text). row.0) text_columns ordered.0 ∙ ordered.2
 
   pub texts_passed : IsTrue fit → TextsPass db
   texts_passed fits = record {
@@ -54,13 +54,13 @@ module _ (db : Database) (count : ℕ) (numbers : NumbersTexts db count) (fit : 
     fit = record {
       numbered = subst (AreNumbered 1) (sym ids) numbers.numbered;
       few =
-          let rows = length-map ordered.0 text_shown in
-          let line_ids = length-map ordered.0 (λ (line : TextLine). line.id) in
+          let rows = length-map ordered.0 text_columns in
+          let line_ids = length-map ordered.0 (λ (line : RawText). line.id) in
           let same = ap length ordered.2 in
           let all = numbers.is in
           let few = numbers.few in
           omega (arith, rows, line_ids, same, all, few);
-      identities = each_row text_shown IsTextRow ordered.0 (fits_permuted it.lines ordered.0 ordered.1 (it.judged.0 fits));
+      identities = each_row text_columns IsTextRow ordered.0 (fits_permuted it.lines ordered.0 ordered.1 (it.judged.0 fits));
     };
   }
 
@@ -70,7 +70,7 @@ module _ (db : Database) (count : ℕ) (numbers : NumbersTexts db count) (fit : 
       let fits = texts_pass db s.stored s.spells ordered.0 lists (subst Rises (sym ids) (numbered_rise 1 numbers.ids numbers.numbered)) in
       both_ways _ unfit (it.judged.1 (fits_permuted ordered.0 it.lines (IsPermutation-sym _ _ ordered.1) (each_fit ordered.0 fits.identities)))
     where
-      each_fit : (lines : List TextLine) → AllByRecursion IsTextRow (map text_shown lines) → AllByRecursion text_fits lines
+      each_fit : (lines : List RawText) → AllByRecursion IsTextRow (map text_columns lines) → AllByRecursion text_fits lines
       each_fit [] h = tt
       each_fit (line ∷ lines) h = (h.0, each_fit lines h.1)
 
@@ -80,23 +80,23 @@ pub readable_if_spelled : (db : Database) → SpellsSome SpellsBase db → Holds
 readable_if_spelled db s = let it = s.spells in record { schema = it.schema; known = it.first; contents = it.contents; holds = it.holds; readable = it.readable }
 
 module _ {S : Type 0} (g : Ghosts S) (a c : Held S) (settled : IsTrue (state g a).is_open → (state g a).now ≡ (state g a).committed) where
-  stays : {X : Type 0} (r : Result X StoreError) → Rests (state g a) (state g c) → (HasCleanDisk (state g c) → OnOk r (IsTrue (state g a).is_open)) → StaysIdle g a c r
+  stays : {X : Type 0} (r : Result X StoreError) → CommitsNothing (state g a) (state g c) → (HasCleanDisk (state g c) → OnOk r (IsTrue (state g a).is_open)) → ReadsInAutocommit g a c r
   stays r rests was_open = record {
     was_open = was_open;
     only_reads = λ clean. let keeps = rests.commit_stays clean in record { commit_stays = keeps; settled = λ is_open. rests.settled clean is_open (settled (keeps.was_open is_open)) };
     survives = rests.survives;
   }
 
-  same_there : (b : Held S) → Rests (state g a) (state g b) → HasCleanDisk (state g b) → IsTrue (state g b).is_open → (state g b).now ≡ (state g a).now
+  same_there : (b : Held S) → CommitsNothing (state g a) (state g b) → HasCleanDisk (state g b) → IsTrue (state g b).is_open → (state g b).now ≡ (state g a).now
   same_there b rests clean = same_db (state g a) (state g b) rests settled clean
 
   module _ {Declared : Schema → Type 0} {Spelled : Database → Type 0} where
     -- all were read
-    pub all_read : {X : Type 0} {P : X → Database → Type 0} (x : X) → Rests (state g a) (state g c) → (HasCleanDisk (state g c) → IsTrue (state g a).is_open)
+    pub all_read : {X : Type 0} {P : X → Database → Type 0} (x : X) → CommitsNothing (state g a) (state g c) → (HasCleanDisk (state g c) → IsTrue (state g a).is_open)
         → (HasCleanDisk (state g c) → Declared (state g a).now.schema → P x (state g a).now) → Tests Declared Spelled g a c (Ok x) P
-    all_read x rests was_open tells = record { frame = stays (Ok x) rests was_open; tells = tells; fault = λ clean. tt; told = λ clean. tt }
+    all_read x rests was_open tells = record { frame = stays (Ok x) rests was_open; tells = tells; fault = λ clean. tt; disk_cause = λ clean. tt }
 
-    module _ (b : Held S) (rests : Rests (state g a) (state g b)) where
+    module _ (b : Held S) (rests : CommitsNothing (state g a) (state g b)) where
       -- some weren't, after others were
       pub some_unread : {X Y : Type 0} {P : X → Database → Type 0} {Q : Y → Database → Type 0} (e : StoreError) → Tests {X = X} Declared Spelled g b c (Err e) P → Tests {X = Y} Declared Spelled g a c (Err e) Q
       some_unread e t =
@@ -107,7 +107,7 @@ module _ {S : Type 0} (g : Ghosts S) (a c : Held S) (settled : IsTrue (state g a
             frame = stays (Err e) (rests_on (state g a) (state g b) (state g c) rests step) (λ clean. tt);
             tells = λ clean. tt;
             fault = λ clean can. fault_of_all (state g a) (state g b) (state g c) rests step clean e (t.fault clean (λ is_open. subst Spelled (sym (same_there b rests (early clean) is_open)) (can (was_open clean is_open))));
-            told = λ clean known. told_of_all (state g a) (state g b) (state g c) rests step clean e (t.told clean (λ is_open. subst (λ (d : Database). Declared d.schema) (sym (same_there b rests (early clean) is_open)) (known (was_open clean is_open))));
+            disk_cause = λ clean known. told_of_all (state g a) (state g b) (state g c) rests step clean e (t.disk_cause clean (λ is_open. subst (λ (d : Database). Declared d.schema) (sym (same_there b rests (early clean) is_open)) (known (was_open clean is_open))));
           }
 
       -- the last one was, after others were
@@ -122,5 +122,5 @@ module _ {S : Type 0} (g : Ghosts S) (a c : Held S) (settled : IsTrue (state g a
                 (let same = same_there b rests (early clean) (t.frame.was_open clean) in
                 (before (early clean) known, subst (P x) same (t.tells clean (subst (λ (d : Database). Declared d.schema) (sym same) known))));
             fault = λ clean. tt;
-            told = λ clean. tt;
+            disk_cause = λ clean. tt;
           }

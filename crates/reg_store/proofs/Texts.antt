@@ -18,12 +18,12 @@ use Rattle.reg_core.specs.declared.mode.Mode.{Mode}
 use Rattle.reg_core.specs.declared.mode.Mode.TheVariants.{Readwrite, Readonly}
 use Rattle.reg_core.specs.Modes.{mode_text}
 use Rattle.reg_core.specs.Registry.{Registry, schema_at}
-use Rattle.reg_tables.specs.Contents.{text_cmp, TextMap, PlaceKey, VersionRow, Contents, AreReadable}
-use Rattle.reg_tables.specs.Changes.{meta_as, meta_of}
+use Rattle.reg_tables.specs.Contents.{text_cmp, TextMap, PositionKey, VersionEntryView, Contents, AreReadable}
+use Rattle.reg_tables.specs.Changes.{meta_of_layout, meta_of_layout_one}
 use Rattle.reg_tables.proofs.MapLemmas.{get-insert-same, get-insert-other, same_or_not}
 use Rattle.reg_tables.proofs.KeyedTables.{text_order}
 use Rattle.reg_core.specs.KeptReplies.{Kept}
-use Rattle.reg_store.specs.Spells.{IsSpelled, layout_two_meta, row_of, stored_version}
+use Rattle.reg_store.specs.Spells.{IsSpelled, layout_two_meta, stored_reply, stored_version}
 use Rattle.reg_store.proofs.Ids.{schema_within}
 
 key_byte_ascii : (c : ℕ) → is_key_byte c ≡ true → c < 128
@@ -83,7 +83,7 @@ utf8_mode Readonly = (mode_text Readonly, (refl, refl))
 abbrev pub AreTexts : TextMap (List ℕ) → Type 0
 AreTexts meta = (name value : List ℕ) → get meta name ≡ Some value → IsUtf8 name × IsUtf8 value
 
-utf8_meta : (number : List ℕ) → IsUtf8 number → (level : Level) → AreTexts (meta_as number (level_text level))
+utf8_meta : (number : List ℕ) → IsUtf8 number → (level : Level) → AreTexts (meta_of_layout number (level_text level))
 unfolding lib.Utf8.encode
 utf8_meta number utf8 level =
     let P = λ (name value : List ℕ). IsUtf8 name × IsUtf8 value in
@@ -91,7 +91,7 @@ utf8_meta number utf8 level =
     let two = each_inserted P _ (codes "layout") number ((codes "layout", (refl, refl)), utf8) one in
     each_inserted P _ (codes "global") (level_text level) ((codes "global", (refl, refl)), utf8_level level) two
 
-pub utf8_first_meta : (level : Level) → AreTexts (meta_of (level_text level))
+pub utf8_first_meta : (level : Level) → AreTexts (meta_of_layout_one (level_text level))
 unfolding lib.Utf8.encode
 utf8_first_meta level = utf8_meta (codes "1") (codes "1", (refl, refl)) level
 
@@ -107,7 +107,7 @@ module _ (contents : Contents) (g : Registry) (k : Kept) (s : IsSpelled contents
       let few = s.registry.few in
       omega (arith, within, few)
 
-  pub readable_key : (key : List ℕ × ℕ) (version : VersionRow) → get contents.versions key ≡ Some version → IsUtf8 key.0 × (key.1 < 2 ^ 32)
+  pub readable_key : (key : List ℕ × ℕ) (version : VersionEntryView) → get contents.versions key ≡ Some version → IsUtf8 key.0 × (key.1 < 2 ^ 32)
   readable_key key version there =
       let it = was_written stored_version (get g.rows key) version (sym (s.versions key) ∙ there) in
       let number = (s.registry.rows key it.0 it.1).within.1 in
@@ -115,7 +115,7 @@ module _ (contents : Contents) (g : Registry) (k : Kept) (s : IsSpelled contents
 
   -- what the tables spell can be read, where the rows of `meta` and of the tables that layout 2 adds can
   pub readable_base : AreTexts contents.meta → AreTexts contents.modes → ((key : List ℕ × ℕ) (level : List ℕ) → get contents.evidence key ≡ Some level → IsUtf8 key.0 × (key.1 < 2 ^ 32) × IsUtf8 level)
-      → ((key : PlaceKey) (id : ℕ) → get contents.against key ≡ Some id → IsUtf8 key.0.0 × (key.0.1 < 2 ^ 32) × (key.1 < 2 ^ 32) × (id < 2 ^ 32)) → AreReadable contents
+      → ((key : PositionKey) (id : ℕ) → get contents.against key ≡ Some id → IsUtf8 key.0.0 × (key.0.1 < 2 ^ 32) × (key.1 < 2 ^ 32) × (id < 2 ^ 32)) → AreReadable contents
   readable_base meta modes evidence against = record {
     texts = λ id text there.
         let it = was_written identity (schema_at g.schemas id) text (sym (s.texts id) ∙ there) in
@@ -125,13 +125,13 @@ module _ (contents : Contents) (g : Registry) (k : Kept) (s : IsSpelled contents
         let of_key = readable_key key version there in
         let id = (s.registry.rows key it.0 it.1).has_schema.1 in
         let few = s.registry.few in
-        let same : version.id ≡ it.0.id = ap (λ (r : VersionRow). r.id) it.2 in
+        let same : version.id ≡ it.0.id = ap (λ (r : VersionEntryView). r.id) it.2 in
         (of_key.0, of_key.1, omega (arith, id, few, same));
     levels = λ subject level there.
         let it = was_written level_text (g.own subject) level (sym (s.levels subject) ∙ there) in
         (utf8_subject subject (s.subjects subject it.0 it.1), subst IsUtf8 (sym it.2) (utf8_level it.0));
     kept = λ key reply there.
-        let it = was_written row_of (k key) reply (sym (s.kept key) ∙ there) in
+        let it = was_written stored_reply (k key) reply (sym (s.kept key) ∙ there) in
         let fits = s.keys key it.0 it.1 in
         (utf8_key key fits.is_key, rw it.2 (record { command = fits.text; status = low_status it.0.reply.status fits.status; body = fits.body }));
     meta = meta;

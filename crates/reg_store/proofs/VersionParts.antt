@@ -18,18 +18,18 @@ use Rattle.sqlite_rules.specs.Lists.{Has}
 use Rattle.sqlite_rules.proofs.ListLemmas.{all_has, has_contained, contains_had, has_filtered, has_kept}
 use Rattle.sqlite_value.proofs.OrderLemmas.{value_cmp_total}
 use Rattle.reg_core.specs.Registry.{RowKey}
-use Rattle.reg_tables.specs.declared.evidence.AgainstLine.{AgainstLine}
+use Rattle.reg_tables.specs.declared.evidence.RawAgainst.{RawAgainst}
 use Rattle.reg_tables.specs.TableMaps.{HaveOwnRowids}
-use Rattle.reg_tables.specs.Contents.{version_cmp, against_form, place_cells}
+use Rattle.reg_tables.specs.Contents.{version_cmp, against_form, position_cells}
 use Rattle.reg_tables.specs.Listings.{RowParts, parts_of, entry_parts, Lists, against_entry, against_rows, is_of, ListsAgainst, ListsAgainstOf}
 use Rattle.reg_tables.proofs.KeyedTables.{version_order}
 use Rattle.reg_tables.proofs.ListMembers.{has_mapped, maps_had, has_permuted}
 use Rattle.reg_tables.proofs.ListingLemmas.{same_id, same_id_swaps, apart_if_distinct, distinct_ints, distinct_if_apart, ints_distinct}
 use Rattle.reg_tables.proofs.MapLemmas.{same_key, tied_key, same_or_not}
-use Rattle.reg_tables.proofs.Keys.{distinct_places}
+use Rattle.reg_tables.proofs.Keys.{distinct_positions}
 use Rattle.reg_tables.proofs.VersionIds.{is_of_told}
-use Rattle.reg_rows.specs.Places.{Place, AreCounted, ArePositions}
-use Rattle.reg_store.specs.Inside.Testing.{AreApart, against_fits, place_at, StandInOrder, rowids_in, JudgesVersions}
+use Rattle.reg_rows.specs.Positions.{VersionPosition, IsContiguousFor, AreContiguous}
+use Rattle.reg_store.specs.Inside.Testing.{AreDistinct, against_fits, place_at, ArePositionsInOrder, rowids_in, JudgesVersions}
 use Rattle.reg_store.proofs.TextParts.{mapped-append}
 
 -- ---- members of lists that are joined
@@ -43,7 +43,7 @@ has_back : {X : Type 0} (xs ys : List X) (x : X) → Has ys x → Has (xs ++ ys)
 has_back [] ys x there = there
 has_back (a ∷ xs) ys x there = inr (has_back xs ys x there)
 
-fit_both : (xs ys : List AgainstLine) → AllByRecursion against_fits xs → AllByRecursion against_fits ys → AllByRecursion against_fits (xs ++ ys)
+fit_both : (xs ys : List RawAgainst) → AllByRecursion against_fits xs → AllByRecursion against_fits ys → AllByRecursion against_fits (xs ++ ys)
 fit_both [] ys one two = two
 fit_both (x ∷ xs) ys one two = (one.0, fit_both xs ys one.1 two)
 
@@ -72,55 +72,55 @@ all_rows_are (x ∷ xs) ys up among few =
 -- ---- rows and lines
 
 -- a row has this place
-abbrev pub HasPlace : List Row → Place → Type 0
-HasPlace rows place = (row : Row) × Has rows row × (against_form.key_of row ≡ place_cells place)
+abbrev pub HasPlace : List Row → VersionPosition → Type 0
+HasPlace rows place = (row : Row) × Has rows row × (against_form.key_of row ≡ position_cells place)
 
 -- the places of a version in these rows are counted
 pub record Counted (rows : List Row) (version : RowKey) : Type 0 where
   pub count : ℕ
   pub positions : (position : ℕ) → HasPlace rows (version, position) ↔ ((0 < position) × (position ≤ count))
 
-pub key_is : (row : Row) (line : AgainstLine) → parts_of against_form row ≡ entry_parts against_form (against_entry line) → against_form.key_of row ≡ place_cells (place_at line)
+pub key_is : (row : Row) (line : RawAgainst) → parts_of against_form row ≡ entry_parts against_form (against_entry line) → against_form.key_of row ≡ position_cells (place_at line)
 key_is row line same = ap (λ (p : RowParts). p.1) same
 
-module _ (rows : List Row) (lines : List AgainstLine) (lists : Lists against_form rows (map against_entry lines)) where
+module _ (rows : List Row) (lines : List RawAgainst) (lists : Lists against_form rows (map against_entry lines)) where
   abbrev shown : List RowParts
   shown = map (entry_parts against_form) (map against_entry lines)
 
-  line_of : (row : Row) → Has rows row → (line : AgainstLine) × Has lines line × (parts_of against_form row ≡ entry_parts against_form (against_entry line))
+  line_of : (row : Row) → Has rows row → (line : RawAgainst) × Has lines line × (parts_of against_form row ≡ entry_parts against_form (against_entry line))
   line_of row there =
       let e = has_mapped (entry_parts against_form) (map against_entry lines) (parts_of against_form row) (has_permuted (map (parts_of against_form) rows) shown (parts_of against_form row) lists (maps_had (parts_of against_form) rows row there)) in
       let l = has_mapped against_entry lines e.0 e.1 in
       (l.0, l.1, e.2 ∙ ap (entry_parts against_form) l.2)
 
-  pub row_of : (line : AgainstLine) → Has lines line → (row : Row) × Has rows row × (parts_of against_form row ≡ entry_parts against_form (against_entry line))
-  row_of line there =
+  pub line_row : (line : RawAgainst) → Has lines line → (row : Row) × Has rows row × (parts_of against_form row ≡ entry_parts against_form (against_entry line))
+  line_row line there =
       let entry = entry_parts against_form (against_entry line) in
       let r = has_mapped (parts_of against_form) rows entry (has_permuted shown (map (parts_of against_form) rows) entry (IsPermutation-sym (map (parts_of against_form) rows) shown lists) (maps_had (entry_parts against_form) (map against_entry lines) (against_entry line) (maps_had against_entry lines line there))) in
       (r.0, r.1, sym r.2)
 
-  pub placed : (place : Place) → Contains (map place_at lines) place ↔ HasPlace rows place
+  pub placed : (place : VersionPosition) → Contains (map place_at lines) place ↔ HasPlace rows place
   placed place = (
     λ h.
         (let l = has_mapped place_at lines place (has_contained (map place_at lines) place h) in
-        let r = row_of l.0 l.1 in
-        (r.0, r.1, key_is r.0 l.0 r.2 ∙ ap place_cells (sym l.2))),
+        let r = line_row l.0 l.1 in
+        (r.0, r.1, key_is r.0 l.0 r.2 ∙ ap position_cells (sym l.2))),
     λ h.
         (let l = line_of h.0 h.1 in
-        let same : place_at l.0 ≡ place = distinct_places (place_at l.0) place (sym (key_is h.0 l.0 l.2) ∙ h.2) in
+        let same : place_at l.0 ≡ place = distinct_positions (place_at l.0) place (sym (key_is h.0 l.0 l.2) ∙ h.2) in
         subst (Contains (map place_at lines)) same (contains_had (map place_at lines) (place_at l.0) (maps_had place_at lines l.0 l.1))),
   )
 
-  pub counted_if : (version : RowKey) → AreCounted (map place_at lines) version → Counted rows version
+  pub counted_if : (version : RowKey) → IsContiguousFor (map place_at lines) version → Counted rows version
   counted_if version it = record { count = it.count; positions = λ position. (λ h. (it.positions position).0 ((placed (version, position)).1 h), λ within. (placed (version, position)).0 ((it.positions position).1 within)) }
 
-  pub if_counted : (version : RowKey) → Counted rows version → AreCounted (map place_at lines) version
+  pub if_counted : (version : RowKey) → Counted rows version → IsContiguousFor (map place_at lines) version
   if_counted version it = record { count = it.count; positions = λ position. (λ h. (it.positions position).0 ((placed (version, position)).0 h), λ within. (placed (version, position)).1 ((it.positions position).1 within)) }
 
   lines_rowids : IsPermutation (map rowid rows) (map Int (rowids_in lines))
   lines_rowids =
       let first = λ (p : RowParts). p.0 in
-      subst (IsPermutation (map rowid rows)) (ap (map first) (map-map (entry_parts against_form) against_entry lines) ∙ map-map first (λ (line : AgainstLine). entry_parts against_form (against_entry line)) lines ∙ sym (map-map Int (λ (line : AgainstLine). line.rowid) lines))
+      subst (IsPermutation (map rowid rows)) (ap (map first) (map-map (entry_parts against_form) against_entry lines) ∙ map-map first (λ (line : RawAgainst). entry_parts against_form (against_entry line)) lines ∙ sym (map-map Int (λ (line : RawAgainst). line.rowid) lines))
       (subst (λ l. IsPermutation l (map first shown)) (map-map first (parts_of against_form) rows) (IsPermutation-map first (map (parts_of against_form) rows) shown lists))
 
   pub many_lines : length (rowids_in lines) ≡ length rows
@@ -130,21 +130,21 @@ module _ (rows : List Row) (lines : List AgainstLine) (lists : Lists against_for
       let right = length-map (rowids_in lines) Int in
       omega (arith, same, left, right)
 
-  pub rows_apart : AreApart (rowids_in lines) → IsAscending HaveOwnRowids rows
+  pub rows_apart : AreDistinct (rowids_in lines) → IsAscending HaveOwnRowids rows
   rows_apart apart = apart_if_distinct rows (IsDistinct-IsPermutation same_id same_id_swaps (map Int (rowids_in lines)) (map rowid rows) (IsPermutation-sym (map rowid rows) (map Int (rowids_in lines)) lines_rowids) (distinct_ints (rowids_in lines) apart))
 
-  pub lines_apart : IsAscending HaveOwnRowids rows → AreApart (rowids_in lines)
+  pub lines_apart : IsAscending HaveOwnRowids rows → AreDistinct (rowids_in lines)
   lines_apart up = ints_distinct (rowids_in lines) (IsDistinct-IsPermutation same_id same_id_swaps (map rowid rows) (map Int (rowids_in lines)) lines_rowids (distinct_if_apart rows up))
 
 -- ---- the rows of a version
 
-version_cells_are : (row : Row) (place : Place) → against_form.key_of row ≡ place_cells place → column row 1 ∷ column row 2 ∷ [] ≡ column (place_cells place) 0 ∷ column (place_cells place) 1 ∷ []
+version_cells_are : (row : Row) (place : VersionPosition) → against_form.key_of row ≡ position_cells place → column row 1 ∷ column row 2 ∷ [] ≡ column (position_cells place) 0 ∷ column (position_cells place) 1 ∷ []
 version_cells_are row place is = ap (λ (r : Row). column r 0 ∷ column r 1 ∷ []) is
 
-pub of_itself : (row : Row) (place : Place) → against_form.key_of row ≡ place_cells place → is_of place.0 row ≡ true
+pub of_itself : (row : Row) (place : VersionPosition) → against_form.key_of row ≡ position_cells place → is_of place.0 row ≡ true
 of_itself row place is = is_of_told place.0 row place.0 (version_cells_are row place is) ∙ tied_key version_cmp version_order place.0 place.0 refl
 
-pub of_one : (row : Row) (place : Place) (version : RowKey) → against_form.key_of row ≡ place_cells place → is_of version row ≡ true → place.0 ≡ version
+pub of_one : (row : Row) (place : VersionPosition) (version : RowKey) → against_form.key_of row ≡ position_cells place → is_of version row ≡ true → place.0 ≡ version
 of_one row place version is passes = same_key version_cmp version_order place.0 version (sym (is_of_told version row place.0 (version_cells_are row place is)) ∙ passes)
 
 module _ (rows : List Row) (version : RowKey) where
@@ -161,7 +161,7 @@ module _ (rows : List Row) (version : RowKey) where
   close it = record { count = it.count; positions = λ position. (λ h. (it.positions position).0 (widen position h), λ within. narrow position ((it.positions position).1 within)) }
 
 -- no place of a version is counted
-pub uncounted : (places : List Place) (version : RowKey) → ((position : ℕ) → Contains places (version, position) → ⊥) → AreCounted places version
+pub uncounted : (places : List VersionPosition) (version : RowKey) → ((position : ℕ) → Contains places (version, position) → ⊥) → IsContiguousFor places version
 uncounted places version none = record { count = 0; positions = λ position. (λ h. absurd (none position h), λ within. absurd (let low = within.0 in let high = within.1 in omega (arith, low, high))) }
 
 module _ (db : Database) where
@@ -171,16 +171,16 @@ module _ (db : Database) where
   abbrev pub rows_of : List RowKey → List Row
   rows_of versions = flat_map (λ (version : RowKey). filter (is_of version) rows) versions
 
-  abbrev pub joined : List (List AgainstLine) → List AgainstLine
-  joined = flat_map (λ (lines : List AgainstLine). lines)
+  abbrev pub joined : List (List RawAgainst) → List RawAgainst
+  joined = flat_map (λ (lines : List RawAgainst). lines)
 
-  abbrev pub Parts : List RowKey → List (List AgainstLine) → Type 0
+  abbrev pub Parts : List RowKey → List (List RawAgainst) → Type 0
   Parts = AllZip (λ version lines. ListsAgainstOf version db lines)
 
-  shown-append : (xs ys : List AgainstLine) → map (entry_parts against_form) (map against_entry (xs ++ ys)) ≡ map (entry_parts against_form) (map against_entry xs) ++ map (entry_parts against_form) (map against_entry ys)
+  shown-append : (xs ys : List RawAgainst) → map (entry_parts against_form) (map against_entry (xs ++ ys)) ≡ map (entry_parts against_form) (map against_entry xs) ++ map (entry_parts against_form) (map against_entry ys)
   shown-append xs ys = ap (map (entry_parts against_form)) (mapped-append against_entry xs ys) ∙ mapped-append (entry_parts against_form) (map against_entry xs) (map against_entry ys)
 
-  pub all_listed : (versions : List RowKey) (parts : List (List AgainstLine)) → Parts versions parts → Lists against_form (rows_of versions) (map against_entry (joined parts))
+  pub all_listed : (versions : List RowKey) (parts : List (List RawAgainst)) → Parts versions parts → Lists against_form (rows_of versions) (map against_entry (joined parts))
   all_listed [] [] lists = IsPermutation-refl []
   all_listed [] (lines ∷ parts) lists = absurd lists
   all_listed (version ∷ versions) [] lists = absurd lists
@@ -190,19 +190,19 @@ module _ (db : Database) where
       (map (entry_parts against_form) (map against_entry (joined parts))) lists.0 (all_listed versions parts lists.1))
 
   -- each line is one of a version that was read
-  pub version_read : (versions : List RowKey) (parts : List (List AgainstLine)) → Parts versions parts → (line : AgainstLine) → Has (joined parts) line → Has versions (place_at line).0
+  pub version_read : (versions : List RowKey) (parts : List (List RawAgainst)) → Parts versions parts → (line : RawAgainst) → Has (joined parts) line → Has versions (place_at line).0
   version_read [] [] lists line there = absurd there
   version_read [] (lines ∷ parts) lists line there = absurd lists
   version_read (version ∷ versions) [] lists line there = absurd lists
   version_read (version ∷ versions) (lines ∷ parts) lists line there = elim (has_either lines (joined parts) line there) [
     | inl here ↦
-        let r = row_of (filter (is_of version) rows) lines lists.0 line here in
+        let r = line_row (filter (is_of version) rows) lines lists.0 line here in
         inl (of_one r.0 (place_at line) version (key_is r.0 line r.2) (has_filtered (is_of version) rows r.0 r.1).1)
     | inr later ↦ inr (version_read versions parts lists.1 line later)
   ]
 
   -- what is said of each part is said of the lines of each version that was read
-  part_of : (Q : List AgainstLine → Type 0) (versions : List RowKey) (parts : List (List AgainstLine)) → Parts versions parts → AllByRecursion Q parts → (version : RowKey) → Has versions version → (lines : List AgainstLine) × ListsAgainstOf version db lines × Q lines
+  part_of : (Q : List RawAgainst → Type 0) (versions : List RowKey) (parts : List (List RawAgainst)) → Parts versions parts → AllByRecursion Q parts → (version : RowKey) → Has versions version → (lines : List RawAgainst) × ListsAgainstOf version db lines × Q lines
   part_of Q [] parts lists all version there = absurd there
   part_of Q (first ∷ versions) [] lists all version there = absurd lists
   part_of Q (first ∷ versions) (lines ∷ parts) lists all version (inl is) = (lines, subst (λ v. ListsAgainstOf v db lines) (sym is) lists.0, all.0)
@@ -219,32 +219,32 @@ module _ (db : Database) where
     | inr apart ↦ elim (read_or_not versions version) [ inl later ↦ inl (inr later) | inr none ↦ inr (λ there. elim there [ inl same ↦ apart same | inr later ↦ none later ]) ]
   ]
 
-  fits_joined : (parts : List (List AgainstLine)) → AllByRecursion StandInOrder parts → AllByRecursion against_fits (joined parts)
+  fits_joined : (parts : List (List RawAgainst)) → AllByRecursion ArePositionsInOrder parts → AllByRecursion against_fits (joined parts)
   fits_joined [] all = tt
   fits_joined (lines ∷ parts) all = fit_both lines (joined parts) all.0.0 (fits_joined parts all.1)
 
   module _ (versions : List RowKey) (rowids : List ℤ) (fit : Bool) (it : JudgesVersions versions db rowids fit) where
-    abbrev pub against : List AgainstLine
+    abbrev pub against : List RawAgainst
     against = joined it.parts
 
     -- where the rowids are apart and as many as the rows, the lines are those of all rows
-    pub lists_all : AreApart rowids → length rows ≡ length rowids → ListsAgainst db against
+    pub lists_all : AreDistinct rowids → length rows ≡ length rowids → ListsAgainst db against
     lists_all apart many =
         let listed = all_listed versions it.parts it.lists in
         let long = many_lines (rows_of versions) against listed in
         let same = ap length it.have in
-        let whole = all_rows_are (rows_of versions) rows (rows_apart (rows_of versions) against listed (subst AreApart (sym it.have) apart)) (rows_among versions) (omega (arith, many, long, same)) in
+        let whole = all_rows_are (rows_of versions) rows (rows_apart (rows_of versions) against listed (subst AreDistinct (sym it.have) apart)) (rows_among versions) (omega (arith, many, long, same)) in
         IsPermutation-trans (map (parts_of against_form) rows) (map (parts_of against_form) (rows_of versions)) (map (entry_parts against_form) (map against_entry against)) (IsPermutation-map (parts_of against_form) rows (rows_of versions) whole) listed
 
     -- and they stand in order
-    pub positions_if_fit : ListsAgainst db against → IsTrue fit → ArePositions (map place_at against)
+    pub positions_if_fit : ListsAgainst db against → IsTrue fit → AreContiguous (map place_at against)
     positions_if_fit all sure version = elim (read_or_not versions version) [
       | inl there ↦
-          let part = part_of StandInOrder versions it.parts it.lists (it.judged.0 sure) version there in
+          let part = part_of ArePositionsInOrder versions it.parts it.lists (it.judged.0 sure) version there in
           if_counted rows against all version (wide rows version (counted_if (filter (is_of version) rows) part.0 part.1 version (part.2.1 version)))
       | inr none ↦ uncounted (map place_at against) version (λ position h.
           let l = has_mapped place_at against (version, position) (has_contained (map place_at against) (version, position) h) in
-          none (subst (λ (place : Place). Has versions place.0) (sym l.2) (version_read versions it.parts it.lists l.0 l.1)))
+          none (subst (λ (place : VersionPosition). Has versions place.0) (sym l.2) (version_read versions it.parts it.lists l.0 l.1)))
     ]
 
     pub fits_if_fit : IsTrue fit → AllByRecursion against_fits against

@@ -5,11 +5,11 @@ use Rattle.std.proofs.lemmas.Bool.{and_from, and_parts}
 use Rattle.std.proofs.lemmas.List.{map_more}
 use Rattle.sqlite.specs.Effect.{Database}
 use Rattle.reg_core.specs.Registry.{RowKey}
-use Rattle.reg_tables.specs.declared.evidence.EvidenceLine.{EvidenceLine}
-use Rattle.reg_tables.specs.declared.evidence.AgainstLine.{AgainstLine}
+use Rattle.reg_tables.specs.declared.evidence.RawEvidence.{RawEvidence}
+use Rattle.reg_tables.specs.declared.evidence.RawAgainst.{RawAgainst}
 use Rattle.reg_tables.specs.Listings.{against_rows, greatest_integer, ListsAgainstOf, ListsEvidence}
 use Rattle.reg_store.specs.Spells.{SpellsUnopened}
-use Rattle.reg_store.specs.Inside.Testing.{AreApart, evidence_fits, version_at, StandInOrder, rowids_in, JudgesVersion, JudgesVersions, TellsIds, EvidencePasses, SpellsSome}
+use Rattle.reg_store.specs.Inside.Testing.{AreDistinct, evidence_fits, version_at, ArePositionsInOrder, rowids_in, JudgesVersion, JudgesVersions, JudgesIds, EvidencePasses, SpellsSome}
 use Rattle.reg_store.proofs.PartsPass.{parts_passed, fits, parts_apart, parts_counted, parts_fit}
 use Rattle.reg_store.proofs.TextParts.{mapped-append}
 
@@ -36,32 +36,32 @@ versions_more : (db : Database) (versions : List RowKey) (version : RowKey) (row
 versions_more db versions version rowids added a b it one = record {
   parts = it.parts ++ one.lines ∷ [];
   lists = zip_more (λ version lines. ListsAgainstOf version db lines) versions it.parts version one.lines it.lists one.lists;
-  have = ap rowids_in (joined_more it.parts one.lines) ∙ mapped-append (λ (line : AgainstLine). line.rowid) (flat_map (λ (l : List AgainstLine). l) it.parts) one.lines ∙ (λ i. it.have i ++ one.have i);
+  have = ap rowids_in (joined_more it.parts one.lines) ∙ mapped-append (λ (line : RawAgainst). line.rowid) (flat_map (λ (l : List RawAgainst). l) it.parts) one.lines ∙ (λ i. it.have i ++ one.have i);
   judged =
-      let all = all_more StandInOrder it.parts one.lines in (
+      let all = all_more ArePositionsInOrder it.parts one.lines in (
         λ yes. let both = and_parts a b yes in all.0 (it.judged.0 both.0, one.judged.0 both.1),
         λ every. let both = all.1 every in and_from a b (it.judged.1 both.0) (one.judged.1 both.1),
       );
 }
 
 -- each part of the test
-abbrev pub Passes : List EvidenceLine → List ℤ → Bool → ℕ → Type 0
-Passes evidence rowids fit count = IsTrue fit × (AreApart (map (λ (line : EvidenceLine). line.rowid) evidence) × AllByRecursion evidence_fits evidence) × (length rowids ≡ count) × AreApart rowids
+abbrev pub Passes : List RawEvidence → List ℤ → Bool → ℕ → Type 0
+Passes evidence rowids fit count = IsTrue fit × (AreDistinct (map (λ (line : RawEvidence). line.rowid) evidence) × AllByRecursion evidence_fits evidence) × (length rowids ≡ count) × AreDistinct rowids
 
-module _ (db : Database) (evidence : List EvidenceLine) where
-  pub next_version : (i : ℕ) (line d : EvidenceLine) → i < length evidence → line ≡ get_or evidence i d → (before added after : List ℤ) (a b fit : Bool) → JudgesVersions (map version_at (take i evidence)) db before a
+module _ (db : Database) (evidence : List RawEvidence) where
+  pub next_version : (i : ℕ) (line d : RawEvidence) → i < length evidence → line ≡ get_or evidence i d → (before added after : List ℤ) (a b fit : Bool) → JudgesVersions (map version_at (take i evidence)) db before a
       → (other : Database) → other ≡ db → JudgesVersion (version_at line) other added b
       → after ≡ before ++ added → fit ≡ (a && b) → JudgesVersions (map version_at (take (i + 1) evidence)) db after fit
   next_version i line d within is before added after a b fit it other same one rowids_are fit_is =
       let versions = map version_at (take i evidence) in
       let more = versions_more db versions (version_at line) before added a b it (subst (λ (x : Database). JudgesVersion (version_at line) x added b) same one) in
-      let grown : map version_at (take (i + 1) evidence) ≡ versions ++ version_at line ∷ [] = map_more version_at evidence i d within ∙ ap (λ (l : EvidenceLine). versions ++ version_at l ∷ []) (sym is) in
+      let grown : map version_at (take (i + 1) evidence) ≡ versions ++ version_at line ∷ [] = map_more version_at evidence i d within ∙ ap (λ (l : RawEvidence). versions ++ version_at l ∷ []) (sym is) in
       subst (λ (vs : List RowKey). JudgesVersions vs db after fit) (sym grown)
       (subst (λ (ids : List ℤ). JudgesVersions (versions ++ version_at line ∷ []) db ids fit) (sym rowids_are) (subst (JudgesVersions (versions ++ version_at line ∷ []) db (before ++ added)) (sym fit_is) more))
 
   -- ---- the verdict
 
-  module _ (lists : ListsEvidence db evidence) (rowids : List ℤ) (fit : Bool) (count : ℕ) (it : TellsIds (map version_at evidence) db rowids fit count) (few : length rowids < greatest_integer) where
+  module _ (lists : ListsEvidence db evidence) (rowids : List ℤ) (fit : Bool) (count : ℕ) (it : JudgesIds (map version_at evidence) db rowids fit count) (few : length rowids < greatest_integer) where
     pub all_passed : Passes evidence rowids fit count → EvidencePasses db
     all_passed p =
         let many : length (against_rows db) ≡ length rowids = (let same = p.2 in let counted = it.counted in omega (arith, same, counted, few)) in

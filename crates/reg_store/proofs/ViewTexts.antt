@@ -12,7 +12,7 @@ use Rattle.reg_core.specs.declared.command.Command.TheVariants.{SetGlobal, SetLe
 use Rattle.reg_core.specs.declared.decision.View.{View}
 use Rattle.reg_core.specs.Registry.{Registry, IsRegistry, Row, Schemas}
 use Rattle.reg_core.specs.Rows.{id_of, text_at}
-use Rattle.reg_core.specs.Views.{IsViewOf, rows_read}
+use Rattle.reg_core.specs.Views.{IsViewOf, rows_to_read}
 use Rattle.reg_core.proofs.IdLemmas.{text_within, text_there as id_has_text, text_at-schema, id_of-text_at, id_of-no_text}
 use Rattle.reg_tables.specs.Contents.{Contents}
 use Rattle.reg_tables.proofs.MapLemmas.{same_or_not, other_key}
@@ -126,7 +126,7 @@ abbrev with_texts : View → Texts → View
 with_texts view texts = record view { texts = texts }
 
 -- the versions whose schemas are read don't depend on the texts
-reads_same : (command : Command) (view : View) (texts : Texts) → rows_read command (with_texts view texts) ≡ rows_read command view
+reads_same : (command : Command) (view : View) (texts : Texts) → rows_to_read command (with_texts view texts) ≡ rows_to_read command view
 reads_same (SetGlobal level) view texts = refl
 reads_same (SetLevel subject level) view texts = refl
 reads_same (Register subject text supported) view texts = refl
@@ -149,7 +149,7 @@ reads_same (SetMode subject mode) view texts = refl
 reads_same GlobalMode view texts = refl
 reads_same (ModeOf subject default_to_global) view texts = refl
 
-pub whole_view : (view : View) (texts : Texts) (g : Registry) (command : Command) (ids : List ℕ) → IsViewButTexts view g command → ids ≡ map (λ (row : Row). row.1.id) (rows_read command view)
+pub whole_view : (view : View) (texts : Texts) (g : Registry) (command : Command) (ids : List ℕ) → IsViewButTexts view g command → ids ≡ map (λ (row : Row). row.1.id) (rows_to_read command view)
     → All (HasText texts g.schemas) ids → AreTrueTexts texts g.schemas → IsViewOf (with_texts view texts) g command
 whole_view view texts g command ids shows is all true_texts = record {
   rows = shows.rows;
@@ -157,6 +157,6 @@ whole_view view texts g command ids shows is all true_texts = record {
   modes = shows.modes;
   known = shows.known;
   count = shows.count;
-  texts = subst (All (λ (row : Row). HasText texts g.schemas row.1.id)) (sym (reads_same command view texts)) (All-mapped (HasText texts g.schemas) (λ (row : Row). row.1.id) (rows_read command view) (subst (All (HasText texts g.schemas)) is all));
+  texts = subst (All (λ (row : Row). HasText texts g.schemas row.1.id)) (sym (reads_same command view texts)) (All-mapped (HasText texts g.schemas) (λ (row : Row). row.1.id) (rows_to_read command view) (subst (All (HasText texts g.schemas)) is all));
   true_texts = true_texts;
 }

@@ -10,13 +10,13 @@ use Rattle.sqlite.specs.Held.{Held, state}
 use Rattle.sqlite_trees.specs.declared.store.Store.{Ghosts}
 use Rattle.reg_core.specs.declared.decision.Change.{Change}
 use Rattle.reg_core.specs.Views.{ChangeFits}
-use Rattle.reg_tables.specs.Writing.{WhereHeld}
+use Rattle.reg_tables.specs.Writing.{ForHeldContents}
 use Rattle.reg_tables.specs.FailedCalls.{IsWriteFault, IsInsertFault}
 use Rattle.reg_store.specs.declared.error.StoreError.{StoreError}
 use Rattle.reg_store.specs.declared.keep.Keep.{Keep}
 use Rattle.reg_core.specs.Stored.{Stored}
-use Rattle.reg_store.specs.Spells.{row_of, Spells, SpellsWhileOpen}
-use Rattle.reg_store.specs.Changes.{SpellsInside, GoesOn}
+use Rattle.reg_store.specs.Spells.{stored_reply, Spells, SpellsWhileOpen}
+use Rattle.reg_store.specs.Changes.{SpellsInTransaction, TransactionContinues}
 use Rattle.reg_store.specs.Inside.Making.{IsFaultOfChange, IsFaultOfReply}
 use Rattle.reg_store.specs.Failures.{failure_of, is_fault, IsFaultBy}
 use Rattle.reg_store.proofs.Failing.{fault_by, fault_if_by, by_until}
@@ -40,7 +40,7 @@ nonempty [] some = absurd (some refl)
 nonempty (x ∷ xs) some = omega arith
 
 -- a later change fails as one at the start does, since the transaction goes on
-pub fault_later : (first later new : State) → Survives first later (λ _. ⊥) → HasCleanDisk later → later.faults ≤ new.faults → GoesOn first later → (e : Error) → IsInsertFault later new e → IsInsertFault first new e
+pub fault_later : (first later new : State) → Survives first later (λ _. ⊥) → HasCleanDisk later → later.faults ≤ new.faults → TransactionContinues first later → (e : Error) → IsInsertFault later new e → IsInsertFault first new e
 fault_later first later new s clean up goes e (inl (inl (inl (inl store)))) = inl (inl (inl (inl (store.0, store.1, reason_by later new first new (fault_since first later new (s.closes clean) s.counts up) store.0 store.2))))
 fault_later first later new s clean up goes e (inl (inl (inl (inr stopped)))) = inl (inl (inl (inr (stopped.0, subst IsSome s.limit stopped.1))))
 fault_later first later new s clean up goes e (inl (inl (inr late))) = inl (inl (inr (late.0, goes late.1)))
@@ -67,14 +67,14 @@ module _ (s new : State) (e : Error) (shut : IsTrue s.is_open ⊎ IsWriteFault s
   pub fault_of_change : (change : Change) → ((was : Stored) → Spells s.now was → ChangeFits change was.registry → IsInsertFault s new e) → IsFaultOfChange s new change e
   fault_of_change change fails was spells fits = elim shut [ inl is_open ↦ fails was (spells is_open) fits | inr fault ↦ inl (inl fault) ]
 
-  pub fault_of_reply : (keep : Keep) → WhereHeld s (λ contents. get contents.kept keep.key.now ≡ None → IsInsertFault s new e) → IsFaultOfReply s new (Some keep) e
+  pub fault_of_reply : (keep : Keep) → ForHeldContents s (λ contents. get contents.kept keep.key.now ≡ None → IsInsertFault s new e) → IsFaultOfReply s new (Some keep) e
   fault_of_reply keep fails was spells fresh = elim shut [
-    | inl is_open ↦ let it = spells is_open in fails it.schema it.known it.contents it.holds (it.spelled.base.kept keep.key.now ∙ ap (option_map row_of) fresh)
+    | inl is_open ↦ let it = spells is_open in fails it.schema it.known it.contents it.holds (it.spelled.base.kept keep.key.now ∙ ap (option_map stored_reply) fresh)
     | inr fault ↦ inl (inl fault)
   ]
 
 -- a transaction that was begun shows what the connection did
-pub begun_spells : {S : Type 0} (g : Ghosts S) (conn begun : Held S) → begun ≡ record conn { in_transaction = true } → (was : Stored) → SpellsWhileOpen (state g conn) was → SpellsInside (state g begun) was
+pub begun_spells : {S : Type 0} (g : Ghosts S) (conn begun : Held S) → begun ≡ record conn { in_transaction = true } → (was : Stored) → SpellsWhileOpen (state g conn) was → SpellsInTransaction (state g begun) was
 begun_spells g conn begun is was over is_open =
     subst (λ h. Spells (state g h).now was) (sym is) (over (subst (λ h. IsTrue (state g h).is_open) is is_open)).spells
 
@@ -83,5 +83,5 @@ module _ {S : Type 0} (g : Ghosts S) (conn begun last : Held S) (end : Held S) (
   pub of_call : IsFaultBy (state g begun) (state g last) e → IsFaultBy (state g conn) (state g end) e
   of_call h = subst (λ b. IsFaultBy (state g b) (state g end) e) is (by_until (state g begun) (state g last) (state g end) up e h)
 
-pub still_inside : (a b : State) → IsTrue a.in_transaction → GoesOn a b → IsTrue b.in_transaction
+pub still_inside : (a b : State) → IsTrue a.in_transaction → TransactionContinues a b → IsTrue b.in_transaction
 still_inside a b inside goes = elim (cases_Bool b.in_transaction) [ inl it ↦ it | inr ended ↦ absurd (both_ways _ (goes ended) inside) ]

@@ -7,17 +7,17 @@ use Rattle.reg_core.specs.Replies.{IsKeptStatus}
 use Rattle.reg_core.specs.Stored.{Stored, HasTrueEvidence}
 use Rattle.reg_core.specs.Views.{ChangesFit, after_changes, evidence_after_changes}
 use Rattle.reg_store.specs.declared.keep.Keep.{Keep}
-use Rattle.reg_core.specs.KeptReplies.{Entry, Kept, kept_with}
-use Rattle.reg_store.specs.Spells.{Spells, Leaves, SpellsWhileOpen}
+use Rattle.reg_core.specs.KeptReplies.{KeptEntry, Kept, kept_with}
+use Rattle.reg_store.specs.Spells.{Spells, RecoversTo, SpellsWhileOpen}
 
 -- this project's choice: what is kept of a command and its reply
-abbrev pub entry_of : Keep → Entry
-entry_of keep = record { command = keep.command.now; reply = keep.reply.now }
+abbrev pub keep_entry : Keep → KeptEntry
+keep_entry keep = record { command = keep.command.now; reply = keep.reply.now }
 
 -- this project's choice: the kept replies with one more, if there is one to keep
 abbrev pub with_reply : Option Keep → Kept → Kept
 with_reply None k = k
-with_reply (Some keep) k = kept_with k keep.key.now (entry_of keep)
+with_reply (Some keep) k = kept_with k keep.key.now (keep_entry keep)
 
 -- this project's choice: nothing is kept under the key yet
 abbrev pub IsNewTo : Kept → Option Keep → Type 0
@@ -29,39 +29,39 @@ abbrev pub IsKeepable : Keep → Type 0
 IsKeepable keep = IsKeptStatus keep.reply.now.status
 
 -- this project's choice: there is a change to make, or a reply to keep
-abbrev pub ActsOn : List Change → Option Keep → Type 0
-ActsOn changes keep = (changes ≢ []) ⊎ IsSome keep
+abbrev pub HasWork : List Change → Option Keep → Type 0
+HasWork changes keep = (changes ≢ []) ⊎ IsSome keep
 
 -- this project's choice: what is stored can take the changes, each at its turn, and the reply
-pub record CanTake (changes : List Change) (keep : Option Keep) (was : Stored) : Type 0 where
+pub record CanApply (changes : List Change) (keep : Option Keep) (was : Stored) : Type 0 where
   pub fit : ChangesFit changes was.registry
   pub fresh : IsNewTo was.replies keep
 
 -- this project's choice: what is stored after the changes: the registry and what its versions were admitted by become others
-abbrev pub made_of : List Change → Stored → Stored
-made_of changes was = record was { registry = after_changes changes was.registry; evidence = evidence_after_changes changes was.evidence }
+abbrev pub stored_after_changes : List Change → Stored → Stored
+stored_after_changes changes was = record was { registry = after_changes changes was.registry; evidence = evidence_after_changes changes was.evidence }
 
 -- this project's choice: what is stored after the changes, where the reply is kept with them
-abbrev pub stored_after : List Change → Option Keep → Stored → Stored
-stored_after changes keep was = record (made_of changes was) { replies = with_reply keep was.replies }
+abbrev pub stored_after_apply : List Change → Option Keep → Stored → Stored
+stored_after_apply changes keep was = record (stored_after_changes changes was) { replies = with_reply keep was.replies }
 
 -- this project's choice: this is so of whatever the connection is open over, if it is, and can take the changes and the reply
-abbrev pub WhereTaken : State → List Change → Option Keep → (Stored → Type 0) → Type 0
-WhereTaken s changes keep P = (was : Stored) → SpellsWhileOpen s was → CanTake changes keep was → P was
+abbrev pub WhenApplicable : State → List Change → Option Keep → (Stored → Type 0) → Type 0
+WhenApplicable s changes keep P = (was : Stored) → SpellsWhileOpen s was → CanApply changes keep was → P was
 
 -- this project's choice: so it holds of what is stored after the changes and the reply, where the evidence of versions is true if it was
-pub record IsTaken (changes : List Change) (keep : Option Keep) (was : Stored) (Holds : Stored → Type 0) : Type 0 where
-  pub holds : Holds (stored_after changes keep was)
-  pub stays_true : HasTrueEvidence was → HasTrueEvidence (stored_after changes keep was)
+pub record HoldsAfterChanges (changes : List Change) (keep : Option Keep) (was : Stored) (Holds : Stored → Type 0) : Type 0 where
+  pub holds : Holds (stored_after_apply changes keep was)
+  pub stays_true : HasTrueEvidence was → HasTrueEvidence (stored_after_apply changes keep was)
 
 -- SQLite, transactions: a crash leaves what is stored after them, or a database that it left before; and that spells what was stored, if the connection was open
-abbrev pub LeavesEither : State → State → List Change → Option Keep → Stored → Type 0
-LeavesEither old new changes keep was = (db : Trees) → new.may_leave db → (old.may_leave db × (IsTrue old.is_open → Leaves db was)) ⊎ IsTaken changes keep was (Leaves db)
+abbrev pub RecoversToEither : State → State → List Change → Option Keep → Stored → Type 0
+RecoversToEither old new changes keep was = (db : Trees) → new.may_leave db → (old.may_leave db × (IsTrue old.is_open → RecoversTo db was)) ⊎ HoldsAfterChanges changes keep was (RecoversTo db)
 
 -- inside a transaction: as long as the connection is open, its tables spell what is stored
-abbrev pub SpellsInside : State → Stored → Type 0
-SpellsInside s was = IsTrue s.is_open → Spells s.now was
+abbrev pub SpellsInTransaction : State → Stored → Type 0
+SpellsInTransaction s was = IsTrue s.is_open → Spells s.now was
 
 -- only a transaction that had ended before ended
-abbrev pub GoesOn : State → State → Type 0
-GoesOn old new = new.in_transaction ≡ false → old.in_transaction ≡ false
+abbrev pub TransactionContinues : State → State → Type 0
+TransactionContinues old new = new.in_transaction ≡ false → old.in_transaction ≡ false

@@ -37,15 +37,15 @@ IsFaultBy old new Disk = HasDiskFault old new
 IsFaultBy old new _ = ⊥
 
 -- this project's choice: if the error is `Disk`, a disk fault is the cause
-abbrev pub IsTold : State → State → StoreError → Type 0
-IsTold old new Disk = HasDiskFault old new
-IsTold old new _ = Unit {0}
+abbrev pub HasDiskCause : State → State → StoreError → Type 0
+HasDiskCause old new Disk = HasDiskFault old new
+HasDiskCause old new _ = Unit {0}
 
 -- this project's choice: the error has no layout number
-abbrev pub IsNumberless : StoreError → Type 0
-IsNumberless (OldLayout number) = ⊥
-IsNumberless (NewerLayout number) = ⊥
-IsNumberless _ = Unit {0}
+abbrev pub HasNoLayoutNumber : StoreError → Type 0
+HasNoLayoutNumber (OldLayout number) = ⊥
+HasNoLayoutNumber (NewerLayout number) = ⊥
+HasNoLayoutNumber _ = Unit {0}
 
 -- this project's choice: if the tables spell a registry, only memory or the disk fails
 abbrev pub IsFaultOver : State → State → StoreError → Type 0

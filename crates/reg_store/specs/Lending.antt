@@ -4,7 +4,7 @@ use Rattle.std.specs.Borrow.{Fml, RattleType, MutBor, RestsIfErr}
 use Rattle.sqlite_trees.specs.declared.store.Store.{Ghosts}
 use Rattle.reg_store.specs.declared.error.StoreError.{StoreError}
 use Rattle.reg_store.specs.declared.store.Store.{Store}
-use Rattle.reg_store.specs.declared.store.lent.Lines.{Lines}
+use Rattle.reg_store.specs.declared.store.line_iterator.Lines.{Lines}
 use Rattle.reg_store.specs.contracts.store.Store as store
 
 module _ (S : RattleType) (g : Ghosts S.Denot) where

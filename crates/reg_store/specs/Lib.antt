@@ -2,9 +2,9 @@ pub mod Spells
 pub mod Changes
 pub mod Opening
 pub mod Failures
-pub mod UnopenedFaults
+pub mod OpenFailures
 pub mod Stores
 pub mod Inside
 pub mod Listings
-pub mod Handing
+pub mod NextLines
 pub mod Lending

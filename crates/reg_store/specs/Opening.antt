@@ -4,15 +4,15 @@ use Rattle.sqlite.specs.Order.{Row}
 use Rattle.sqlite.specs.Tree.{Trees}
 use Rattle.sqlite.specs.Effect.{Database}
 use Rattle.sqlite.specs.State.{State}
-use Rattle.reg_tables.specs.declared.text_lines.TextLine.{TextLine}
-use Rattle.reg_tables.specs.declared.versions.VersionLine.{VersionLine}
-use Rattle.reg_tables.specs.declared.levels.LevelLine.{LevelLine}
-use Rattle.reg_tables.specs.declared.kept.KeptLine.{KeptLine}
-use Rattle.reg_tables.specs.declared.meta.MetaLine.{MetaLine}
+use Rattle.reg_tables.specs.declared.raw_texts.RawText.{RawText}
+use Rattle.reg_tables.specs.declared.versions.RawVersion.{RawVersion}
+use Rattle.reg_tables.specs.declared.levels.RawLevel.{RawLevel}
+use Rattle.reg_tables.specs.declared.kept.RawKept.{RawKept}
+use Rattle.reg_tables.specs.declared.meta.RawMeta.{RawMeta}
 use Rattle.sqlite_rules.specs.Lists.{Has}
 use Rattle.reg_tables.specs.Layout.{HasFiveTables, versions, meta, IsOpenable, layout_two_unindexed, layout_two_indexed_last}
 use Rattle.reg_tables.specs.TableMaps.{IsEntry}
-use Rattle.reg_tables.specs.Contents.{pair_form, Contents, HoldsIn}
+use Rattle.reg_tables.specs.Contents.{pair_form, Contents, HoldsContents}
 use Rattle.reg_tables.specs.Reads.{HoldsMeta}
 use Rattle.reg_tables.specs.Selects.{ShowsMeta}
 use Rattle.reg_rows.specs.Spelling.{Text}
@@ -21,36 +21,36 @@ use Rattle.reg_core.specs.Stored.{Stored}
 use Rattle.reg_store.specs.declared.error.StoreError.{StoreError}
 use Rattle.reg_store.specs.declared.error.StoreError.TheVariants.{OldLayout, NewerLayout}
 use Rattle.reg_store.specs.Failures.{is_fault}
-use Rattle.reg_store.specs.Spells.{IsSpelledLayoutTwo, SpellsLayoutOne, SpellsUnopened, LeavesIn, IsOpenOver}
+use Rattle.reg_store.specs.Spells.{IsSpelledLayoutTwo, SpellsLayoutOne, SpellsUnopened, RecoversToIn, IsOpenOver}
 
 -- ---- rows
 
-abbrev pub text_shown : TextLine → ℕ × Text
-text_shown line = (line.id, line.text)
+abbrev pub text_columns : RawText → ℕ × Text
+text_columns line = (line.id, line.text)
 
-abbrev pub version_shown : VersionLine → Text × ℕ × ℕ × Bool
-version_shown line = (line.subject, line.version, line.id, line.deleted)
+abbrev pub version_columns : RawVersion → Text × ℕ × ℕ × Bool
+version_columns line = (line.subject, line.version, line.id, line.deleted)
 
-abbrev pub level_shown : LevelLine → Text × Text
-level_shown line = (line.subject, line.level)
+abbrev pub level_columns : RawLevel → Text × Text
+level_columns line = (line.subject, line.level)
 
-abbrev pub kept_shown : KeptLine → Text × Text × ℕ × Text
-kept_shown line = (line.key, line.reply.command, line.reply.status, line.reply.body)
+abbrev pub kept_columns : RawKept → Text × Text × ℕ × Text
+kept_columns line = (line.key, line.reply.command, line.reply.status, line.reply.body)
 
-abbrev pub meta_shown : MetaLine → Text × Text
-meta_shown line = (line.name, line.value)
+abbrev pub meta_columns : RawMeta → Text × Text
+meta_columns line = (line.name, line.value)
 
 -- ---- databases
 
 -- one of the rows has this name and this value
-abbrev pub Says : List Row → List ℕ → List ℕ → Type 0
-Says rows name value = (row : Row) × Has rows row × IsEntry pair_form row name value
+abbrev pub HasMetaRow : List Row → List ℕ → List ℕ → Type 0
+HasMetaRow rows name value = (row : Row) × Has rows row × IsEntry pair_form row name value
 
 -- this project's choice: the rows name the format `avroreg` and a layout of this number
 pub record RowsNameLayout (rows : List Row) (number : ℕ) : Type 0 where
-  pub format : Says rows (codes "format") (codes "avroreg")
+  pub format : HasMetaRow rows (codes "format") (codes "avroreg")
   pub text : List ℕ
-  pub layout : Says rows (codes "layout") text
+  pub layout : HasMetaRow rows (codes "layout") text
   pub is : number_in text ≡ Some number
 
 -- in a database that begins with the five tables, the rows of `meta` do
@@ -64,31 +64,31 @@ pub record ShowsLayout (db : Database) (number : ℕ) : Type 0 where
   pub names : RowsNameLayout rows number
 
 -- the database begins with the five tables, and the rows of `meta` can be read and name a layout with another number
-pub record HasOther (own : ℕ) (db : Database) (number : ℕ) : Type 0 where
+pub record HasOtherLayout (own : ℕ) (db : Database) (number : ℕ) : Type 0 where
   pub holds : HoldsMeta db
   pub names : NamesLayout db number
   pub other : number ≢ own
 
 -- this project's choice: the error for a layout with another number
-abbrev pub refusal_of : ℕ → ℕ → StoreError
-refusal_of own number = if nat_lt number own then OldLayout number else NewerLayout number
+abbrev pub layout_error : ℕ → ℕ → StoreError
+layout_error own number = if nat_lt number own then OldLayout number else NewerLayout number
 
 -- an error with a number has the number from the rows of `meta`, and the layout is older or newer than this one
-abbrev pub IsRefusedAs : ℕ → Database → StoreError → Type 0
-IsRefusedAs own db (OldLayout number) = (0 < number) × (number < own) × ShowsLayout db number × (HasFiveTables db.schema → NamesLayout db number)
-IsRefusedAs own db (NewerLayout number) = (own < number) × ShowsLayout db number × (HasFiveTables db.schema → NamesLayout db number)
-IsRefusedAs own db _ = Unit {0}
+abbrev pub HasMetaNumberOf : ℕ → Database → StoreError → Type 0
+HasMetaNumberOf own db (OldLayout number) = (0 < number) × (number < own) × ShowsLayout db number × (HasFiveTables db.schema → NamesLayout db number)
+HasMetaNumberOf own db (NewerLayout number) = (own < number) × ShowsLayout db number × (HasFiveTables db.schema → NamesLayout db number)
+HasMetaNumberOf own db _ = Unit {0}
 
 -- if `meta` names another layout, the error has its number, or memory or the disk failed
-abbrev pub TellsOther : ℕ → State → StoreError → Type 0
-TellsOther own s e = (number : ℕ) → IsTrue s.is_open → HasOther own s.now number → (e ≡ refusal_of own number) ⊎ IsTrue (is_fault e)
+abbrev pub ReportsOther : ℕ → State → StoreError → Type 0
+ReportsOther own s e = (number : ℕ) → IsTrue s.is_open → HasOtherLayout own s.now number → (e ≡ layout_error own number) ⊎ IsTrue (is_fault e)
 
 -- this project's choice: stores open layout 2
-abbrev pub IsRefusedBy : Database → StoreError → Type 0
-IsRefusedBy = IsRefusedAs 2
+abbrev pub HasMetaNumber : Database → StoreError → Type 0
+HasMetaNumber = HasMetaNumberOf 2
 
-abbrev pub TellsLayout : State → StoreError → Type 0
-TellsLayout = TellsOther 2
+abbrev pub ReportsLayout : State → StoreError → Type 0
+ReportsLayout = ReportsOther 2
 
 -- the tables of layout 2 spell a registry and lack the index
 pub record LacksIndex (db : Database) : Type 0 where
@@ -99,15 +99,15 @@ pub record LacksIndex (db : Database) : Type 0 where
 -- the tables lacked the index, and the trees are the same tables with the index
 pub record IsIndexed (before : Database) (db : Trees) : Type 0 where
   pub found : LacksIndex before
-  pub indexed : (held : Contents) → HoldsIn layout_two_unindexed before held → HoldsIn layout_two_indexed_last (record { schema = layout_two_indexed_last; trees = db }) held
+  pub indexed : (held : Contents) → HoldsContents layout_two_unindexed before held → HoldsContents layout_two_indexed_last (record { schema = layout_two_indexed_last; trees = db }) held
 
 -- the trees spell what is stored, with or without the index
-abbrev pub LeavesUnopened : Trees → Stored → Type 0
-LeavesUnopened = LeavesIn IsOpenable IsSpelledLayoutTwo
+abbrev pub RecoversToUnopened : Trees → Stored → Type 0
+RecoversToUnopened = RecoversToIn IsOpenable IsSpelledLayoutTwo
 
 -- this project's choice: a crash leaves what the tables of the open connection spelled
-abbrev pub LosesNothing : State → State → Type 0
-LosesNothing old new = IsTrue old.is_open → (was : Stored) → SpellsUnopened old.now was → (db : Trees) → new.may_leave db → LeavesUnopened db was
+abbrev pub CrashKeepsStored : State → State → Type 0
+CrashKeepsStored old new = IsTrue old.is_open → (was : Stored) → SpellsUnopened old.now was → (db : Trees) → new.may_leave db → RecoversToUnopened db was
 
 -- the tables spelled what is stored, and the connection is open and its last commit spells the same
 pub record OpensOver (old new : State) : Type 0 where

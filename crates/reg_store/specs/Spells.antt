@@ -16,23 +16,23 @@ use Rattle.reg_core.specs.Keys.{IsKey}
 use Rattle.reg_core.specs.Subjects.{is_subject}
 use Rattle.reg_core.specs.Replies.{IsKeptStatus}
 use Rattle.reg_core.specs.Registry.{RowKey, Version, Registry, IsRegistry, schema_at}
-use Rattle.reg_core.specs.Evidence.{Evidence, EvidenceOf}
+use Rattle.reg_core.specs.Evidence.{Evidence, EvidenceMap}
 use Rattle.reg_core.specs.Stored.{Stored}
 use Rattle.reg_tables.specs.Layout.{IsLayoutOne, IsLayoutTwo, IsOpenable}
-use Rattle.reg_tables.specs.Contents.{TextMap, VersionRow, KeptRow, Contents, HoldsIn, PlaceKey}
-use Rattle.reg_tables.specs.Changes.{meta_as, meta_of}
-use Rattle.reg_core.specs.KeptReplies.{Entry, Kept}
+use Rattle.reg_tables.specs.Contents.{TextMap, VersionEntryView, KeptReplyView, Contents, HoldsContents, PositionKey}
+use Rattle.reg_tables.specs.Changes.{meta_of_layout, meta_of_layout_one}
+use Rattle.reg_core.specs.KeptReplies.{KeptEntry, Kept}
 
 -- this project's choice: a row of `kept` has the command's text, and the status and the body of its reply
-abbrev pub row_of : Entry → KeptRow
-row_of entry = record { command = entry.command; status = entry.reply.status; body = entry.reply.body }
+abbrev pub stored_reply : KeptEntry → KeptReplyView
+stored_reply entry = record { command = entry.command; status = entry.reply.status; body = entry.reply.body }
 
 -- this project's choice: a row of `versions` has the version's id, and whether it is soft-deleted
-abbrev pub stored_version : Version → VersionRow
+abbrev pub stored_version : Version → VersionEntryView
 stored_version version = record { id = version.id; deleted = version.deleted }
 
 -- this project's choice: a retry key, the status of a reply that is kept, and two texts
-pub record CanBeKept (key : List ℕ) (entry : Entry) : Type 0 where
+pub record CanBeKept (key : List ℕ) (entry : KeptEntry) : Type 0 where
   pub is_key : IsKey key
   pub status : IsKeptStatus entry.reply.status
   pub text : IsUtf8 entry.command
@@ -49,8 +49,8 @@ pub record IsSpelled (contents : Contents) (g : Registry) (k : Kept) : Type 0 wh
   pub registered : (key : RowKey) (version : Version) → get g.rows key ≡ Some version → IsTrue (is_subject key.0)
   pub levels : (subject : List ℕ) → get contents.levels subject ≡ option_map level_text (g.own subject)
   pub subjects : (subject : List ℕ) (level : Level) → g.own subject ≡ Some level → IsTrue (is_subject subject)
-  pub kept : (key : List ℕ) → get contents.kept key ≡ option_map row_of (k key)
-  pub keys : (key : List ℕ) (entry : Entry) → k key ≡ Some entry → CanBeKept key entry
+  pub kept : (key : List ℕ) → get contents.kept key ≡ option_map stored_reply (k key)
+  pub keys : (key : List ℕ) (entry : KeptEntry) → k key ≡ Some entry → CanBeKept key entry
 
 -- ---- layout 1
 
@@ -63,7 +63,7 @@ pub record HasNoModes (g : Registry) : Type 0 where
 pub record IsSpelledLayoutOne (contents : Contents) (was : Stored) : Type 0 where
   pub base : IsSpelled contents was.registry was.replies
   -- the format, the layout and the global level, and no more
-  pub meta : contents.meta ≡ meta_of (level_text was.registry.global)
+  pub meta : contents.meta ≡ meta_of_layout_one (level_text was.registry.global)
   -- layout 1 has no place for modes, and none for evidence
   pub modes : HasNoModes was.registry
   pub evidence : was.evidence ≡ empty
@@ -72,7 +72,7 @@ pub record IsSpelledLayoutOne (contents : Contents) (was : Stored) : Type 0 wher
 
 -- this project's choice: the rows of `meta` in layout 2 are the format, the layout, the global level and the global mode
 abbrev pub layout_two_meta : List ℕ → List ℕ → TextMap (List ℕ)
-layout_two_meta level mode = insert (meta_as (codes "2") level) (codes "mode") mode
+layout_two_meta level mode = insert (meta_of_layout (codes "2") level) (codes "mode") mode
 
 -- this project's choice: the id at a position, counted from 1, of those that a version was tested against
 abbrev pub id_at : ℕ → Evidence → Option ℕ
@@ -80,9 +80,9 @@ id_at zero one = None
 id_at (suc n) one = slice_get one.against n
 
 -- this project's choice: the level's text, and the ids at the positions from 1 to their count, spell the evidence of a version
-pub record IsSpelledEvidence (contents : Contents) (evidence : EvidenceOf) : Type 0 where
+pub record IsSpelledEvidence (contents : Contents) (evidence : EvidenceMap) : Type 0 where
   pub levels : (key : RowKey) → get contents.evidence key ≡ option_map (λ one. level_text one.level) (get evidence key)
-  pub ids : (place : PlaceKey) → get contents.against place ≡ option_and_then (id_at place.1) (get evidence place.0)
+  pub ids : (place : PositionKey) → get contents.against place ≡ option_and_then (id_at place.1) (get evidence place.0)
   pub few : (key : RowKey) (one : Evidence) → get evidence key ≡ Some one → length one.against < 2 ^ 32
 
 -- this project's choice: the contents of layout 2 spell what is stored
@@ -96,11 +96,11 @@ pub record IsSpelledLayoutTwo (contents : Contents) (was : Stored) : Type 0 wher
 -- ---- databases
 
 -- this project's choice: the database has one of these schemas, and its tables hold contents that spell what is stored so
-pub record SpellsIn (Known : Schema → Type 0) (Spelled : Contents → Stored → Type 0) (db : Database) (was : Stored) : Type 0 where
+pub record SpellsIn (IsAllowed : Schema → Type 0) (Spelled : Contents → Stored → Type 0) (db : Database) (was : Stored) : Type 0 where
   pub schema : Schema
-  pub known : Known schema
+  pub known : IsAllowed schema
   pub contents : Contents
-  pub holds : HoldsIn schema db contents
+  pub holds : HoldsContents schema db contents
   pub spelled : Spelled contents was
 
 -- this project's choice: the tables are those of layout 2 and spell what is stored
@@ -116,17 +116,17 @@ abbrev pub SpellsLayoutOne : Database → Stored → Type 0
 SpellsLayoutOne = SpellsIn IsLayoutOne IsSpelledLayoutOne
 
 -- this project's choice: a crash leaves the tables of one of these schemas, and they spell what is stored so
-pub record LeavesIn (Known : Schema → Type 0) (Spelled : Contents → Stored → Type 0) (db : Trees) (was : Stored) : Type 0 where
+pub record RecoversToIn (IsAllowed : Schema → Type 0) (Spelled : Contents → Stored → Type 0) (db : Trees) (was : Stored) : Type 0 where
   pub schema : Schema
-  pub spells : SpellsIn Known Spelled (record { schema = schema; trees = db }) was
+  pub spells : SpellsIn IsAllowed Spelled (record { schema = schema; trees = db }) was
 
 -- this project's choice: a crash leaves the tables of layout 2, and they spell what is stored
-abbrev pub Leaves : Trees → Stored → Type 0
-Leaves = LeavesIn IsLayoutTwo IsSpelledLayoutTwo
+abbrev pub RecoversTo : Trees → Stored → Type 0
+RecoversTo = RecoversToIn IsLayoutTwo IsSpelledLayoutTwo
 
 -- this project's choice: the same for layout 1
-abbrev pub LeavesLayoutOne : Trees → Stored → Type 0
-LeavesLayoutOne = LeavesIn IsLayoutOne IsSpelledLayoutOne
+abbrev pub RecoversToLayoutOne : Trees → Stored → Type 0
+RecoversToLayoutOne = RecoversToIn IsLayoutOne IsSpelledLayoutOne
 
 -- ---- connections
 

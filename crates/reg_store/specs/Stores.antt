@@ -27,38 +27,38 @@ abbrev pub has_failed : {S : Type 0} {g : Ghosts S} → Store S g → Bool
 has_failed store = store.failed
 
 -- SQLite, transactions: while the connection is open, a crash leaves only its last commit
-abbrev pub LeavesCommit : State → Type 0
-LeavesCommit s = IsTrue s.is_open → (db : Trees) → s.may_leave db → db ≡ s.committed.trees
+abbrev pub RecoversLastCommit : State → Type 0
+RecoversLastCommit s = IsTrue s.is_open → (db : Trees) → s.may_leave db → db ≡ s.committed.trees
 
 -- SQLite, transactions: a crash leaves only what it left before
-abbrev pub LeavesNoMore : State → State → Type 0
-LeavesNoMore old new = (db : Trees) → new.may_leave db → old.may_leave db
+abbrev pub AddsNoCrashState : State → State → Type 0
+AddsNoCrashState old new = (db : Trees) → new.may_leave db → old.may_leave db
 
 -- This project's choice: after an error other than `Disk`, a crash leaves only what it left before. If allocation fails, the disk may fail too.
-abbrev pub LeavesBefore : State → State → StoreError → Type 0
-LeavesBefore old new Disk = Unit {0}
-LeavesBefore old new Memory = LeavesNoMore old new ⊎ MoreFaults old.faults new.faults
-LeavesBefore old new _ = LeavesNoMore old new
+abbrev pub KeepsCrashStates : State → State → StoreError → Type 0
+KeepsCrashStates old new Disk = Unit {0}
+KeepsCrashStates old new Memory = AddsNoCrashState old new ⊎ MoreFaults old.faults new.faults
+KeepsCrashStates old new _ = AddsNoCrashState old new
 
 -- SQLite, connections: the count of faults never falls, a closed connection stays closed, and only a disk fault closes one
 pub record KeepsOpen (old new : State) : Type 0 where
   pub counts : old.faults ≤ new.faults
-  pub stays_shut : HasCleanDisk new → IsTrue new.is_open → IsTrue old.is_open
+  pub stays_closed : HasCleanDisk new → IsTrue new.is_open → IsTrue old.is_open
   pub closes : HasCleanDisk new → IsTrue old.is_open → IsTrue new.is_open ⊎ MoreFaults old.faults new.faults
 
 -- This project's choice: what a failed call leaves of the connection that it returns. Nothing has changed; after an error other than `Disk`, nothing has
 -- changed after a crash either.
-pub record LeavesConnection (old new : State) (e : StoreError) : Type 0 where
+pub record KeepsConnection (old new : State) (e : StoreError) : Type 0 where
   pub nothing : HasCleanDisk new → OnlyReads old new
-  pub before : HasCleanDisk new → IsTrue old.is_open → LeavesBefore old new e
+  pub before : HasCleanDisk new → IsTrue old.is_open → KeepsCrashStates old new e
   pub closes : HasCleanDisk new → IsTrue old.is_open → IsTrue new.is_open ⊎ MoreFaults old.faults new.faults
-  pub settled : LeavesCommit new
+  pub settled : RecoversLastCommit new
 
 -- This project's choice: why `create` fails, and what it leaves. In an empty database memory or a disk fault is the cause. A crash may leave the new registry.
-pub record IsUnmade (LeavesNew : Trees → Type 0) (old new : State) (e : StoreError) : Type 0 where
+pub record IsCreateFailure (RecoversToNew : Trees → Type 0) (old new : State) (e : StoreError) : Type 0 where
   pub fault : HasCleanDisk new → old.now.schema ≡ no_schema → IsFaultBy old new e
-  pub leaves : LeavesConnection old new e
-  pub crash : HasCleanDisk new → (db : Trees) → new.may_leave db → old.may_leave db ⊎ LeavesNew db
+  pub leaves : KeepsConnection old new e
+  pub crash : HasCleanDisk new → (db : Trees) → new.may_leave db → old.may_leave db ⊎ RecoversToNew db
 
 -- this project's choice: what each call of a store keeps, for every result
 pub record KeepsStore {S T : Type 0} {g : Ghosts S} (old new : Store S g) (result : Result T StoreError) : Type 0 where
@@ -69,30 +69,30 @@ pub record KeepsStore {S T : Type 0} {g : Ghosts S} (old new : Store S g) (resul
   -- a call succeeds only over an open connection
   pub was_open : HasCleanDisk (state_of new) → OnOk result (IsTrue (state_of old).is_open)
   pub connection : KeepsOpen (state_of old) (state_of new)
-  pub settled : LeavesCommit (state_of new)
+  pub settled : RecoversLastCommit (state_of new)
 
 -- this project's choice: what each call of borrowed lines keeps of their store, for every result
-pub record KeepsLent {S T : Type 0} {g : Ghosts S} (old new : Store S g) (result : Result T StoreError) : Type 0 where
+pub record KeepsBorrowed {S T : Type 0} {g : Ghosts S} (old new : Store S g) (result : Result T StoreError) : Type 0 where
   -- only the lines remember a disk fault
   pub failed : has_failed new ≡ has_failed old
   pub clean : HasCleanDisk (state_of new) → HasCleanDisk (state_of old)
   -- a call succeeds only over an open connection
   pub was_open : HasCleanDisk (state_of new) → OnOk result (IsTrue (state_of old).is_open)
   pub connection : KeepsOpen (state_of old) (state_of new)
-  pub settled : LeavesCommit (state_of new)
+  pub settled : RecoversLastCommit (state_of new)
 
 -- this project's choice: the tables still spell what they spelled
-abbrev pub SpellsOn : State → State → Type 0
-SpellsOn old new = (was : Stored) → SpellsWhileOpen old was → SpellsWhileOpen new was
+abbrev pub StillSpells : State → State → Type 0
+StillSpells old new = (was : Stored) → SpellsWhileOpen old was → SpellsWhileOpen new was
 
 -- This project's choice: what a call that only reads returns and leaves. `Ok` has facts about what is stored. `Err` is a fault, unless the store had failed
--- before (`Goes`).
-pub record TellsStored {T : Type 0} (old new : State) (Goes : Type 0) (result : Result T StoreError) (Tells : Stored → T → Type 0) : Type 0 where
-  pub answers : (was : Stored) → SpellsWhileOpen old was → MatchResult result (Tells was) (λ e. Goes → IsFaultBy old new e)
-  pub same : SpellsOn old new
-  pub crash : LeavesNoMore old new
+-- before (`WasUsable`).
+pub record AnswersFromStored {T : Type 0} (old new : State) (WasUsable : Type 0) (result : Result T StoreError) (IsAnswer : Stored → T → Type 0) : Type 0 where
+  pub answers : (was : Stored) → SpellsWhileOpen old was → MatchResult result (IsAnswer was) (λ e. WasUsable → IsFaultBy old new e)
+  pub same : StillSpells old new
+  pub crash : AddsNoCrashState old new
 
 -- this project's choice: what each call that only reads keeps and returns
-pub record ReadsStore {S T : Type 0} {g : Ghosts S} (old new : Store S g) (result : Result T StoreError) (Tells : Stored → T → Type 0) : Type 0 where
+pub record ReadsStore {S T : Type 0} {g : Ghosts S} (old new : Store S g) (result : Result T StoreError) (IsAnswer : Stored → T → Type 0) : Type 0 where
   pub frame : KeepsStore old new result
-  pub tells : HasCleanDisk (state_of new) → TellsStored (state_of old) (state_of new) (has_failed old ≡ false) result Tells
+  pub tells : HasCleanDisk (state_of new) → AnswersFromStored (state_of old) (state_of new) (has_failed old ≡ false) result IsAnswer

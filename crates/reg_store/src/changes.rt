@@ -3,9 +3,9 @@
 ghost use Rattle.std.specs.Prelude.{◌≢◌, [], OnOk, IfErr, IfSome, IsSome, IsTrue};
 ghost use Rattle.sqlite.specs.State.{HasCleanDisk};
 ghost use Rattle.reg_core.specs.declared.decision.Change.TheVariants.{AddRow};
-ghost use Rattle.reg_tables.specs.Frames.{state_in, StaysInside, KeepsInside};
-ghost use Rattle.reg_store.specs.Changes.{IsKeepable, GoesOn};
-ghost use Rattle.reg_store.specs.Inside.Making.{Makes, MakesAll, Keeps, IsFaultOfChange, IsFaultOfChanges, IsFaultOfReply, PutsIds, IsFaultOfIds, PutsOwn, IsFaultOfOwn};
+ghost use Rattle.reg_tables.specs.Frames.{state_in, RunsInTransaction, KeepsTransaction};
+ghost use Rattle.reg_store.specs.Changes.{IsKeepable, TransactionContinues};
+ghost use Rattle.reg_store.specs.Inside.Making.{StoresChange, StoresChanges, StoresReply, IsFaultOfChange, IsFaultOfChanges, IsFaultOfReply, PutsIds, IsFaultOfIds, PutsOwn, IsFaultOfOwn};
 
 use crate::keep::Keep;
 use reg_core::{Change, Evidence, Row};
@@ -26,9 +26,9 @@ fn put_ids<S: Alter>(
     number: u32,
     ids: &[u32],
 ) -> Result<(), Error>
-    ensures frame { KeepsInside S.Store tx.old tx.new }
+    ensures frame { KeepsTransaction S.Store tx.old tx.new }
     ensures goes_on { HasCleanDisk (state_in S.Store tx.new)
-        → OnOk result (GoesOn (state_in S.Store tx.old) (state_in S.Store tx.new)) }
+        → OnOk result (TransactionContinues (state_in S.Store tx.old) (state_in S.Store tx.new)) }
     ensures put { HasCleanDisk (state_in S.Store tx.new)
         → OnOk result (PutsIds (state_in S.Store tx.old) (state_in S.Store tx.new) (subject.now, number) ids.now) }
     ensures fault { HasCleanDisk (state_in S.Store tx.new)
@@ -52,7 +52,7 @@ fn put_own<S: Alter>(
     number: u32,
     own: &Evidence,
 ) -> Result<(), Error>
-    ensures frame { StaysInside S.Store tx.old tx.new result }
+    ensures frame { RunsInTransaction S.Store tx.old tx.new result }
     ensures put { HasCleanDisk (state_in S.Store tx.new)
         → OnOk result (PutsOwn (state_in S.Store tx.old) (state_in S.Store tx.new) (subject.now, number) own.now) }
     ensures fault { HasCleanDisk (state_in S.Store tx.new)
@@ -64,9 +64,9 @@ fn put_own<S: Alter>(
 
 /// Puts a version, and what it was admitted by.
 fn put_row<S: Alter>(tx: &mut Transaction<'_, S>, row: &Row, own: &Evidence) -> Result<(), Error>
-    ensures frame { StaysInside S.Store tx.old tx.new result }
+    ensures frame { RunsInTransaction S.Store tx.old tx.new result }
     ensures made { HasCleanDisk (state_in S.Store tx.new)
-        → OnOk result (Makes (state_in S.Store tx.old) (state_in S.Store tx.new) (AddRow row.now own.now)) }
+        → OnOk result (StoresChange (state_in S.Store tx.old) (state_in S.Store tx.new) (AddRow row.now own.now)) }
     ensures fault { HasCleanDisk (state_in S.Store tx.new)
         → IfErr result (IsFaultOfChange (state_in S.Store tx.old) (state_in S.Store tx.new) (AddRow row.now own.now)) }
 {
@@ -77,9 +77,9 @@ fn put_row<S: Alter>(tx: &mut Transaction<'_, S>, row: &Row, own: &Evidence) -> 
 
 /// Makes one change.
 fn make<S: Alter>(tx: &mut Transaction<'_, S>, change: &Change) -> Result<(), Error>
-    ensures frame { StaysInside S.Store tx.old tx.new result }
+    ensures frame { RunsInTransaction S.Store tx.old tx.new result }
     ensures made { HasCleanDisk (state_in S.Store tx.new)
-        → OnOk result (Makes (state_in S.Store tx.old) (state_in S.Store tx.new) change.now) }
+        → OnOk result (StoresChange (state_in S.Store tx.old) (state_in S.Store tx.new) change.now) }
     ensures fault { HasCleanDisk (state_in S.Store tx.new)
         → IfErr result (IsFaultOfChange (state_in S.Store tx.old) (state_in S.Store tx.new) change.now) }
 {
@@ -102,13 +102,13 @@ pub(crate) fn make_all<S: Alter>(
     tx: &mut Transaction<'_, S>,
     changes: &[Change],
 ) -> Result<(), Error>
-    ensures frame { KeepsInside S.Store tx.old tx.new }
+    ensures frame { KeepsTransaction S.Store tx.old tx.new }
     ensures was_open { HasCleanDisk (state_in S.Store tx.new)
         → OnOk result (changes.now ≢ [] → IsTrue (state_in S.Store tx.old).is_open) }
     ensures goes_on { HasCleanDisk (state_in S.Store tx.new)
-        → OnOk result (GoesOn (state_in S.Store tx.old) (state_in S.Store tx.new)) }
+        → OnOk result (TransactionContinues (state_in S.Store tx.old) (state_in S.Store tx.new)) }
     ensures made { HasCleanDisk (state_in S.Store tx.new)
-        → OnOk result (MakesAll (state_in S.Store tx.old) (state_in S.Store tx.new) changes.now) }
+        → OnOk result (StoresChanges (state_in S.Store tx.old) (state_in S.Store tx.new) changes.now) }
     ensures fault { HasCleanDisk (state_in S.Store tx.new)
         → IfErr result (IsFaultOfChanges (state_in S.Store tx.old) (state_in S.Store tx.new) changes.now) }
 {
@@ -124,13 +124,13 @@ pub(crate) fn keep_reply<S: Alter>(
     keep: Option<Keep<'_>>,
 ) -> Result<(), Error>
     requires { IfSome keep IsKeepable }
-    ensures frame { KeepsInside S.Store tx.old tx.new }
+    ensures frame { KeepsTransaction S.Store tx.old tx.new }
     ensures was_open { HasCleanDisk (state_in S.Store tx.new)
         → OnOk result (IsSome keep.entry → IsTrue (state_in S.Store tx.old).is_open) }
     ensures goes_on { HasCleanDisk (state_in S.Store tx.new)
-        → OnOk result (GoesOn (state_in S.Store tx.old) (state_in S.Store tx.new)) }
+        → OnOk result (TransactionContinues (state_in S.Store tx.old) (state_in S.Store tx.new)) }
     ensures put { HasCleanDisk (state_in S.Store tx.new)
-        → OnOk result (Keeps (state_in S.Store tx.old) (state_in S.Store tx.new) keep.entry) }
+        → OnOk result (StoresReply (state_in S.Store tx.old) (state_in S.Store tx.new) keep.entry) }
     ensures fault { HasCleanDisk (state_in S.Store tx.new)
         → IfErr result (IsFaultOfReply (state_in S.Store tx.old) (state_in S.Store tx.new) keep.entry) }
 {

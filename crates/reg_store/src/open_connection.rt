@@ -2,18 +2,18 @@
 
 ghost use Rattle.std.specs.Prelude.{◌≡◌, IfErr, OnOk, IsTrue, not};
 ghost use Rattle.sqlite.specs.State.{HasCleanDisk};
-ghost use Rattle.reg_tables.specs.Frames.{StaysIdle};
+ghost use Rattle.reg_tables.specs.Frames.{ReadsInAutocommit};
 ghost use Rattle.reg_store.specs.Failures.{IsFaultBy, is_fault};
 ghost use Rattle.reg_store.specs.Inside.Reads.{shown};
 
 use crate::error::StoreError;
-use crate::idle::Idle;
+use crate::idle::StoreConnection;
 use sqlite::Alter;
 
 /// Fails if the connection is closed. It prepares a statement that reads no table, which SQLite
 /// does only over an open connection.
-pub(crate) fn require_open<S: Alter>(db: &mut Idle<S>) -> Result<(), StoreError>
-    ensures frame { StaysIdle S.Store db.old.idle.conn db.new.idle.conn result }
+pub(crate) fn require_open<S: Alter>(db: &mut StoreConnection<S>) -> Result<(), StoreError>
+    ensures frame { ReadsInAutocommit S.Store db.old.idle.conn db.new.idle.conn result }
     ensures is_open { HasCleanDisk (shown db.new) → OnOk result (IsTrue (shown db.new).is_open) }
     ensures fault { HasCleanDisk (shown db.new)
         → IfErr result (IsFaultBy (shown db.old) (shown db.new)) }

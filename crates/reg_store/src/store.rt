@@ -1,6 +1,6 @@
 //! The store.
 
-use crate::idle::Idle;
+use crate::idle::StoreConnection;
 use sqlite::Alter;
 use std::alloc::Global;
 
@@ -12,8 +12,8 @@ mod chosen;
 mod cursor;
 mod few;
 mod known;
-mod lent;
 mod levels;
+mod line_iterator;
 mod lines;
 mod listing;
 mod making;
@@ -29,7 +29,7 @@ mod texts;
 mod viewing;
 
 pub use checking::check_first;
-pub use lent::Lines;
+pub use line_iterator::Lines;
 pub use making::create_first;
 
 /// A registry and its kept replies in a database. Contracts see what its connection shows
@@ -37,6 +37,6 @@ pub use making::create_first;
 #[derive(Drop)]
 pub struct Store<S: Alter> {
     alloc: Global,
-    db: Idle<S>,
+    db: StoreConnection<S>,
     failed: bool,
 }

@@ -5,9 +5,9 @@ ghost use Rattle.std.specs.Prelude.{◌≡◌, ◌↔◌, ℤ, map, IfOk, IfErr,
 ghost use Rattle.std.specs.List.{AllByRecursion};
 ghost use Rattle.sqlite.specs.State.{HasCleanDisk};
 ghost use Rattle.reg_tables.specs.Layout.{HasFiveTables, IsOpenable};
-ghost use Rattle.reg_store.specs.Failures.{IsNumberless, IsTold};
-ghost use Rattle.reg_store.specs.Opening.{HasVersionRows, FindsLayoutOne, IsRefusedAs, TellsOther, IsRefusedBy, TellsLayout};
-ghost use Rattle.reg_store.specs.Inside.Testing.{AreApart, version_fits, level_fits, kept_fits, SpellsAs, Tests, TestsFive, TestsEight, VersionsPass, LevelsPass, KeptPass, RestPasses, FivePass, AddedPass, EightPass};
+ghost use Rattle.reg_store.specs.Failures.{HasNoLayoutNumber, HasDiskCause};
+ghost use Rattle.reg_store.specs.Opening.{HasVersionRows, FindsLayoutOne, HasMetaNumberOf, ReportsOther, HasMetaNumber, ReportsLayout};
+ghost use Rattle.reg_store.specs.Inside.Testing.{AreDistinct, version_fits, level_fits, kept_fits, SpellsAs, Tests, TestsFive, TestsEight, VersionsPass, LevelsPass, KeptPass, RestPasses, FivePass, AddedPass, EightPass};
 ghost use Rattle.reg_store.specs.Inside.Reads.{shown};
 
 mod added;
@@ -15,7 +15,7 @@ mod meta;
 mod texts;
 
 use crate::error::StoreError;
-use crate::idle::Idle;
+use crate::idle::StoreConnection;
 use crate::layout::Layout;
 use crate::rowids::are_apart;
 use crate::testing::added::test_added;
@@ -23,8 +23,8 @@ use crate::testing::meta::test_meta;
 use crate::testing::texts::test_texts;
 use reg_rows::{fits_kept, fits_levels, fits_versions};
 use reg_tables::{
-    KeptLine, LevelLine, VersionLine, has_layout_one, has_layout_two, is_unindexed_one,
-    is_unindexed_two, kept_lines, level_lines, version_lines,
+    RawKept, RawLevel, RawVersion, has_layout_one, has_layout_two, is_unindexed_one,
+    is_unindexed_two, raw_kept, raw_levels, raw_versions,
 };
 use sqlite::Alter;
 use std::alloc::{AllocError, Global};
@@ -42,7 +42,7 @@ trait Tested {
         ensures { IsTrue result ↔ fits_table self.now };
 }
 
-impl Tested for VersionLine {
+impl Tested for RawVersion {
     ghost rowid_of = { λ line. line.rowid };
 
     ghost fits_table = { version_fits };
@@ -56,7 +56,7 @@ impl Tested for VersionLine {
     }
 }
 
-impl Tested for LevelLine {
+impl Tested for RawLevel {
     ghost rowid_of = { λ line. line.rowid };
 
     ghost fits_table = { level_fits };
@@ -70,7 +70,7 @@ impl Tested for LevelLine {
     }
 }
 
-impl Tested for KeptLine {
+impl Tested for RawKept {
     ghost rowid_of = { λ line. line.rowid };
 
     ghost fits_table = { kept_fits };
@@ -108,7 +108,7 @@ fn rowids_of<L: Tested>(alloc: Global, lines: &[L]) -> Result<Vec<i64>, AllocErr
 
 /// Whether each line fits, and no rowid comes twice.
 fn pass<L: Tested>(alloc: Global, lines: &[L]) -> Result<bool, AllocError>
-    ensures { IfOk result (λ yes. IsTrue yes ↔ (AreApart (map L.rowid_of lines.now)
+    ensures { IfOk result (λ yes. IsTrue yes ↔ (AreDistinct (map L.rowid_of lines.now)
         × AllByRecursion L.fits_table lines.now)) }
 {
     if !all_fit(lines) {
@@ -131,40 +131,40 @@ fn allow(passes: bool) -> Result<(), StoreError>
 }
 
 /// Reads `versions`, and tests it. It answers how many rows there are.
-fn test_versions<S: Alter>(alloc: Global, db: &mut Idle<S>) -> Result<u64, StoreError>
+fn test_versions<S: Alter>(alloc: Global, db: &mut StoreConnection<S>) -> Result<u64, StoreError>
     ensures tests { TestsFive S.Store db.old.idle.conn db.new.idle.conn result
         (λ count db. VersionsPass db × HasVersionRows db count) }
-    ensures plain { IfErr result IsNumberless }
+    ensures plain { IfErr result HasNoLayoutNumber }
 {
-    let lines = version_lines(alloc, &mut db.idle)?;
+    let lines = raw_versions(alloc, &mut db.idle)?;
     allow(pass(alloc, &lines)?)?;
     Ok(lines.len() as u64)
 }
 
 /// Reads `levels`, and tests it.
-fn test_levels<S: Alter>(alloc: Global, db: &mut Idle<S>) -> Result<(), StoreError>
+fn test_levels<S: Alter>(alloc: Global, db: &mut StoreConnection<S>) -> Result<(), StoreError>
     ensures tests { TestsFive S.Store db.old.idle.conn db.new.idle.conn result (λ _. LevelsPass) }
-    ensures plain { IfErr result IsNumberless }
+    ensures plain { IfErr result HasNoLayoutNumber }
 {
-    let lines = level_lines(alloc, &mut db.idle)?;
+    let lines = raw_levels(alloc, &mut db.idle)?;
     allow(pass(alloc, &lines)?)
 }
 
 /// Reads `kept`, and tests it.
-fn test_kept<S: Alter>(alloc: Global, db: &mut Idle<S>) -> Result<(), StoreError>
+fn test_kept<S: Alter>(alloc: Global, db: &mut StoreConnection<S>) -> Result<(), StoreError>
     ensures tests { TestsFive S.Store db.old.idle.conn db.new.idle.conn result (λ _. KeptPass) }
-    ensures plain { IfErr result IsNumberless }
+    ensures plain { IfErr result HasNoLayoutNumber }
 {
-    let lines = kept_lines(alloc, &mut db.idle)?;
+    let lines = raw_kept(alloc, &mut db.idle)?;
     allow(pass(alloc, &lines)?)
 }
 
 /// Reads the tables that each layout has, but `meta`, and tests them. It answers how many rows
 /// `versions` has.
-fn test_rest<S: Alter>(alloc: Global, db: &mut Idle<S>) -> Result<u64, StoreError>
+fn test_rest<S: Alter>(alloc: Global, db: &mut StoreConnection<S>) -> Result<u64, StoreError>
     ensures tests { TestsFive S.Store db.old.idle.conn db.new.idle.conn result
         (λ count db. RestPasses db × HasVersionRows db count) }
-    ensures plain { IfErr result IsNumberless }
+    ensures plain { IfErr result HasNoLayoutNumber }
 {
     let _idle = db.idle.conn.is_autocommit();
     let count = test_versions(alloc, db)?;
@@ -175,16 +175,19 @@ fn test_rest<S: Alter>(alloc: Global, db: &mut Idle<S>) -> Result<u64, StoreErro
 }
 
 /// Tests the tables of layout 1, and returns the number of rows of `versions`.
-pub(crate) fn test_layout_one<S: Alter>(alloc: Global, db: &mut Idle<S>) -> Result<u64, StoreError>
+pub(crate) fn test_layout_one<S: Alter>(
+    alloc: Global,
+    db: &mut StoreConnection<S>,
+) -> Result<u64, StoreError>
     ensures tests { Tests HasFiveTables (SpellsAs Layout.One)
         S.Store db.old.idle.conn db.new.idle.conn result
         (λ count db. FivePass Layout.One db × HasVersionRows db count) }
     ensures found { HasCleanDisk (shown db.new) → IfOk result (FindsLayoutOne (shown db.old).now) }
-    ensures told { HasCleanDisk (shown db.new) → IfErr result (IsTold (shown db.old) (shown db.new)) }
-    ensures refused { HasCleanDisk (shown db.new)
-        → IfErr result (IsRefusedAs 1 (shown db.old).now) }
+    ensures disk_cause { HasCleanDisk (shown db.new) → IfErr result (HasDiskCause (shown db.old) (shown db.new)) }
+    ensures meta_number { HasCleanDisk (shown db.new)
+        → IfErr result (HasMetaNumberOf 1 (shown db.old).now) }
     ensures other { HasCleanDisk (shown db.new)
-        → IfErr result (TellsOther 1 (shown db.old)) }
+        → IfErr result (ReportsOther 1 (shown db.old)) }
 {
     let _live = db.idle.conn.schema();
     let _idle = db.idle.conn.is_autocommit();
@@ -195,14 +198,17 @@ pub(crate) fn test_layout_one<S: Alter>(alloc: Global, db: &mut Idle<S>) -> Resu
 }
 
 /// Tests the tables of layout 2.
-pub(crate) fn test_layout_two<S: Alter>(alloc: Global, db: &mut Idle<S>) -> Result<(), StoreError>
+pub(crate) fn test_layout_two<S: Alter>(
+    alloc: Global,
+    db: &mut StoreConnection<S>,
+) -> Result<(), StoreError>
     ensures tests { TestsEight S.Store db.old.idle.conn db.new.idle.conn result (λ _. EightPass) }
     ensures known { OnOk result (IsOpenable (shown db.old).now.schema) }
-    ensures told { HasCleanDisk (shown db.new) → IfErr result (IsTold (shown db.old) (shown db.new)) }
-    ensures refused { HasCleanDisk (shown db.new)
-        → IfErr result (IsRefusedBy (shown db.old).now) }
+    ensures disk_cause { HasCleanDisk (shown db.new) → IfErr result (HasDiskCause (shown db.old) (shown db.new)) }
+    ensures meta_number { HasCleanDisk (shown db.new)
+        → IfErr result (HasMetaNumber (shown db.old).now) }
     ensures other { HasCleanDisk (shown db.new)
-        → IfErr result (TellsLayout (shown db.old)) }
+        → IfErr result (ReportsLayout (shown db.old)) }
 {
     let _idle = db.idle.conn.is_autocommit();
     let known = has_layout_two(&db.idle.conn) || is_unindexed_two(&db.idle.conn);
@@ -212,10 +218,10 @@ pub(crate) fn test_layout_two<S: Alter>(alloc: Global, db: &mut Idle<S>) -> Resu
 }
 
 /// Reads all tables of layout 2 but `meta`, and tests them.
-fn test_all<S: Alter>(alloc: Global, db: &mut Idle<S>) -> Result<(), StoreError>
+fn test_all<S: Alter>(alloc: Global, db: &mut StoreConnection<S>) -> Result<(), StoreError>
     ensures tests { TestsEight S.Store db.old.idle.conn db.new.idle.conn result
         (λ _ db. RestPasses db × AddedPass db) }
-    ensures plain { IfErr result IsNumberless }
+    ensures plain { IfErr result HasNoLayoutNumber }
 {
     let _idle = db.idle.conn.is_autocommit();
     test_rest(alloc, db)?;

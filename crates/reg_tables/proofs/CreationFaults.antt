@@ -26,15 +26,15 @@ use Rattle.sqlite_rules.specs.Lists.{Has}
 use Rattle.sqlite_rules.proofs.ListLemmas.{all_has}
 use Rattle.sqlite_trees.specs.Sound.{same_name as same_word, begins, is_free_name, fits_kind}
 use Rattle.sqlite_tied.specs.Compute.{everything}
-use Rattle.reg_tables.specs.Layout.{no_schema, begun, texts, versions, levels, kept, meta, modes, evidence, against, extended}
+use Rattle.reg_tables.specs.Layout.{no_schema, partial_layout_one, texts, versions, levels, kept, meta, modes, evidence, against, partial_layout_two}
 use Rattle.reg_tables.specs.FailedCalls.{IsFault}
-use Rattle.reg_tables.specs.Inside.Statements.{IsWhole}
+use Rattle.reg_tables.specs.Inside.Statements.{IsOneStatement}
 use Rattle.reg_tables.proofs.Statements.{MakesTable, make_texts, make_versions, make_levels, make_kept, make_meta, make_modes, make_evidence, make_against}
 use Rattle.reg_tables.proofs.WriteFaults.{refused_by}
 
 -- what SQLite asks of a table's name, keys and text
 pub record CanBeMade (sql : List ℕ) (schema : Schema) (table : Table) : Type 0 where
-  pub whole : IsWhole sql 0 (understood schema sql)
+  pub whole : IsOneStatement sql 0 (understood schema sql)
   pub text : IsUtf8 sql
   pub named : IsUtf8 table.name
   pub unused : is_used schema table.name ≡ false
@@ -64,7 +64,7 @@ texts_can_be = record {
   short = lit< tt;
 }
 
-pub versions_can_be : CanBeMade make_versions (begun 1) (record versions { tree = 0 })
+pub versions_can_be : CanBeMade make_versions (partial_layout_one 1) (record versions { tree = 0 })
 unfolding understood everything same_name same_word begins is_free_name fits_kind value_cmp lib.Utf8.encode lib.Ieee.is_nan lib.Ieee.lt
 versions_can_be = record {
   whole = (lit≤ tt, refl);
@@ -81,7 +81,7 @@ versions_can_be = record {
   short = lit< tt;
 }
 
-pub levels_can_be : CanBeMade make_levels (begun 2) (record levels { tree = 0 })
+pub levels_can_be : CanBeMade make_levels (partial_layout_one 2) (record levels { tree = 0 })
 unfolding understood everything same_name same_word begins is_free_name fits_kind value_cmp lib.Utf8.encode lib.Ieee.is_nan lib.Ieee.lt
 levels_can_be = record {
   whole = (lit≤ tt, refl);
@@ -98,7 +98,7 @@ levels_can_be = record {
   short = lit< tt;
 }
 
-pub kept_can_be : CanBeMade make_kept (begun 3) (record kept { tree = 0 })
+pub kept_can_be : CanBeMade make_kept (partial_layout_one 3) (record kept { tree = 0 })
 unfolding understood everything same_name same_word begins is_free_name fits_kind value_cmp lib.Utf8.encode lib.Ieee.is_nan lib.Ieee.lt
 kept_can_be = record {
   whole = (lit≤ tt, refl);
@@ -115,7 +115,7 @@ kept_can_be = record {
   short = lit< tt;
 }
 
-pub meta_can_be : CanBeMade make_meta (begun 4) (record meta { tree = 0 })
+pub meta_can_be : CanBeMade make_meta (partial_layout_one 4) (record meta { tree = 0 })
 unfolding understood everything same_name same_word begins is_free_name fits_kind value_cmp lib.Utf8.encode lib.Ieee.is_nan lib.Ieee.lt
 meta_can_be = record {
   whole = (lit≤ tt, refl);
@@ -209,7 +209,7 @@ module _ (sql : List ℕ) (before : Schema) (table : Table) (after : Schema) (m 
 
 -- ---- faults
 
-pub modes_can_be : CanBeMade make_modes (extended 0) (record (modes 11) { tree = 0 })
+pub modes_can_be : CanBeMade make_modes (partial_layout_two 0) (record (modes 11) { tree = 0 })
 unfolding understood everything same_name same_word begins is_free_name fits_kind value_cmp lib.Utf8.encode lib.Ieee.is_nan lib.Ieee.lt
 modes_can_be = record {
   whole = (lit≤ tt, refl);
@@ -226,7 +226,7 @@ modes_can_be = record {
   short = lit< tt;
 }
 
-pub evidence_can_be : CanBeMade make_evidence (extended 1) (record (evidence 13) { tree = 0 })
+pub evidence_can_be : CanBeMade make_evidence (partial_layout_two 1) (record (evidence 13) { tree = 0 })
 unfolding understood everything same_name same_word begins is_free_name fits_kind value_cmp lib.Utf8.encode lib.Ieee.is_nan lib.Ieee.lt
 evidence_can_be = record {
   whole = (lit≤ tt, refl);
@@ -243,7 +243,7 @@ evidence_can_be = record {
   short = lit< tt;
 }
 
-pub against_can_be : CanBeMade make_against (extended 2) (record (against 15) { tree = 0 })
+pub against_can_be : CanBeMade make_against (partial_layout_two 2) (record (against 15) { tree = 0 })
 unfolding understood everything same_name same_word begins is_free_name fits_kind value_cmp lib.Utf8.encode lib.Ieee.is_nan lib.Ieee.lt
 against_can_be = record {
   whole = (lit≤ tt, refl);

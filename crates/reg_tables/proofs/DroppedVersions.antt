@@ -30,10 +30,10 @@ use Rattle.sqlite_rules.specs.Calls.{ids_of}
 use Rattle.sqlite_rules.specs.Lists.{Has}
 use Rattle.sqlite_rules.proofs.ListLemmas.{has_got}
 use Rattle.sqlite_tied.specs.Compute.{everything}
-use Rattle.reg_tables.specs.Layout.{begins, texts, versions, levels, kept, meta, modes, added}
+use Rattle.reg_tables.specs.Layout.{five_tables_then, texts, versions, levels, kept, meta, modes, added_tables}
 use Rattle.reg_tables.specs.TableMaps.{Form, ShowsMap, HaveRowids}
-use Rattle.reg_tables.specs.Contents.{version_cmp, version_key_cells, text_form, version_form, pair_form, kept_form, evidence_form, against_form, PlaceKey, place_cmp, Contents, HoldsIn, ShowsIn, TableName, Texts, Versions, Levels, Kept, Meta, Modes, Evidence, Against, place_of, form_of, map_of}
-use Rattle.reg_tables.specs.Changes.{without_version, without_places}
+use Rattle.reg_tables.specs.Contents.{version_cmp, version_key_cells, text_form, version_form, pair_form, kept_form, evidence_form, against_form, PositionKey, position_cmp, Contents, HoldsContents, ShowsIn, TableName, Texts, Versions, Levels, Kept, Meta, Modes, Evidence, Against, ordinal_of, form_of, map_of}
+use Rattle.reg_tables.specs.Changes.{without_version, without_positions}
 use Rattle.reg_tables.specs.FailedCalls.{IsFault}
 use Rattle.reg_tables.specs.Inside.Statements.{IsCommand, plain_query, by_version}
 use Rattle.reg_tables.proofs.MapLemmas.{same_key}
@@ -44,9 +44,9 @@ use Rattle.reg_tables.proofs.KeyedTables.{version_order, by_version_test, finds_
 use Rattle.reg_tables.proofs.Statements.{drop_version}
 use Rattle.reg_tables.proofs.WriteFaults.{NeverStops, refused_by, delete_fits, delete_refused}
 use Rattle.reg_tables.proofs.TableFaults.{obeys, plain_fits}
-use Rattle.reg_tables.proofs.Keys.{place_order, versions_tied}
+use Rattle.reg_tables.proofs.Keys.{position_order, versions_tied}
 use Rattle.reg_tables.proofs.LayoutTables.{place_version}
-use Rattle.reg_tables.proofs.Settled.{IsSettled}
+use Rattle.reg_tables.proofs.WellDeclared.{IsWellDeclared}
 use Rattle.reg_tables.proofs.ForeignKeys.{has_version, has_text_at, more_versions, Refer, refer_if, refers_if}
 use Rattle.reg_tables.proofs.Cascades.{Loses, never_stops, delete_allowed}
 use Rattle.reg_tables.proofs.Drops.{HasVersionKey, HasVersions, IsDropped, drops, leaves}
@@ -89,15 +89,15 @@ module _ {K V : Type 0} (form : Form K V) (R : K → K → Ordering) (m later : 
 abbrev dropping : Program
 dropping = record { lets = []; body = plain_query 2 by_version (col 1 0 ∷ []) }
 
-module _ (first : ℕ) (high : 10 ≤ first) (indexes : List Index) (s : IsSettled (begins (added first) indexes)) where
+module _ (first : ℕ) (high : 10 ≤ first) (indexes : List Index) (s : IsWellDeclared (five_tables_then (added_tables first) indexes)) where
   abbrev layout : Schema
-  layout = begins (added first) indexes
+  layout = five_tables_then (added_tables first) indexes
 
   drop_version_is : IsCommand layout drop_version (Delete 1 dropping)
   unfolding understood everything
   drop_version_is = record { is = refl; plain = (refl, refl) }
 
-  module _ (old : Database) (contents : Contents) (h : HoldsIn layout old contents) (key : List ℕ × ℕ) where
+  module _ (old : Database) (contents : Contents) (h : HoldsContents layout old contents) (key : List ℕ × ℕ) where
     abbrev named : Row → Bool
     named = passes by_version (Text key.0 ∷ Int (pos key.1) ∷ [])
 
@@ -139,7 +139,7 @@ module _ (first : ℕ) (high : 10 ≤ first) (indexes : List Index) (s : IsSettl
       same : (at : ℕ) (t : Table) → slice_get layout.tables at ≡ Some t → t.tree ≢ 2 → t.tree ≢ first + 2 → t.tree ≢ first + 4 → new.trees t.tree ≡ old.trees t.tree
       same at t there = d.others t (has_got layout.tables at t there)
 
-      shows_dropped : (name : TableName) → ShowsIn (form_of name) new.trees (slice_get layout.tables (place_of name)) (map_of name (without_version key contents))
+      shows_dropped : (name : TableName) → ShowsIn (form_of name) new.trees (slice_get layout.tables (ordinal_of name)) (map_of name (without_version key contents))
       shows_dropped Texts = same_rows {form = text_form} (same 0 texts refl (λ e. omega (arith, e)) (λ e. omega (arith, e, high)) (λ e. omega (arith, e, high))) (h.shows Texts)
       shows_dropped Versions = shows_left version_form version_cmp contents.versions (remove contents.versions key) named (old.trees 2) (new.trees 2) (h.shows Versions) d.versions (λ q. not (is_eq (version_cmp q key))) version_test
           (λ q. get-remove version_order.total contents.versions key q ∙ flipped _ None (get contents.versions q))
@@ -149,11 +149,11 @@ module _ (first : ℕ) (high : 10 ≤ first) (indexes : List Index) (s : IsSettl
       shows_dropped Modes = same_rows {form = pair_form} (same 5 (modes first) refl (λ e. omega (arith, e, high)) (λ e. omega (arith, e)) (λ e. omega (arith, e))) (h.shows Modes)
       shows_dropped Evidence = shows_left evidence_form version_cmp contents.evidence (remove contents.evidence key) named (old.trees (first + 2)) (new.trees (first + 2)) (h.shows Evidence) d.evidence (λ q. not (is_eq (version_cmp q key))) version_test
           (λ q. get-remove version_order.total contents.evidence key q ∙ flipped _ None (get contents.evidence q))
-      shows_dropped Against = shows_left against_form place_cmp contents.against (without_places contents.against key) named (old.trees (first + 4)) (new.trees (first + 4)) (h.shows Against) d.against (λ q. not (is_eq (version_cmp q.0 key)))
+      shows_dropped Against = shows_left against_form position_cmp contents.against (without_positions contents.against key) named (old.trees (first + 4)) (new.trees (first + 4)) (h.shows Against) d.against (λ q. not (is_eq (version_cmp q.0 key)))
           (λ row q is. version_test row q.0 (place_version row q is))
-          (λ q. get-retain_keys contents.against (λ q. not (is_eq (version_cmp q.0 key))) q (λ x tie. ap (λ (p : PlaceKey). not (is_eq (version_cmp p.0 key))) (sym (place_order.antisymmetric q x tie))))
+          (λ q. get-retain_keys contents.against (λ q. not (is_eq (version_cmp q.0 key))) q (λ x tie. ap (λ (p : PositionKey). not (is_eq (version_cmp p.0 key))) (sym (position_order.antisymmetric q x tie))))
 
-      holds_dropped : new.schema ≡ layout → IsDatabase new → HoldsIn layout new (without_version key contents)
+      holds_dropped : new.schema ≡ layout → IsDatabase new → HoldsContents layout new (without_version key contents)
       holds_dropped declared sound = record { declared = declared; sound = sound; shows = shows_dropped }
 
     -- rows that are left have what they refer to: the rows that named what is gone are gone too
@@ -174,11 +174,11 @@ module _ (first : ℕ) (high : 10 ≤ first) (indexes : List Index) (s : IsSettl
             let same : entry.0 ≡ its.0 = same_key version_cmp version_order entry.0 its.0 (sym (versions_tied s r entry.0 its.0 entry.3.0 its.1) ∙ agrees) in
             (s, d.versions.stays s was (λ gone. other (by_version_test r key its.0 its.1 ∙ sym (by_version_test s key its.0 (entry.3.0 ∙ ap version_key_cells same)) ∙ gone)), agrees))
 
-  module _ (old new : State) (contents : Contents) (h : HoldsIn layout old.now contents) (key : List ℕ × ℕ) where
+  module _ (old new : State) (contents : Contents) (h : HoldsContents layout old.now contents) (key : List ℕ × ℕ) where
     abbrev params : Row
     params = Text key.0 ∷ Int (pos key.1) ∷ []
 
-    pub drops_version : (count : ℕ) → Executes drop_version params old new (Ok count) → HoldsIn layout new.now (without_version key contents)
+    pub drops_version : (count : ℕ) → Executes drop_version params old new (Ok count) → HoldsContents layout new.now (without_version key contents)
     drops_version count ran =
         let w = runs_as drop_version params old new layout h.declared (Delete 1 dropping) drop_version_is.is drop_version_is.plain count ran in
         let cut = cuts layout 1 versions refl old new h.declared (statement_of drop_version (understood layout drop_version)) params count dropping w in

@@ -27,10 +27,10 @@ use Rattle.sqlite_rules.proofs.ListLemmas.{all_has, has_got, has_found, some_has
 use Rattle.sqlite_rules.proofs.TableLemmas.{int_is}
 use Rattle.sqlite.specs.Schema.{Schema}
 use Rattle.sqlite_schema.specs.declared.schema.Index.{Index}
-use Rattle.reg_tables.specs.Layout.{begins, versions, evidence, against, added, to_versions}
-use Rattle.reg_tables.specs.Inside.KeyedLaws.{AreApart}
+use Rattle.reg_tables.specs.Layout.{five_tables_then, versions, evidence, against, added_tables, to_versions}
+use Rattle.reg_tables.specs.Inside.KeyedLaws.{HaveOwnTrees}
 use Rattle.reg_tables.specs.TableMaps.{HaveRowids, ShowsMap}
-use Rattle.reg_tables.specs.Contents.{version_cmp, version_key_cells, VersionRow, version_form}
+use Rattle.reg_tables.specs.Contents.{version_cmp, version_key_cells, VersionEntryView, version_form}
 use Rattle.reg_tables.proofs.ListMembers.{has_mapped, maps_had}
 use Rattle.reg_tables.proofs.MapLemmas.{equal_of, same_key, tied_key}
 use Rattle.reg_tables.proofs.RowLemmas.{FindsRowids, same_if_tied}
@@ -38,7 +38,7 @@ use Rattle.reg_tables.specs.Inside.Statements.{by_version}
 use Rattle.reg_tables.proofs.Queries.{passes}
 use Rattle.reg_tables.proofs.ForeignKeys.{has_version}
 use Rattle.reg_tables.proofs.KeyedTables.{version_order, by_version_test}
-use Rattle.reg_tables.proofs.Settled.{two_quiet}
+use Rattle.reg_tables.proofs.WellDeclared.{two_quiet}
 use Rattle.reg_tables.proofs.Keys.{versions_tied}
 use Rattle.reg_tables.proofs.Cascades.{Loses, loses_found, IsLeaf, Takes, AllLose, leads_to}
 
@@ -54,7 +54,7 @@ have_keys olds = list_any (loses (record { digits = 0 }) (1 ∷ 2 ∷ [])) (pair
 
 module _ (first : ℕ) (high : 10 ≤ first) (indexes : List Index) where
   abbrev layout : Schema
-  layout = begins (added first) indexes
+  layout = five_tables_then (added_tables first) indexes
 
   abbrev pub deletions : List Row → List Work
   deletions olds = deletion_of (evidence (first + 2)) olds ∷ deletion_of (against (first + 4)) olds ∷ []
@@ -155,7 +155,7 @@ has_pair (o ∷ olds) old (inr later) = inr (has_pair olds old later)
 
 -- the tables are as they were, but that the rows of a version are gone
 pub record IsDropped (first : ℕ) (indexes : List Index) (named : Row → Bool) (old new : Trees) : Type 0 where
-  pub others : (t : Table) → Has (begins (added first) indexes).tables t → t.tree ≢ 2 → t.tree ≢ first + 2 → t.tree ≢ first + 4 → new t.tree ≡ old t.tree
+  pub others : (t : Table) → Has (five_tables_then (added_tables first) indexes).tables t → t.tree ≢ 2 → t.tree ≢ first + 2 → t.tree ≢ first + 4 → new t.tree ≡ old t.tree
   pub versions : Loses (λ r. named r ≡ true) (old 2) (new 2)
   pub evidence : Loses (λ r. named r ≡ true) (old (first + 2)) (new (first + 2))
   pub against : Loses (λ r. named r ≡ true) (old (first + 4)) (new (first + 4))
@@ -173,9 +173,9 @@ loses_same to from l = record {
 abbrev pub HasVersions : List Row → List Row → Type 0
 HasVersions parents rows = (row : Row) → Has rows row → (key : (List ℕ × ℕ)) × HasVersionKey row key × (has_version parents row ≡ true)
 
-module _ (first : ℕ) (high : 10 ≤ first) (indexes : List Index) (apart : AreApart (begins (added first) indexes)) (db next : Trees) (m : FinMap version_cmp VersionRow) (shows : ShowsMap version_form (db 2) (get m)) (key : (List ℕ × ℕ)) (found : List Row) where
+module _ (first : ℕ) (high : 10 ≤ first) (indexes : List Index) (apart : HaveOwnTrees (five_tables_then (added_tables first) indexes)) (db next : Trees) (m : FinMap version_cmp VersionEntryView) (shows : ShowsMap version_form (db 2) (get m)) (key : (List ℕ × ℕ)) (found : List Row) where
   abbrev schema : Schema
-  schema = begins (added first) indexes
+  schema = five_tables_then (added_tables first) indexes
 
   abbrev named : Row → Bool
   named = passes by_version (Text key.0 ∷ Int (pos key.1) ∷ [])

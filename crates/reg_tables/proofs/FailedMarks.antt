@@ -34,8 +34,8 @@ use Rattle.sqlite_rules.specs.Lists.{Has}
 use Rattle.sqlite_rules.proofs.ListLemmas.{all_has, has_got, test_from, some_has}
 use Rattle.sqlite_rules.proofs.TableLemmas.{int_is, without_all_has, put_all_has, put_all_adds, put_all_keeps}
 use Rattle.sqlite_tied.specs.Compute.{everything}
-use Rattle.reg_tables.specs.Layout.{begins, added, versions}
-use Rattle.reg_tables.specs.Contents.{Contents, HoldsIn, version_cmp, VersionRow, version_form, TableName}
+use Rattle.reg_tables.specs.Layout.{five_tables_then, added_tables, versions}
+use Rattle.reg_tables.specs.Contents.{Contents, HoldsContents, version_cmp, VersionEntryView, version_form, TableName}
 use Rattle.reg_tables.specs.TableMaps.{IsEntry}
 use Rattle.reg_tables.specs.FailedCalls.{IsInsertFault}
 use Rattle.reg_tables.specs.Inside.Statements.{plain_query, by_version}
@@ -48,7 +48,7 @@ use Rattle.reg_tables.proofs.Statements.{with_flag, mark_version, mark_version_i
 use Rattle.reg_tables.proofs.UniqueLemmas.{on_columns, with_tree_there, with_tree_elsewhere, stays_unique}
 use Rattle.reg_tables.proofs.WriteFaults.{refused_by, update_refused}
 use Rattle.reg_tables.proofs.ForeignKeys.{has_text_at, more_versions, kept_refers}
-use Rattle.reg_tables.proofs.Settled.{IsSettled, steady}
+use Rattle.reg_tables.proofs.WellDeclared.{IsWellDeclared, steady}
 use Rattle.reg_tables.proofs.TableFaults.{obeys as obeyed, differ_itself, plain_fits}
 use Rattle.reg_tables.proofs.FailedVersions.{version_keys, flag_passes}
 
@@ -70,9 +70,9 @@ same_agreement r a b subject number = let of_key : Value → Value → Bool = λ
 abbrev marked_row : ℤ → List ℕ × ℕ → ℕ → Row
 marked_row place key id = Int place ∷ Text key.0 ∷ Int (pos key.1) ∷ Int (pos id) ∷ Int (pos 1) ∷ []
 
-module _ (first : ℕ) (indexes : List Index) (high : 10 ≤ first) (s : IsSettled (begins (added first) indexes)) (old new : State) (contents : Contents) (h : HoldsIn (begins (added first) indexes) old.now contents) (e : Error) (key : List ℕ × ℕ) where
+module _ (first : ℕ) (indexes : List Index) (high : 10 ≤ first) (s : IsWellDeclared (five_tables_then (added_tables first) indexes)) (old new : State) (contents : Contents) (h : HoldsContents (five_tables_then (added_tables first) indexes) old.now contents) (e : Error) (key : List ℕ × ℕ) where
   abbrev layout : Schema
-  layout = begins (added first) indexes
+  layout = five_tables_then (added_tables first) indexes
 
   abbrev db : Trees
   db = old.now.trees
@@ -93,7 +93,7 @@ module _ (first : ℕ) (indexes : List Index) (high : 10 ≤ first) (s : IsSettl
   obeys = obeyed layout old.now h.declared h.sound
 
   -- a row that passes is the version's
-  its_version : (r : Row) → Has (db 2) r → named r ≡ true → (v : VersionRow) × (get contents.versions key ≡ Some v) × IsEntry version_form r key v
+  its_version : (r : Row) → Has (db 2) r → named r ≡ true → (v : VersionEntryView) × (get contents.versions key ≡ Some v) × IsEntry version_form r key v
   its_version = own_row version_form version_cmp version_order db 2 contents.versions (h.shows TableName.Versions) key by_version params (λ row q is. by_version_test row key q is)
 
   -- the rows that were found are the version's, if there is one
@@ -121,7 +121,7 @@ module _ (first : ℕ) (indexes : List Index) (high : 10 ≤ first) (s : IsSettl
       was : Row
       there : Has (db 2) was
       passing : named was ≡ true
-      version : VersionRow
+      version : VersionEntryView
       known : get contents.versions key ≡ Some version
       entry : IsEntry version_form was key version
       is : x ≡ marked_row (id_in (rowid was)) key version.id
@@ -142,15 +142,15 @@ module _ (first : ℕ) (indexes : List Index) (high : 10 ≤ first) (s : IsSettl
     each : (p : Row → Bool) → ((place : ℤ) (id : ℕ) → p (marked_row place key id) ≡ true) → list_all p edit.news ≡ false → ⊥
     each p good fails = both_ways _ fails (test_from p edit.news (λ x new. let it = is_new x new in ap p it.is ∙ good (id_in (rowid it.was)) it.version.id))
 
-    place_of : (x : Row) (it : IsNew x) → rowid x ≡ rowid it.was
-    place_of x it = ap (λ (r : Row). rowid r) it.is ∙ sym (int_is (rowid it.was) (all_has _ (db 2) it.was (h.shows TableName.Versions).rowids.1 it.there))
+    ordinal_of : (x : Row) (it : IsNew x) → rowid x ≡ rowid it.was
+    ordinal_of x it = ap (λ (r : Row). rowid r) it.is ∙ sym (int_is (rowid it.was) (all_has _ (db 2) it.was (h.shows TableName.Versions).rowids.1 it.there))
 
     untaken : (x : Row) → Has edit.news x → is_taken left x ≡ true → ⊥
     untaken x new taken =
         let it = is_new x new in
         let r = some_has (λ y. is_eq (value_cmp (rowid y) (rowid x))) left taken in
         let stood = left_fails named rest (db 2) found (h.shows TableName.Versions).rowids f.finds r.0 r.1 in
-        let tie = subst (λ v. value_cmp (rowid r.0) v ≡ Equal) (place_of x it) (equal_of _ r.2) in
+        let tie = subst (λ v. value_cmp (rowid r.0) v ≡ Equal) (ordinal_of x it) (equal_of _ r.2) in
         let same : r.0 ≡ it.was = same_if_tied (db 2) r.0 it.was (h.shows TableName.Versions).rowids stood.0 it.there tie in
         both_ways _ stood.1 (ap named same ∙ it.passing)
 
@@ -172,7 +172,7 @@ module _ (first : ℕ) (indexes : List Index) (high : 10 ≤ first) (s : IsSettl
           | inl also ↦
               let that = is_new r also in
               let same : that.was ≡ it.was = (h.shows TableName.Versions).once that.was it.was that.there it.there (that.entry.0 ∙ sym it.entry.0) in
-              let place : rowid r ≡ rowid fresh = place_of r that ∙ ap (λ (x : Row). rowid x) same ∙ sym (place_of fresh it) in
+              let place : rowid r ≡ rowid fresh = ordinal_of r that ∙ ap (λ (x : Row). rowid x) same ∙ sym (ordinal_of fresh it) in
               both_ways _ (differ_itself (rowid fresh)) (subst (λ v. differ v (rowid fresh) ≡ true) place differs)
           | inr stays ↦
               let stood = left_fails named rest (db 2) found (h.shows TableName.Versions).rowids f.finds r stays in
@@ -239,7 +239,7 @@ module _ (first : ℕ) (indexes : List Index) (high : 10 ≤ first) (s : IsSettl
   pub mark_version_fails : ExecutesInside 0 mark_version params old new (Err e) → IsInsertFault old new e
   unfolding understood everything
   mark_version_fails ran =
-      elim (refused_by mark_version params old new layout h.declared (Update 1 marking) (mark_version_is (added first) indexes) (lit≤ tt, refl) (record { silent = refl; stays = refl }) e ran) [
+      elim (refused_by mark_version params old new layout h.declared (Update 1 marking) (mark_version_is (added_tables first) indexes) (lit≤ tt, refl) (record { silent = refl; stays = refl }) e ran) [
         | inl fault ↦ inl (inl (inl fault))
         | inr rest ↦ elim rest [
           | inl large ↦ inl (inr large.0)

@@ -28,15 +28,15 @@ use Rattle.sqlite_sql.specs.Ops.{binary, is_true, is_false, from_truth}
 use Rattle.sqlite_value.proofs.OrderLemmas.{value_cmp-Text, value_cmp-Int}
 use Rattle.sqlite_value.specs.Keys.{first_key}
 use Rattle.sqlite_tied.specs.Compute.{everything}
-use Rattle.reg_tables.specs.Layout.{begins, added, texts}
-use Rattle.reg_tables.specs.Contents.{text_cmp, version_cmp, version_key_cells, flag_cell, Contents, HoldsIn, TableName}
+use Rattle.reg_tables.specs.Layout.{five_tables_then, added_tables, texts}
+use Rattle.reg_tables.specs.Contents.{text_cmp, version_cmp, version_key_cells, flag_cell, Contents, HoldsContents, TableName}
 use Rattle.reg_tables.specs.FailedCalls.{IsPutFault}
 use Rattle.reg_tables.specs.Inside.KeyedLaws.{IsKeyOrder}
 use Rattle.reg_tables.proofs.MapLemmas.{same_key}
 use Rattle.reg_tables.proofs.KeyedTables.{text_order, version_order, by_version_test, cast-Null, cast-Int}
 use Rattle.reg_tables.proofs.Statements.{text_terms, put_text, put_text_is}
 use Rattle.reg_tables.proofs.ForeignKeys.{has_version, more_texts, kept_refers}
-use Rattle.reg_tables.proofs.Settled.{IsSettled}
+use Rattle.reg_tables.proofs.WellDeclared.{IsWellDeclared}
 use Rattle.reg_tables.proofs.UniqueLemmas.{on_columns}
 use Rattle.reg_tables.proofs.TableFaults.{IsFree, insert_fails}
 
@@ -64,9 +64,9 @@ flag_passes false = refl
 numbers_apart : IsKeyOrder int_cmp
 numbers_apart = record { total = int_cmp_total; antisymmetric = int_cmp-IsAntisymmetric }
 
-module _ (first : ℕ) (indexes : List Index) (high : 10 ≤ first) (s : IsSettled (begins (added first) indexes)) (old new : State) (contents : Contents) (h : HoldsIn (begins (added first) indexes) old.now contents) (e : Error) where
+module _ (first : ℕ) (indexes : List Index) (high : 10 ≤ first) (s : IsWellDeclared (five_tables_then (added_tables first) indexes)) (old new : State) (contents : Contents) (h : HoldsContents (five_tables_then (added_tables first) indexes) old.now contents) (e : Error) where
   abbrev here : Schema
-  here = begins (added first) indexes
+  here = five_tables_then (added_tables first) indexes
 
   -- the rowid is the id, which is free
   pub put_text_fails : (id : ℕ) (text : List ℕ) → id < 2 ^ 32 → get contents.texts id ≡ None → ((other : ℕ) → get contents.texts other ≡ Some text → ⊥)
@@ -77,7 +77,7 @@ module _ (first : ℕ) (indexes : List Index) (high : 10 ≤ first) (s : IsSettl
       let row : Row = Int (pos id) ∷ Null ∷ Text text ∷ [] in
       let put : Edit = edit_of old.now.trees texts [] Chosen 0 (value_rows (stamped texts params) 3 (length text_terms / 3) text_terms) in
       let news : put.news ≡ row ∷ [] = rw (cast-Null, cast-Int (pos id)) in
-      elim (insert_fails here s.apart 0 texts (s.at TableName.Texts) old new h.declared h.sound text_terms 3 params row put_text refl (put_text_is (added first) indexes) (lit≤ tt, refl) refl news (record {
+      elim (insert_fails here s.apart 0 texts (s.at TableName.Texts) old new h.declared h.sound text_terms 3 params row put_text refl (put_text_is (added_tables first) indexes) (lit≤ tt, refl) refl news (record {
         keyed = refl;
         typed = refl;
         present = refl;

@@ -26,7 +26,7 @@ use Rattle.reg_tables.specs.FailedCalls.{IsFault}
 use Rattle.sqlite.specs.Query.{Query}
 use Rattle.sqlite.specs.Tree.{Trees}
 use Rattle.sqlite_sql.specs.Program.{ProgramOverflows}
-use Rattle.reg_tables.specs.Inside.Statements.{IsWhole, IsSelect, TakesSelect, Takes, TableQuery, body_of, IsQuery}
+use Rattle.reg_tables.specs.Inside.Statements.{IsOneStatement, IsSelect, TakesSelect, Takes, TableQuery, body_of, IsQuery}
 use Rattle.sqlite.specs.Schema.{Schema}
 use Rattle.reg_tables.proofs.Reasons.{reason_of, reason_if_shut, reason_by, fault_until}
 use Rattle.reg_tables.proofs.Statements.{IsAsked}
@@ -64,7 +64,7 @@ module _ (sql : List ℕ) (params : Row) (old new : State) (known : IsTrue old.i
   fails e (inl (inl (inl fault, same))) = absurd (subst IsPlain fault.1 (known same.0.was_open).is.command.plain)
   fails e (inl (inl (inr wrong, same))) =
       let it = known same.0.was_open in
-      let given = subst (IsWhole sql (length params)) wrong.1 it.takes.whole in
+      let given = subst (IsOneStatement sql (length params)) wrong.1 it.takes.whole in
       let bare = subst IsPlain wrong.1 it.is.command.plain in
       absurd (elim wrong.2 [ inl tail ↦ tail.0 given.0 | inr rest ↦ elim rest [ inl other ↦ other.0 (sym given.1) | inr clock ↦ clock.0 bare.1 ] ])
   fails e (inr shows) = elim (open_or_fault shows.0 (timed params shows.0.formats shows.1.now) e shows.0.returning shows.2) [ inl is_open ↦ shown_faults e (known is_open) shows | inr fault ↦ fault ]

@@ -19,8 +19,8 @@ use Rattle.sqlite_trees.proofs.ListLemmas.{ascending-filter, ascending_weaker}
 use Rattle.sqlite_value.proofs.OrderLemmas.{value_cmp-Int, value_cmp-Text}
 use Rattle.reg_tables.specs.Layout.{HasFiveTables}
 use Rattle.reg_tables.specs.TableMaps.{IsEntry, ShowsMap}
-use Rattle.reg_tables.specs.Contents.{text_cmp, version_cmp, version_key_cells, version_form, Contents, AreReadable, HoldsIn}
-use Rattle.reg_tables.specs.Entries.{NumberedVersion, numbered, numbered_cells, subject_versions, IsReadableNumbered, keyed, keyed_cells, IsReadableKeyed}
+use Rattle.reg_tables.specs.Contents.{text_cmp, version_cmp, version_key_cells, version_form, Contents, AreReadable, HoldsContents}
+use Rattle.reg_tables.specs.Entries.{SubjectVersionView, subject_version_view, subject_version_cells, subject_versions, IsReadableSubjectVersion, listed_version_view, listed_version_cells, IsReadableListedVersion}
 use Rattle.reg_tables.specs.declared.listed.SubjectVersion.{SubjectVersion}
 use Rattle.reg_tables.specs.declared.listed.ListedVersion.{ListedVersion}
 use Rattle.reg_tables.specs.Inside.Statements.{ordered_query, TableQuery, body_of, IsQuery}
@@ -113,7 +113,7 @@ by_next subject number row e is =
 abbrev keyed_columns : Row → Row
 keyed_columns row = column row 0 ∷ column row 1 ∷ column row 2 ∷ column row 3 ∷ []
 
-module _ (old new : State) (schema : Schema) (contents : Contents) (h : HoldsIn schema old.now contents) (first : HasFiveTables schema) (subject : List ℕ) (found : List Row) where
+module _ (old new : State) (schema : Schema) (contents : Contents) (h : HoldsContents schema old.now contents) (first : HasFiveTables schema) (subject : List ℕ) (found : List Row) where
   module _ (shown : Shown find_behind.sql (Text subject ∷ []) old new found) where
     abbrev is_behind : Entry → Bool
     is_behind e = is_gt (text_cmp e.0.0 subject)
@@ -121,15 +121,15 @@ module _ (old new : State) (schema : Schema) (contents : Contents) (h : HoldsIn 
     its : IsQuery find_behind old.now.schema
     its = (asks_behind subject).is old.now.schema (laid_out h first)
 
-    pub line_behind : (line : Option ListedVersion) → option_map keyed_columns (slice_get found 0) ≡ option_map (λ (line : ListedVersion). keyed_cells (keyed line)) line
-        → option_map keyed line ≡ find is_behind (entries contents.versions)
+    pub line_behind : (line : Option ListedVersion) → option_map keyed_columns (slice_get found 0) ≡ option_map (λ (line : ListedVersion). listed_version_cells (listed_version_view line)) line
+        → option_map listed_version_view line ≡ find is_behind (entries contents.versions)
     line_behind line read =
-        let first = shows_first find_behind refl (Text subject ∷ []) old new its found shown contents (five h first).versions is_behind (by_behind subject) keyed_cells keyed_shown in
-        same_shown keyed_cells distinct_keyed (option_map keyed line) (find is_behind (entries contents.versions))
-        (map_twice keyed_cells keyed line ∙ sym read ∙ ap (option_map keyed_columns) first ∙ map_twice keyed_columns keyed_cells (find is_behind (entries contents.versions)))
+        let first = shows_first find_behind refl (Text subject ∷ []) old new its found shown contents (five h first).versions is_behind (by_behind subject) listed_version_cells keyed_shown in
+        same_shown listed_version_cells distinct_keyed (option_map listed_version_view line) (find is_behind (entries contents.versions))
+        (map_twice listed_version_cells listed_version_view line ∙ sym read ∙ ap (option_map keyed_columns) first ∙ map_twice keyed_columns listed_version_cells (find is_behind (entries contents.versions)))
 
-    pub readable_behind : AreReadable contents → All IsReadableKeyed found
-    readable_behind = readable_first find_behind refl (Text subject ∷ []) old new its found shown contents (five h first).versions is_behind (by_behind subject) keyed_cells keyed_shown IsReadableKeyed can_be_held
+    pub readable_behind : AreReadable contents → All IsReadableListedVersion found
+    readable_behind = readable_first find_behind refl (Text subject ∷ []) old new its found shown contents (five h first).versions is_behind (by_behind subject) listed_version_cells keyed_shown IsReadableListedVersion can_be_held
 
   module _ (number : ℕ) (shown : Shown find_next.sql (Text subject ∷ Int (pos number) ∷ []) old new found) where
     abbrev is_next : Entry → Bool
@@ -138,18 +138,18 @@ module _ (old new : State) (schema : Schema) (contents : Contents) (h : HoldsIn 
     it : IsQuery find_next old.now.schema
     it = (asks_next subject number).is old.now.schema (laid_out h first)
 
-    next_entry : find (λ (version : NumberedVersion). is_gt (nat_cmp version.0 number)) (subject_versions subject contents) ≡ option_map entry_version (find is_next (entries contents.versions))
+    next_entry : find (λ (version : SubjectVersionView). is_gt (nat_cmp version.0 number)) (subject_versions subject contents) ≡ option_map entry_version (find is_next (entries contents.versions))
     next_entry =
-        find-map entry_version (λ (version : NumberedVersion). is_gt (nat_cmp version.0 number)) (filter (λ (e : Entry). bytes_eq e.0.0 subject) (entries contents.versions))
+        find-map entry_version (λ (version : SubjectVersionView). is_gt (nat_cmp version.0 number)) (filter (λ (e : Entry). bytes_eq e.0.0 subject) (entries contents.versions))
         ∙ ap (option_map entry_version) (find-filter (λ (e : Entry). is_gt (nat_cmp e.0.1 number)) (λ (e : Entry). bytes_eq e.0.0 subject) (entries contents.versions))
 
-    pub next_line : (line : Option SubjectVersion) → option_map line_columns (slice_get found 0) ≡ option_map (λ (line : SubjectVersion). numbered_cells (numbered line)) line
-        → option_map numbered line ≡ find (λ (version : NumberedVersion). is_gt (nat_cmp version.0 number)) (subject_versions subject contents)
+    pub next_line : (line : Option SubjectVersion) → option_map line_columns (slice_get found 0) ≡ option_map (λ (line : SubjectVersion). subject_version_cells (subject_version_view line)) line
+        → option_map subject_version_view line ≡ find (λ (version : SubjectVersionView). is_gt (nat_cmp version.0 number)) (subject_versions subject contents)
     next_line line read =
         let first = shows_first find_next refl (Text subject ∷ Int (pos number) ∷ []) old new it found shown contents (five h first).versions is_next (by_next subject number) entry_cells entry_shown in
-        same_shown numbered_cells distinct_numbered (option_map numbered line) (option_map entry_version (find is_next (entries contents.versions)))
-        (map_twice numbered_cells numbered line ∙ sym read ∙ ap (option_map line_columns) first ∙ map_twice line_columns entry_cells (find is_next (entries contents.versions))
-        ∙ sym (map_twice numbered_cells entry_version (find is_next (entries contents.versions)))) ∙ sym next_entry
+        same_shown subject_version_cells distinct_numbered (option_map subject_version_view line) (option_map entry_version (find is_next (entries contents.versions)))
+        (map_twice subject_version_cells subject_version_view line ∙ sym read ∙ ap (option_map line_columns) first ∙ map_twice line_columns entry_cells (find is_next (entries contents.versions))
+        ∙ sym (map_twice subject_version_cells entry_version (find is_next (entries contents.versions)))) ∙ sym next_entry
 
-    pub readable_next : AreReadable contents → All IsReadableNumbered found
-    readable_next = readable_first find_next refl (Text subject ∷ Int (pos number) ∷ []) old new it found shown contents (five h first).versions is_next (by_next subject number) entry_cells entry_shown IsReadableNumbered readable_entry
+    pub readable_next : AreReadable contents → All IsReadableSubjectVersion found
+    readable_next = readable_first find_next refl (Text subject ∷ Int (pos number) ∷ []) old new it found shown contents (five h first).versions is_next (by_next subject number) entry_cells entry_shown IsReadableSubjectVersion readable_entry

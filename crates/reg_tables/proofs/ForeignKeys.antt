@@ -11,7 +11,7 @@ use Rattle.sqlite_schema.specs.Rules.{agree, has_null, Refers}
 use Rattle.sqlite_value.specs.Keys.{plain, joined}
 use Rattle.sqlite_rules.specs.Lists.{Has}
 use Rattle.sqlite_rules.proofs.ListLemmas.{all_has, all_from, some_has, some_from}
-use Rattle.reg_tables.specs.Layout.{begins, added}
+use Rattle.reg_tables.specs.Layout.{five_tables_then, added_tables}
 use Rattle.reg_tables.specs.Inside.KeyedLaws.{KeepsOthers}
 
 -- the id in this column is that of a text
@@ -48,7 +48,7 @@ pub record Refer (first : ℕ) (db : Trees) : Type 0 where
   pub seen : (r : Row) → Has (db (first + 4)) r → has_text_at 4 (db 0) r ≡ true
 
 module _ (first : ℕ) (indexes : List Index) where
-  pub refer_if : (db : Trees) → Refers All (begins (added first) indexes) db → Refer first db
+  pub refer_if : (db : Trees) → Refers All (five_tables_then (added_tables first) indexes) db → Refer first db
   unfolding same_name joined
   refer_if db h =
       let of_versions : AllByRecursion (λ row. (has_text_at 3 (db 0) row && true) ≡ true) (db 2) = h.1.0 in
@@ -61,7 +61,7 @@ module _ (first : ℕ) (indexes : List Index) where
         seen = λ r there. (and_parts _ _ (all_has (λ row. (has_text_at 4 (db 0) row && (has_version (db 2) row && true)) ≡ true) (db (first + 4)) r of_places there)).0;
       }
 
-  pub refers_if : (db : Trees) → Refer first db → Refers All (begins (added first) indexes) db
+  pub refers_if : (db : Trees) → Refer first db → Refers All (five_tables_then (added_tables first) indexes) db
   unfolding same_name joined
   refers_if db h =
       let of_versions : AllByRecursion (λ row. (has_text_at 3 (db 0) row && true) ≡ true) (db 2) = all_from _ (db 2) (λ r there. and_from _ _ (h.versions r there) refl) in
@@ -75,9 +75,9 @@ module _ (first : ℕ) (indexes : List Index) where
       each (row ∷ rows) = (refl, each rows)
 
   -- a write to one of the five tables breaks none, if what was a reference's parent has one in its place
-  pub kept_refers : (tree : ℕ) → 10 ≤ first → tree ≤ 9 → (old new : Trees) → KeepsOthers (begins (added first) indexes) tree old new → ((place : ℕ) (row : Row) → has_text_at place (old 0) row ≡ true → has_text_at place (new 0) row ≡ true)
+  pub kept_refers : (tree : ℕ) → 10 ≤ first → tree ≤ 9 → (old new : Trees) → KeepsOthers (five_tables_then (added_tables first) indexes) tree old new → ((place : ℕ) (row : Row) → has_text_at place (old 0) row ≡ true → has_text_at place (new 0) row ≡ true)
       → ((row : Row) → has_version (old 2) row ≡ true → has_version (new 2) row ≡ true)
-      → (((row : Row) → Has (old 2) row → has_text_at 3 (old 0) row ≡ true) → (row : Row) → Has (new 2) row → has_text_at 3 (new 0) row ≡ true) → Refers All (begins (added first) indexes) old → Refers All (begins (added first) indexes) new
+      → (((row : Row) → Has (old 2) row → has_text_at 3 (old 0) row ≡ true) → (row : Row) → Has (new 2) row → has_text_at 3 (new 0) row ≡ true) → Refers All (five_tables_then (added_tables first) indexes) old → Refers All (five_tables_then (added_tables first) indexes) new
   kept_refers tree high low old new others of_texts of_versions rows h =
       let had = refer_if old h in
       let evidence : new (first + 2) ≡ old (first + 2) = others.1.1.1.1.1.1.0 (λ e. omega (arith, e, low, high)) in
@@ -90,7 +90,7 @@ module _ (first : ℕ) (indexes : List Index) where
       })
 
   -- a write to a table that refers to nothing, and to which nothing refers, breaks none
-  pub beside_refers : (tree : ℕ) → 0 ≢ tree → 2 ≢ tree → first + 2 ≢ tree → first + 4 ≢ tree → (old new : Trees) → KeepsOthers (begins (added first) indexes) tree old new → Refers All (begins (added first) indexes) old → Refers All (begins (added first) indexes) new
+  pub beside_refers : (tree : ℕ) → 0 ≢ tree → 2 ≢ tree → first + 2 ≢ tree → first + 4 ≢ tree → (old new : Trees) → KeepsOthers (five_tables_then (added_tables first) indexes) tree old new → Refers All (five_tables_then (added_tables first) indexes) old → Refers All (five_tables_then (added_tables first) indexes) new
   beside_refers tree not_texts not_versions not_evidence not_against old new same h =
       let had = refer_if old h in
       let texts : new 0 ≡ old 0 = same.0 not_texts in

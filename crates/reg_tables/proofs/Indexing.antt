@@ -32,10 +32,10 @@ use Rattle.sqlite_rules.proofs.RuleLemmas.{keeps_at, keeps_from}
 use Rattle.sqlite_trees.specs.View.{is_int, IsStorable}
 use Rattle.sqlite_trees.specs.Sound.{same_name as same_word, begins as begins_with, is_free_name, fits_kind}
 use Rattle.sqlite_tied.specs.Compute.{everything}
-use Rattle.reg_tables.specs.Layout.{begins, layout_one_unindexed, versions, versions_of_id, added, layout_two_unindexed, GetsIndex}
-use Rattle.reg_tables.specs.Contents.{Contents, HoldsIn, TableName}
+use Rattle.reg_tables.specs.Layout.{five_tables_then, layout_one_unindexed, versions, versions_of_id, added_tables, layout_two_unindexed, GetsIndex}
+use Rattle.reg_tables.specs.Contents.{Contents, HoldsContents, TableName}
 use Rattle.reg_tables.specs.FailedCalls.{IsFault}
-use Rattle.reg_tables.specs.Inside.Statements.{IsCommand, IsWhole}
+use Rattle.reg_tables.specs.Inside.Statements.{IsCommand, IsOneStatement}
 use Rattle.reg_tables.proofs.Tables.{all_still}
 use Rattle.reg_tables.proofs.StoredRows.{storable}
 use Rattle.reg_tables.proofs.WriteFaults.{refused_by}
@@ -57,18 +57,18 @@ its_index i is = let both : ◌≡◌ {A = _} (Ok i) (Ok (in_tree 0)) = sym is �
 
 -- what the CREATE INDEX makes of tables that begin with the five, and what SQLite asks of the index's name, columns and text
 record MakesIndex (tables : List Table) (indexes : List Index) (tree : ℕ) : Type 0 where
-  command : IsCommand (begins tables indexes) make_versions_of_id (CreateIndex 1)
-  text : statement_of make_versions_of_id (understood (begins tables indexes) make_versions_of_id) ≡ make_versions_of_id
-  is : indexed (begins tables indexes) versions (in_tree 0) ≡ begins tables (indexes ++ in_tree tree ∷ [])
-  whole : IsWhole make_versions_of_id 0 (understood (begins tables indexes) make_versions_of_id)
-  room : next_tree (begins tables indexes) < 65536
-  unused : is_used (begins tables indexes) versions_of_id.name ≡ false
+  command : IsCommand (five_tables_then tables indexes) make_versions_of_id (CreateIndex 1)
+  text : statement_of make_versions_of_id (understood (five_tables_then tables indexes) make_versions_of_id) ≡ make_versions_of_id
+  is : indexed (five_tables_then tables indexes) versions (in_tree 0) ≡ five_tables_then tables (indexes ++ in_tree tree ∷ [])
+  whole : IsOneStatement make_versions_of_id 0 (understood (five_tables_then tables indexes) make_versions_of_id)
+  room : next_tree (five_tables_then tables indexes) < 65536
+  unused : is_used (five_tables_then tables indexes) versions_of_id.name ≡ false
 
 first_makes : MakesIndex [] layout_one_unindexed.indexes 10
 unfolding understood everything same_name same_word begins_with
 first_makes = record { command = record { is = refl; plain = (refl, refl) }; text = refl; is = refl; whole = (lit≤ tt, refl); room = lit< tt; unused = refl }
 
-two_makes : MakesIndex (added 10) layout_two_unindexed.indexes 16
+two_makes : MakesIndex (added_tables 10) layout_two_unindexed.indexes 16
 unfolding understood everything same_name same_word begins_with
 two_makes = record { command = record { is = refl; plain = (refl, refl) }; text = refl; is = refl; whole = (lit≤ tt, refl); room = lit< tt; unused = refl }
 
@@ -106,7 +106,7 @@ two_numbers (Text x) b first second = absurd (cc)
 two_numbers (Blob x) b first second = absurd (cc)
 
 -- the ids and the rowids of versions are numbers
-storable_if_held : (tables : List Table) (indexes : List Index) (db : Database) (contents : Contents) → HoldsIn (begins tables indexes) db contents → AreStorable db.trees
+storable_if_held : (tables : List Table) (indexes : List Index) (db : Database) (contents : Contents) → HoldsContents (five_tables_then tables indexes) db contents → AreStorable db.trees
 storable_if_held tables indexes db contents holds = λ row there.
     let it = (holds.shows TableName.Versions).sound row there in
     let id : column row 3 ≡ Int (pos it.1.id) = (let v = it.3.1 in cc) in
@@ -114,16 +114,16 @@ storable_if_held tables indexes db contents holds = λ row there.
 
 -- the index is there too, and each table has the rows that it had
 record IsIndexed (tables : List Table) (indexes : List Index) (tree : ℕ) (old new : Database) : Type 0 where
-  declared : new.schema ≡ begins tables (indexes ++ in_tree tree ∷ [])
+  declared : new.schema ≡ five_tables_then tables (indexes ++ in_tree tree ∷ [])
   sound : IsDatabase new
-  rows : KeepsRows (begins tables indexes).tables old.trees new.trees
+  rows : KeepsRows (five_tables_then tables indexes).tables old.trees new.trees
 
 module _ (tables : List Table) (indexes : List Index) (tree : ℕ) (m : MakesIndex tables indexes tree) where
   abbrev before : Schema
-  before = begins tables indexes
+  before = five_tables_then tables indexes
 
   abbrev after : Schema
-  after = begins tables (indexes ++ in_tree tree ∷ [])
+  after = five_tables_then tables (indexes ++ in_tree tree ∷ [])
 
   is_indexed : (old new : State) (count : ℕ) → old.now.schema ≡ before → Executes make_versions_of_id [] old new (Ok count) → IsIndexed tables indexes tree old.now new.now
   is_indexed old new count declared h =
@@ -139,7 +139,7 @@ module _ (tables : List Table) (indexes : List Index) (tree : ℕ) (m : MakesInd
       }
 
   -- the tables hold what they held
-  holds_indexed : (old new : State) (count : ℕ) (contents : Contents) → HoldsIn before old.now contents → Executes make_versions_of_id [] old new (Ok count) → HoldsIn after new.now contents
+  holds_indexed : (old new : State) (count : ℕ) (contents : Contents) → HoldsContents before old.now contents → Executes make_versions_of_id [] old new (Ok count) → HoldsContents after new.now contents
   holds_indexed old new count contents holds ran =
       let it = is_indexed old new count holds.declared ran in
       record { declared = it.declared; sound = it.sound; shows = all_still before.tables old.now.trees new.now.trees contents it.rows holds.shows }
@@ -203,7 +203,7 @@ module _ (tables : List Table) (indexes : List Index) (tree : ℕ) (m : MakesInd
         refused (inr done) = let e = done.2 in cc
 
   -- over the tables of a sound database, the index fails for the store alone
-  fails_if_sound : (old new : State) (contents : Contents) → HoldsIn before old.now contents → (e : Error) → ExecutesInside 0 make_versions_of_id [] old new (Err e) → IsFault old new e
+  fails_if_sound : (old new : State) (contents : Contents) → HoldsContents before old.now contents → (e : Error) → ExecutesInside 0 make_versions_of_id [] old new (Err e) → IsFault old new e
   fails_if_sound old new contents holds e =
       let obeys = (subst (λ s. IsDatabase (record { schema = s; trees = old.now.trees })) holds.declared holds.sound).obeys in
       index_fails old new holds.declared (unique_with_index old.now.trees (obeys.rules Unique)) (storable_if_held tables indexes old.now contents holds) e
@@ -216,19 +216,19 @@ record IsUnindexed (before after : Schema) : Type 0 where
   indexes : List Index
   tree : ℕ
   makes : MakesIndex tables indexes tree
-  was : before ≡ begins tables indexes
-  is : after ≡ begins tables (indexes ++ in_tree tree ∷ [])
+  was : before ≡ five_tables_then tables indexes
+  is : after ≡ five_tables_then tables (indexes ++ in_tree tree ∷ [])
 
 is_unindexed_one : (before after : Schema) → GetsIndex before after → IsUnindexed before after
 is_unindexed_one _ _ (inl first) = record { tables = []; indexes = layout_one_unindexed.indexes; tree = 10; makes = first_makes; was = first.0; is = first.1 }
-is_unindexed_one _ _ (inr second) = record { tables = added 10; indexes = layout_two_unindexed.indexes; tree = 16; makes = two_makes; was = second.0; is = second.1 }
+is_unindexed_one _ _ (inr second) = record { tables = added_tables 10; indexes = layout_two_unindexed.indexes; tree = 16; makes = two_makes; was = second.0; is = second.1 }
 
-pub indexes_versions : (old new : State) (count : ℕ) → Executes make_versions_of_id [] old new (Ok count) → (before after : Schema) → GetsIndex before after → (contents : Contents) → HoldsIn before old.now contents → HoldsIn after new.now contents
+pub indexes_versions : (old new : State) (count : ℕ) → Executes make_versions_of_id [] old new (Ok count) → (before after : Schema) → GetsIndex before after → (contents : Contents) → HoldsContents before old.now contents → HoldsContents after new.now contents
 indexes_versions old new count ran before after known contents =
     let it = is_unindexed_one before after known in
-    subst₂ (λ b a. HoldsIn b old.now contents → HoldsIn a new.now contents) (sym it.was) (sym it.is) (λ holds. holds_indexed it.tables it.indexes it.tree it.makes old new count contents holds ran)
+    subst₂ (λ b a. HoldsContents b old.now contents → HoldsContents a new.now contents) (sym it.was) (sym it.is) (λ holds. holds_indexed it.tables it.indexes it.tree it.makes old new count contents holds ran)
 
-pub index_versions_fails : (old new : State) (e : Error) → ExecutesInside 0 make_versions_of_id [] old new (Err e) → (before after : Schema) → GetsIndex before after → (contents : Contents) → HoldsIn before old.now contents → IsFault old new e
+pub index_versions_fails : (old new : State) (e : Error) → ExecutesInside 0 make_versions_of_id [] old new (Err e) → (before after : Schema) → GetsIndex before after → (contents : Contents) → HoldsContents before old.now contents → IsFault old new e
 index_versions_fails old new e ran before after known contents =
     let it = is_unindexed_one before after known in
-    subst (λ b. HoldsIn b old.now contents → IsFault old new e) (sym it.was) (λ holds. fails_if_sound it.tables it.indexes it.tree it.makes old new contents holds e ran)
+    subst (λ b. HoldsContents b old.now contents → IsFault old new e) (sym it.was) (λ holds. fails_if_sound it.tables it.indexes it.tree it.makes old new contents holds e ran)

@@ -5,7 +5,7 @@ use Rattle.std.specs.FinMap.{get}
 use Rattle.sqlite.specs.Order.{Row}
 use Rattle.sqlite.specs.Schema.{Schema}
 use Rattle.sqlite.specs.State.{State, Shown}
-use Rattle.reg_tables.specs.Contents.{TableName, HasTable, table_in, KeyOf, ValueOf, cmp_of, form_of, map_of, Contents, HoldsIn}
+use Rattle.reg_tables.specs.Contents.{TableName, HasTable, table_in, KeyOf, ValueOf, cmp_of, form_of, map_of, Contents, HoldsContents}
 use Rattle.reg_tables.specs.Inside.Keyed.{tests_of}
 use Rattle.reg_tables.specs.Inside.KeyedLaws.{FindsRow, find_query}
 use Rattle.reg_tables.specs.Inside.Statements.{TableQuery, IsQuery, Takes}
@@ -15,7 +15,7 @@ use Rattle.reg_tables.proofs.Tables.{shown_by}
 use Rattle.reg_tables.proofs.Faults.{asks}
 use Rattle.reg_tables.proofs.TableLines.{ReadsBy, all_if_each}
 
-module _ (schema : Schema) (name : TableName) (known : HasTable name schema) (sql : List ℕ) (f : FindsRow schema name sql) (key : KeyOf name) (old new : State) (contents : Contents) (h : HoldsIn schema old.now contents) where
+module _ (schema : Schema) (name : TableName) (known : HasTable name schema) (sql : List ℕ) (f : FindsRow schema name sql) (key : KeyOf name) (old new : State) (contents : Contents) (h : HoldsContents schema old.now contents) where
   abbrev query : TableQuery
   query = find_query (table_in schema name) (tests_of name) f.shown f.names sql
 

@@ -39,7 +39,7 @@ use Rattle.reg_tables.specs.Rooms.{HasRoom}
 use Rattle.reg_tables.proofs.Rooms.{room_after}
 use Rattle.reg_tables.proofs.ListMembers.{has_mapped, maps_had}
 use Rattle.reg_tables.specs.Contents.{version_cmp, number_cells, version_key_cells, flag_cell, text_cmp, text_cells}
-use Rattle.reg_tables.specs.Inside.KeyedLaws.{IsIdle, IsSteady, TurnsTable, IsKeyOrder}
+use Rattle.reg_tables.specs.Inside.KeyedLaws.{HasNoForeignKeyAction, HasNoUpdateAction, ReplacesMap, IsKeyOrder}
 use Rattle.reg_tables.specs.Inside.Statements.{plain_query, IsCommand, IsSelect, TableQuery, body_of, IsQuery, by_key, by_id, by_version}
 use Rattle.reg_tables.proofs.Queries.{passes, passing, one_passing, found_count, answer_has, has_answer}
 use Rattle.reg_tables.proofs.MapLemmas.{same_key, tied_key}
@@ -208,7 +208,7 @@ module _ (schema : Schema) {K V : Type 0} (form : Form K V) (R : K → K → Ord
     (there : slice_get schema.tables at ≡ Some table) (old new : State) (declared : old.now.schema ≡ schema) (m : FinMap R V) (shows : ShowsMap form (old.now.trees table.tree) (get m)) (k : K) (sql : List ℕ) (params : Row) (count : ℕ) where
   pub inserts : (terms : List Term) (width : ℕ) (new_row : Row) (v : V) → table.is_counted ≡ false → IsCommand schema sql (Insert at (Values terms width))
       → (edit_of old.now.trees table [] Chosen 0 (value_rows (stamped table params) width (length terms / width) terms)).news ≡ new_row ∷ [] → IsRowOf form new_row k v → get m k ≡ None
-      → Executes sql params old new (Ok count) → TurnsTable schema form table.tree old.now new.now (get (insert m k v))
+      → Executes sql params old new (Ok count) → ReplacesMap schema form table.tree old.now new.now (get (insert m k v))
   inserts terms width new_row v uncounted it news is free h =
       let db = old.now.trees in
       let w = runs_as sql params old new schema declared (Insert at (Values terms width)) it.is it.plain count h in
@@ -233,9 +233,9 @@ module _ (schema : Schema) {K V : Type 0} (form : Form K V) (R : K → K → Ord
       subst (λ r. HasRoom r n) (sym rows) (room_after (db table.tree) n room new_row its)
 
   -- the query of the DELETE tests the key
-  pub removes : IsIdle schema table.tree → (tests : List Term) → IsCommand schema sql (Delete at (record { lets = []; body = plain_query table.tree tests (col 1 0 ∷ []) }))
+  pub removes : HasNoForeignKeyAction schema table.tree → (tests : List Term) → IsCommand schema sql (Delete at (record { lets = []; body = plain_query table.tree tests (col 1 0 ∷ []) }))
       → ((row : Row) (q : K) → form.key_of row ≡ form.key_cells q → passes tests params row ≡ is_eq (R q k)) → Executes sql params old new (Ok count)
-      → TurnsTable schema form table.tree old.now new.now (get (remove m k))
+      → ReplacesMap schema form table.tree old.now new.now (get (remove m k))
   removes idle tests it test h =
       let db = old.now.trees in
       let q : Program = record { lets = []; body = plain_query table.tree tests (col 1 0 ∷ []) } in
@@ -256,10 +256,10 @@ module _ (schema : Schema) {K V : Type 0} (form : Form K V) (R : K → K → Ord
       }
 
   -- the query of the UPDATE tests the key, and shows the rowid and then the new row
-  pub alters : IsSteady schema table → (tests shown : List Term) (change : V → V) → IsCommand schema sql (Update at (record { lets = []; body = plain_query table.tree tests (col 1 0 ∷ shown) }))
+  pub alters : HasNoUpdateAction schema table → (tests shown : List Term) (change : V → V) → IsCommand schema sql (Update at (record { lets = []; body = plain_query table.tree tests (col 1 0 ∷ shown) }))
       → ((row : Row) (q : K) → form.key_of row ≡ form.key_cells q → passes tests params row ≡ is_eq (R q k))
       → ((row : Row) (v : V) → IsEntry form row k v → IsEntry form (cast_row table (eval_all shown (params ∷ row ∷ []))) k (change v)) → Executes sql params old new (Ok count)
-      → TurnsTable schema form table.tree old.now new.now (get (altered m k change))
+      → ReplacesMap schema form table.tree old.now new.now (get (altered m k change))
   alters steady tests shown change it test turns h =
       let db = old.now.trees in
       let q : Program = record { lets = []; body = plain_query table.tree tests (col 1 0 ∷ shown) } in

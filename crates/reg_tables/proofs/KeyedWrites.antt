@@ -16,10 +16,10 @@ use Rattle.sqlite_rules.proofs.ListLemmas.{all_from}
 use Rattle.sqlite_rules.proofs.TableLemmas.{put_all_has, put_all_keeps}
 use Rattle.reg_tables.specs.FailedCalls.{IsFault, IsInsertFault}
 use Rattle.reg_tables.specs.Rooms.{HasRoom}
-use Rattle.reg_tables.specs.Contents.{TableName, place_of, table_in, KeyOf, ValueOf, cmp_of, form_of, MapOf, map_of, with_map, Contents, ShowsIn, HoldsIn}
+use Rattle.reg_tables.specs.Contents.{TableName, ordinal_of, table_in, KeyOf, ValueOf, cmp_of, form_of, MapOf, map_of, with_map, Contents, ShowsIn, HoldsContents}
 use Rattle.reg_tables.specs.TableMaps.{ShowsMap}
 use Rattle.reg_tables.specs.Inside.Keyed.{tests_of, refers_to, cells_of, with_entry, without_entry, IsFreeKey}
-use Rattle.reg_tables.specs.Inside.KeyedLaws.{TurnsTable, IsKeyed, PutsRow, DropsRow, new_row}
+use Rattle.reg_tables.specs.Inside.KeyedLaws.{ReplacesMap, IsKeyed, PutsRow, DropsRow, new_row}
 use Rattle.reg_tables.proofs.KeyedTables.{inserts, inserts_room, removes}
 use Rattle.reg_tables.proofs.Keys.{key_laws}
 use Rattle.reg_tables.proofs.Tables.{its_map, last_map, turned}
@@ -48,24 +48,24 @@ module _ (schema : Schema) (name : TableName) (its : IsKeyed schema name) where
   same_entry : (i : Index) → Has schema.indexes i → guards i table ≡ true → (a b : Row) (q k : KeyOf name) → (form_of name).key_of a ≡ (form_of name).key_cells q → (form_of name).key_of b ≡ (form_of name).key_cells k → agree i.order i.columns a i.columns b ≡ true → q ≡ k
   same_entry i known on a b q k of_a of_b same = its.agrees a b q k of_a of_b (on_columns schema.indexes table table.primary its.guarded i known on a b same)
 
-  module _ (old new : State) (contents : Contents) (h : HoldsIn schema old.now contents) (key : KeyOf name) where
+  module _ (old new : State) (contents : Contents) (h : HoldsContents schema old.now contents) (key : KeyOf name) where
     shows : ShowsMap (form_of name) (old.now.trees table.tree) (get (map_of name contents))
     shows = subst (λ (o : Option Table). ShowsIn (form_of name) old.now.trees o (map_of name contents)) its.is_at.there (h.shows name)
 
-    turns : (map : MapOf name) → TurnsTable schema (form_of name) table.tree old.now new.now (get map) → HoldsIn schema new.now (with_map name map contents)
+    turns : (map : MapOf name) → ReplacesMap schema (form_of name) table.tree old.now new.now (get map) → HoldsContents schema new.now (with_map name map contents)
     turns map t = turned schema its.apart name table its.is_at.there old.now new.now contents h map t
 
     module _ (sql : List ℕ) (p : PutsRow schema name sql) where
-      pub puts : (value : ValueOf name) (count : ℕ) → IsFreeKey name key contents → Executes sql (cells_of name key value) old new (Ok count) → HoldsIn schema new.now (with_entry name key value contents)
+      pub puts : (value : ValueOf name) (count : ℕ) → IsFreeKey name key contents → Executes sql (cells_of name key value) old new (Ok count) → HoldsContents schema new.now (with_entry name key value contents)
       puts value count free ran =
           let is = p.entry (next_rowid (old.now.trees table.tree)) key value in
           turns (insert (map_of name contents) key value)
-          (inserts schema (form_of name) (cmp_of name) (key_laws name).order (key_laws name).distinct (place_of name) table its.is_at.there old new h.declared (map_of name contents) shows key sql (cells_of name key value) count
+          (inserts schema (form_of name) (cmp_of name) (key_laws name).order (key_laws name).distinct (ordinal_of name) table its.is_at.there old new h.declared (map_of name contents) shows key sql (cells_of name key value) count
           p.terms p.width (new_row name (old.now.trees table.tree) key value) value its.uncounted p.is (p.row old.now.trees key value) (record { has_id = refl; has_key = is.0; has_value = is.1 }) free ran)
 
       pub puts_room : (value : ValueOf name) (count : ℕ) → Executes sql (cells_of name key value) old new (Ok count) → (n : ℕ) → HasRoom (old.now.trees table.tree) (n + 1) → HasRoom (new.now.trees table.tree) n
       puts_room value count ran n room =
-          inserts_room schema (form_of name) (cmp_of name) (key_laws name).order (key_laws name).distinct (place_of name) table its.is_at.there old new h.declared (map_of name contents) shows key sql (cells_of name key value) count
+          inserts_room schema (form_of name) (cmp_of name) (key_laws name).order (key_laws name).distinct (ordinal_of name) table its.is_at.there old new h.declared (map_of name contents) shows key sql (cells_of name key value) count
           p.terms p.width (new_row name (old.now.trees table.tree) key value) its.uncounted p.is (p.row old.now.trees key value) refl ran n room
 
       module _ (e : Error) where
@@ -77,7 +77,7 @@ module _ (schema : Schema) (name : TableName) (its : IsKeyed schema name) where
             let rows = old.now.trees table.tree in
             let row = row_of value in
             let stands = p.stands (next_rowid rows) key value in
-            insert_fails schema its.apart (place_of name) table its.is_at old new h.declared h.sound p.terms p.width (cells_of name key value) row sql its.uncounted p.is (p.whole key value)
+            insert_fails schema its.apart (ordinal_of name) table its.is_at old new h.declared h.sound p.terms p.width (cells_of name key value) row sql its.uncounted p.is (p.whole key value)
             (p.typed key value) (p.row old.now.trees key value) (record {
               keyed = refl;
               typed = stands.typed;
@@ -96,13 +96,13 @@ module _ (schema : Schema) (name : TableName) (its : IsKeyed schema name) where
         put_faults value free refers ran n room fits = fault_alone schema old new table (old.now.trees table.tree) (row_of value) e n room refl fits (put_stops value free refers ran)
 
     module _ (sql : List ℕ) (d : DropsRow schema name sql) where
-      pub drops : (count : ℕ) → Executes sql ((form_of name).key_cells key) old new (Ok count) → HoldsIn schema new.now (without_entry name key contents)
+      pub drops : (count : ℕ) → Executes sql ((form_of name).key_cells key) old new (Ok count) → HoldsContents schema new.now (without_entry name key contents)
       drops count ran =
           turns (remove (map_of name contents) key)
-          (removes schema (form_of name) (cmp_of name) (key_laws name).order (key_laws name).distinct (place_of name) table its.is_at.there old new h.declared (map_of name contents) shows key sql ((form_of name).key_cells key) count
-          d.idle (tests_of name) d.is (λ row q is. (key_laws name).test row key q is) ran)
+          (removes schema (form_of name) (cmp_of name) (key_laws name).order (key_laws name).distinct (ordinal_of name) table its.is_at.there old new h.declared (map_of name contents) shows key sql ((form_of name).key_cells key) count
+          d.no_action (tests_of name) d.is (λ row q is. (key_laws name).test row key q is) ran)
 
       pub drop_fails : (e : Error) → ExecutesInside 0 sql ((form_of name).key_cells key) old new (Err e) → IsFault old new e
       drop_fails e =
-          delete_fails schema its.apart (place_of name) table its.is_at old new h.declared h.sound sql ((form_of name).key_cells key) (tests_of name) d.idle d.is (d.whole key) (d.typed key)
+          delete_fails schema its.apart (ordinal_of name) table its.is_at old new h.declared h.sound sql ((form_of name).key_cells key) (tests_of name) d.no_action d.is (d.whole key) (d.typed key)
           (λ found next applies. d.refers old.now.trees next applies.tables) e

@@ -9,8 +9,8 @@ use Rattle.sqlite_schema.specs.Rules.{agree}
 use Rattle.sqlite_sql.specs.Ops.{binary, is_true, from_truth}
 use Rattle.sqlite_value.specs.Keys.{first_key}
 use Rattle.sqlite_value.proofs.OrderLemmas.{value_cmp-Int, value_cmp-Text}
-use Rattle.reg_tables.specs.Contents.{text_cmp, version_cmp, PlaceKey, place_cmp, place_cells, VersionRow, KeptRow, text_cells, number_cells, version_key_cells, flag_cell, version_cells, kept_cells, against_form, TableName, Texts, Versions, Levels, Kept, Meta, Modes, Evidence, Against, KeyOf, ValueOf, cmp_of, form_of}
-use Rattle.reg_tables.specs.Inside.Statements.{by_place}
+use Rattle.reg_tables.specs.Contents.{text_cmp, version_cmp, PositionKey, position_cmp, position_cells, VersionEntryView, KeptReplyView, text_cells, number_cells, version_key_cells, flag_cell, version_cells, kept_cells, against_form, TableName, Texts, Versions, Levels, Kept, Meta, Modes, Evidence, Against, KeyOf, ValueOf, cmp_of, form_of}
+use Rattle.reg_tables.specs.Inside.Statements.{by_position}
 use Rattle.reg_tables.specs.Inside.Keyed.{tests_of}
 use Rattle.reg_tables.specs.Inside.KeyedLaws.{IsKeyOrder}
 use Rattle.reg_tables.proofs.MapLemmas.{same_key, tied_key}
@@ -19,7 +19,7 @@ use Rattle.reg_tables.proofs.KeyedTables.{text_order, distinct_texts, by_key_tes
 
 -- ---- places
 
-same_places : IsAntisymmetric place_cmp
+same_places : IsAntisymmetric position_cmp
 same_places a b h = go (version_cmp a.0 b.0) refl h
   where
     go : (o : Ordering) → version_cmp a.0 b.0 ≡ o → ordering_then o (nat_cmp a.1 b.1) ≡ Equal → a ≡ b
@@ -27,20 +27,20 @@ same_places a b h = go (version_cmp a.0 b.0) refl h
     go Equal e h = let version = version_order.antisymmetric a.0 b.0 e in let position = nat_cmp-IsAntisymmetric a.1 b.1 h in λ i. (version i, position i)
     go Greater e h = absurd (cc)
 
-pub place_order : IsKeyOrder place_cmp
-place_order = record { total = then_total (on_total (λ (key : PlaceKey). key.0) version_order.total) (on_total (λ (key : PlaceKey). key.1) nat_cmp_total); antisymmetric = same_places }
+pub position_order : IsKeyOrder position_cmp
+position_order = record { total = then_total (on_total (λ (key : PositionKey). key.0) version_order.total) (on_total (λ (key : PositionKey). key.1) nat_cmp_total); antisymmetric = same_places }
 
-pub distinct_places : (a b : PlaceKey) → place_cells a ≡ place_cells b → a ≡ b
-distinct_places a b h =
+pub distinct_positions : (a b : PositionKey) → position_cells a ≡ position_cells b → a ≡ b
+distinct_positions a b h =
     let subject : a.0.0 ≡ b.0.0 = cc in
     let number : a.0.1 ≡ b.0.1 = cc in
     let position : a.1 ≡ b.1 = cc in
     λ i. ((subject i, number i), position i)
 
 -- a row passes by its subject, its number and its position
-by_place_test : (row : Row) (k q : PlaceKey) → against_form.key_of row ≡ place_cells q → passes by_place (place_cells k) row ≡ is_eq (place_cmp q k)
+by_position_test : (row : Row) (k q : PositionKey) → against_form.key_of row ≡ position_cells q → passes by_position (position_cells k) row ≡ is_eq (position_cmp q k)
 unfolding binary
-by_place_test row k q is =
+by_position_test row k q is =
     let subject : column row 1 ≡ Text q.0.0 = cc in
     let number : column row 2 ≡ Int (pos q.0.1) = cc in
     let position : column row 3 ≡ Int (pos q.1) = cc in
@@ -65,14 +65,14 @@ distinct_flags true false h = absurd (cc)
 distinct_flags false true h = absurd (cc)
 distinct_flags false false h = refl
 
-pub distinct_version_rows : (a b : VersionRow) → version_cells a ≡ version_cells b → a ≡ b
+pub distinct_version_rows : (a b : VersionEntryView) → version_cells a ≡ version_cells b → a ≡ b
 distinct_version_rows a b h =
     let id : a.id ≡ b.id = cc in
     let deleted : flag_cell a.deleted ≡ flag_cell b.deleted = cc in
     let same = distinct_flags a.deleted b.deleted deleted in
     λ i. record { id = id i; deleted = same i }
 
-pub distinct_kept_rows : (a b : KeptRow) → kept_cells a ≡ kept_cells b → a ≡ b
+pub distinct_kept_rows : (a b : KeptReplyView) → kept_cells a ≡ kept_cells b → a ≡ b
 distinct_kept_rows a b h =
     let command : a.command ≡ b.command = cc in
     let status : a.status ≡ b.status = cc in
@@ -96,13 +96,13 @@ versions_tied a b q k of_a of_b =
     let number : column b 2 ≡ Int (pos k.1) = cc in
     rw (subject, number) (by_version_test a k q of_a)
 
-places_tied : (a b : Row) (q k : PlaceKey) → against_form.key_of a ≡ place_cells q → against_form.key_of b ≡ place_cells k → agree (record { digits = 0 }) (1 ∷ 2 ∷ 3 ∷ []) a (1 ∷ 2 ∷ 3 ∷ []) b ≡ is_eq (place_cmp q k)
+positions_tied : (a b : Row) (q k : PositionKey) → against_form.key_of a ≡ position_cells q → against_form.key_of b ≡ position_cells k → agree (record { digits = 0 }) (1 ∷ 2 ∷ 3 ∷ []) a (1 ∷ 2 ∷ 3 ∷ []) b ≡ is_eq (position_cmp q k)
 unfolding first_key
-places_tied a b q k of_a of_b =
+positions_tied a b q k of_a of_b =
     let subject : column b 1 ≡ Text k.0.0 = cc in
     let number : column b 2 ≡ Int (pos k.0.1) = cc in
     let position : column b 3 ≡ Int (pos k.1) = cc in
-    rw (subject, number, position) (by_place_test a k q of_a)
+    rw (subject, number, position) (by_position_test a k q of_a)
 
 -- ---- by name
 
@@ -133,7 +133,7 @@ key_laws Kept = record { order = text_order; distinct = distinct_texts; distinct
 key_laws Meta = record { order = text_order; distinct = distinct_texts; distinct_values = distinct_texts; test = λ row k q is. by_key_test row k q is; tied = λ a b q k x y. texts_tied a b q k x y }
 key_laws Modes = record { order = text_order; distinct = distinct_texts; distinct_values = distinct_texts; test = λ row k q is. by_key_test row k q is; tied = λ a b q k x y. texts_tied a b q k x y }
 key_laws Evidence = record { order = version_order; distinct = distinct_versions; distinct_values = distinct_texts; test = λ row k q is. by_version_test row k q is; tied = λ a b q k x y. versions_tied a b q k x y }
-key_laws Against = record { order = place_order; distinct = distinct_places; distinct_values = distinct_numbers; test = λ row k q is. by_place_test row k q is; tied = λ a b q k x y. places_tied a b q k x y }
+key_laws Against = record { order = position_order; distinct = distinct_positions; distinct_values = distinct_numbers; test = λ row k q is. by_position_test row k q is; tied = λ a b q k x y. positions_tied a b q k x y }
 
 -- rows that agree on their keys have one
 pub one_key : (name : TableName) (a b : Row) (q k : KeyOf name) → (form_of name).key_of a ≡ (form_of name).key_cells q → (form_of name).key_of b ≡ (form_of name).key_cells k → agree (record { digits = 0 }) (key_columns name) a (key_columns name) b ≡ true → q ≡ k

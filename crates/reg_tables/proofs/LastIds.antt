@@ -18,7 +18,7 @@ use Rattle.sqlite_rules.proofs.ListLemmas.{all_has}
 use Rattle.sqlite_value.specs.declared.keys.Key.{Key}
 use Rattle.sqlite_value.proofs.OrderLemmas.{value_cmp-Int}
 use Rattle.reg_tables.specs.Layout.{HasFiveTables}
-use Rattle.reg_tables.specs.Contents.{number_cells, Contents, HoldsIn}
+use Rattle.reg_tables.specs.Contents.{number_cells, Contents, HoldsContents}
 use Rattle.reg_tables.specs.Inside.Statements.{body_of}
 use Rattle.reg_tables.proofs.LayoutTables.{value_of}
 use Rattle.reg_tables.proofs.KeyedTables.{int_order, with_nothing, answered, none_of}
@@ -27,7 +27,7 @@ use Rattle.reg_tables.proofs.Queries.{ordered_has, has_ordered}
 use Rattle.reg_tables.proofs.Tables.{five}
 use Rattle.reg_tables.proofs.Statements.{laid_out, find_last, asks_last}
 
-module _ (old new : State) (schema : Schema) (contents : Contents) (h : HoldsIn schema old.now contents) (first : HasFiveTables schema) (found : List Row) (shown : Shown find_last.sql [] old new found) where
+module _ (old new : State) (schema : Schema) (contents : Contents) (h : HoldsContents schema old.now contents) (first : HasFiveTables schema) (found : List Row) (shown : Shown find_last.sql [] old new found) where
   abbrev cmp : Output → Output → Ordering
   cmp = output_cmp (body_of find_last)
 

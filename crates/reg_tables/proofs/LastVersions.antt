@@ -23,8 +23,8 @@ use Rattle.sqlite_value.specs.declared.keys.Key.{Key}
 use Rattle.sqlite_value.proofs.OrderLemmas.{value_cmp-Int, value_cmp-Text}
 use Rattle.reg_tables.specs.Layout.{HasFiveTables}
 use Rattle.reg_tables.specs.TableMaps.{IsEntry, ShowsMap}
-use Rattle.reg_tables.specs.Contents.{text_cmp, version_cmp, version_key_cells, version_form, flag_cell, Contents, AreReadable, HoldsIn}
-use Rattle.reg_tables.specs.Entries.{NumberedVersion, numbered, numbered_cells, subject_versions, IsReadableNumbered}
+use Rattle.reg_tables.specs.Contents.{text_cmp, version_cmp, version_key_cells, version_form, flag_cell, Contents, AreReadable, HoldsContents}
+use Rattle.reg_tables.specs.Entries.{SubjectVersionView, subject_version_view, subject_version_cells, subject_versions, IsReadableSubjectVersion}
 use Rattle.reg_tables.specs.declared.listed.SubjectVersion.{SubjectVersion}
 use Rattle.reg_tables.specs.Inside.Statements.{ordered_query, TableQuery, body_of, IsQuery}
 use Rattle.reg_tables.proofs.KeyedTables.{same_pos, version_order, with_nothing, answered}
@@ -117,7 +117,7 @@ module _ (q : TableQuery) (ordered : body_of q ≡ ordered_query 2 q.tests q.sho
 
 -- ---- the versions of a subject
 
-abbrev pub entry_version : Entry → NumberedVersion
+abbrev pub entry_version : Entry → SubjectVersionView
 entry_version e = (e.0.1, e.1)
 
 -- what a line reads of a row
@@ -126,11 +126,11 @@ line_columns row = column row 0 ∷ column row 1 ∷ column row 2 ∷ []
 
 -- the line that was read is what the row spells
 numbered_line : (es : List Entry) (found : List Row) → slice_get found 0 ≡ option_map entry_cells (last_or None es) → (line : Option SubjectVersion)
-    → option_map line_columns (slice_get found 0) ≡ option_map (λ (line : SubjectVersion). numbered_cells (numbered line)) line
-    → option_map numbered line ≡ last_or None (map entry_version es)
-numbered_line es found is line read = same_shown numbered_cells distinct_numbered (option_map numbered line) (last_or None (map entry_version es))
-    (map_twice numbered_cells numbered line ∙ sym read ∙ ap (option_map line_columns) is ∙ map_twice line_columns entry_cells (last_or None es)
-    ∙ sym (map_twice numbered_cells entry_version (last_or None es)) ∙ ap (option_map numbered_cells) (sym (last_mapped entry_version None es)))
+    → option_map line_columns (slice_get found 0) ≡ option_map (λ (line : SubjectVersion). subject_version_cells (subject_version_view line)) line
+    → option_map subject_version_view line ≡ last_or None (map entry_version es)
+numbered_line es found is line read = same_shown subject_version_cells distinct_numbered (option_map subject_version_view line) (last_or None (map entry_version es))
+    (map_twice subject_version_cells subject_version_view line ∙ sym read ∙ ap (option_map line_columns) is ∙ map_twice line_columns entry_cells (last_or None es)
+    ∙ sym (map_twice subject_version_cells entry_version (last_or None es)) ∙ ap (option_map subject_version_cells) (sym (last_mapped entry_version None es)))
 
 -- a row passes by its subject and its mark
 by_live_subject : (subject : List ℕ) (row : Row) (e : Entry) → IsEntry version_form row e.0 e.1 → passes by_live_key (Text subject ∷ []) row ≡ (bytes_eq e.0.0 subject && not e.1.deleted)
@@ -153,11 +153,11 @@ by_shown_subject : (subject : List ℕ) (id : ℕ) (deleted : Bool) (row : Row) 
 unfolding binary
 by_shown_subject subject id deleted row e is =
     let flag = cond e.1.deleted (pos 1) (pos 0) in
-    let most = cond deleted (pos 1) (pos 0) in
+    let versions_limit = cond deleted (pos 1) (pos 0) in
     let key : column row 1 ≡ Text e.0.0 = (let k = is.0 in cc) in
     let its : column row 3 ≡ Int (pos e.1.id) = (let v = is.1 in cc) in
     let mark : column row 4 ≡ Int flag = (let v = is.1 in cc) in
-    rw (key, value_cmp-Text e.0.0 subject, its, value_cmp-Int (pos e.1.id) (pos id), same_pos e.1.id id, mark, value_cmp-Int flag most) (truth (is_eq (text_cmp e.0.0 subject)) (is_eq (nat_cmp e.1.id id)) deleted e.1.deleted)
+    rw (key, value_cmp-Text e.0.0 subject, its, value_cmp-Int (pos e.1.id) (pos id), same_pos e.1.id id, mark, value_cmp-Int flag versions_limit) (truth (is_eq (text_cmp e.0.0 subject)) (is_eq (nat_cmp e.1.id id)) deleted e.1.deleted)
     ∙ (λ i. same_text e.0.0 subject i && ((deleted || not e.1.deleted) && same_id e.1.id id i))
   where
     truth : (a b s d : Bool)
@@ -172,7 +172,7 @@ by_shown_subject subject id deleted row e is =
     truth true true false true = refl
     truth true true false false = refl
 
-module _ (old new : State) (schema : Schema) (contents : Contents) (h : HoldsIn schema old.now contents) (first : HasFiveTables schema) (subject : List ℕ) (found : List Row) where
+module _ (old new : State) (schema : Schema) (contents : Contents) (h : HoldsContents schema old.now contents) (first : HasFiveTables schema) (subject : List ℕ) (found : List Row) where
   abbrev of_subject : Entry → Bool
   of_subject e = bytes_eq e.0.0 subject
 
@@ -180,12 +180,12 @@ module _ (old new : State) (schema : Schema) (contents : Contents) (h : HoldsIn 
     its : IsQuery find_last_version old.now.schema
     its = (asks_last_version subject).is old.now.schema (laid_out h first)
 
-    pub last_line : (line : Option SubjectVersion) → option_map line_columns (slice_get found 0) ≡ option_map (λ (line : SubjectVersion). numbered_cells (numbered line)) line
-        → option_map numbered line ≡ last_or None (subject_versions subject contents)
+    pub last_line : (line : Option SubjectVersion) → option_map line_columns (slice_get found 0) ≡ option_map (λ (line : SubjectVersion). subject_version_cells (subject_version_view line)) line
+        → option_map subject_version_view line ≡ last_or None (subject_versions subject contents)
     last_line = numbered_line (filter of_subject (entries contents.versions)) found (shows_last find_last_version refl (Text subject ∷ []) old new its found shown contents (five h first).versions of_subject (by_subject subject) entry_cells entry_shown)
 
-    pub readable_last_line : AreReadable contents → All IsReadableNumbered found
-    readable_last_line = readable_last find_last_version refl (Text subject ∷ []) old new its found shown contents (five h first).versions of_subject (by_subject subject) entry_cells entry_shown IsReadableNumbered readable_entry
+    pub readable_last_line : AreReadable contents → All IsReadableSubjectVersion found
+    readable_last_line = readable_last find_last_version refl (Text subject ∷ []) old new its found shown contents (five h first).versions of_subject (by_subject subject) entry_cells entry_shown IsReadableSubjectVersion readable_entry
 
   module _ (shown : Shown find_last_live.sql (Text subject ∷ []) old new found) where
     abbrev of_live : Entry → Bool
@@ -194,22 +194,22 @@ module _ (old new : State) (schema : Schema) (contents : Contents) (h : HoldsIn 
     it : IsQuery find_last_live old.now.schema
     it = (asks_last_live subject).is old.now.schema (laid_out h first)
 
-    live_entries : filter (λ (version : NumberedVersion). not version.1.deleted) (subject_versions subject contents) ≡ map entry_version (filter of_live (entries contents.versions))
+    live_entries : filter (λ (version : SubjectVersionView). not version.1.deleted) (subject_versions subject contents) ≡ map entry_version (filter of_live (entries contents.versions))
     live_entries =
-        filter-map (λ (version : NumberedVersion). not version.1.deleted) entry_version (filter of_subject (entries contents.versions))
+        filter-map (λ (version : SubjectVersionView). not version.1.deleted) entry_version (filter of_subject (entries contents.versions))
         ∙ ap (map entry_version) (filter_both (λ (e : Entry). not e.1.deleted) of_subject (entries contents.versions))
 
-    pub last_live_line : (line : Option SubjectVersion) → option_map line_columns (slice_get found 0) ≡ option_map (λ (line : SubjectVersion). numbered_cells (numbered line)) line
-        → option_map numbered line ≡ last_or None (filter (λ (version : NumberedVersion). not version.1.deleted) (subject_versions subject contents))
+    pub last_live_line : (line : Option SubjectVersion) → option_map line_columns (slice_get found 0) ≡ option_map (λ (line : SubjectVersion). subject_version_cells (subject_version_view line)) line
+        → option_map subject_version_view line ≡ last_or None (filter (λ (version : SubjectVersionView). not version.1.deleted) (subject_versions subject contents))
     last_live_line line read =
         numbered_line (filter of_live (entries contents.versions)) found (shows_last find_last_live refl (Text subject ∷ []) old new it found shown contents (five h first).versions of_live (by_live_subject subject) entry_cells entry_shown) line read
         ∙ ap (last_or None) (sym live_entries)
 
-    pub readable_last_live : AreReadable contents → All IsReadableNumbered found
-    readable_last_live = readable_last find_last_live refl (Text subject ∷ []) old new it found shown contents (five h first).versions of_live (by_live_subject subject) entry_cells entry_shown IsReadableNumbered readable_entry
+    pub readable_last_live : AreReadable contents → All IsReadableSubjectVersion found
+    readable_last_live = readable_last find_last_live refl (Text subject ∷ []) old new it found shown contents (five h first).versions of_live (by_live_subject subject) entry_cells entry_shown IsReadableSubjectVersion readable_entry
 
   module _ (id : ℕ) (deleted : Bool) (shown : Shown find_last_with_id.sql (Text subject ∷ Int (pos id) ∷ flag_cell deleted ∷ []) old new found) where
-    abbrev has_it : NumberedVersion → Bool
+    abbrev has_it : SubjectVersionView → Bool
     has_it version = (deleted || not version.1.deleted) && (version.1.id == id)
 
     abbrev of_it : Entry → Bool
@@ -221,12 +221,12 @@ module _ (old new : State) (schema : Schema) (contents : Contents) (h : HoldsIn 
     its_entries : filter has_it (subject_versions subject contents) ≡ map entry_version (filter of_it (entries contents.versions))
     its_entries = filter-map has_it entry_version (filter of_subject (entries contents.versions)) ∙ ap (map entry_version) (filter_both (λ (e : Entry). has_it (entry_version e)) of_subject (entries contents.versions))
 
-    pub last_line_with_id : (line : Option SubjectVersion) → option_map line_columns (slice_get found 0) ≡ option_map (λ (line : SubjectVersion). numbered_cells (numbered line)) line
-        → option_map numbered line ≡ last_or None (filter has_it (subject_versions subject contents))
+    pub last_line_with_id : (line : Option SubjectVersion) → option_map line_columns (slice_get found 0) ≡ option_map (λ (line : SubjectVersion). subject_version_cells (subject_version_view line)) line
+        → option_map subject_version_view line ≡ last_or None (filter has_it (subject_versions subject contents))
     last_line_with_id line read =
         numbered_line (filter of_it (entries contents.versions)) found
         (shows_last find_last_with_id refl (Text subject ∷ Int (pos id) ∷ flag_cell deleted ∷ []) old new that found shown contents (five h first).versions of_it (by_shown_subject subject id deleted) entry_cells entry_shown) line read
         ∙ ap (last_or None) (sym its_entries)
 
-    pub readable_last_with_id : AreReadable contents → All IsReadableNumbered found
-    readable_last_with_id = readable_last find_last_with_id refl (Text subject ∷ Int (pos id) ∷ flag_cell deleted ∷ []) old new that found shown contents (five h first).versions of_it (by_shown_subject subject id deleted) entry_cells entry_shown IsReadableNumbered readable_entry
+    pub readable_last_with_id : AreReadable contents → All IsReadableSubjectVersion found
+    readable_last_with_id = readable_last find_last_with_id refl (Text subject ∷ Int (pos id) ∷ flag_cell deleted ∷ []) old new that found shown contents (five h first).versions of_it (by_shown_subject subject id deleted) entry_cells entry_shown IsReadableSubjectVersion readable_entry

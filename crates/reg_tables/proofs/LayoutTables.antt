@@ -20,16 +20,16 @@ use Rattle.sqlite_rules.specs.Lists.{Has}
 use Rattle.sqlite_rules.proofs.ListLemmas.{some_from}
 use Rattle.reg_tables.specs.declared.kept.KeptReply.{KeptReply}
 use Rattle.reg_tables.specs.declared.versions.VersionEntry.{VersionEntry}
-use Rattle.reg_tables.specs.Layout.{begins, layout_one, meta, added, IsLayoutTwo, TakesMeta}
-use Rattle.reg_tables.specs.Contents.{text_cells, number_cells, version_key_cells, place_cells, VersionRow, version_cells, KeptRow, kept_cells, against_form, PlaceKey, TableName, Versions, Levels, Kept, Meta, Modes, Evidence, Against}
-use Rattle.reg_tables.specs.KeptRows.{kept_row}
-use Rattle.reg_tables.specs.Entries.{version_row}
-use Rattle.reg_tables.specs.Inside.KeyedLaws.{IsKeyed, PutRefers, KeepsOthers, IsAt, IsIdle}
+use Rattle.reg_tables.specs.Layout.{five_tables_then, layout_one, meta, added_tables, IsLayoutTwo, TakesMeta}
+use Rattle.reg_tables.specs.Contents.{text_cells, number_cells, version_key_cells, position_cells, VersionEntryView, version_cells, KeptReplyView, kept_cells, against_form, PositionKey, TableName, Versions, Levels, Kept, Meta, Modes, Evidence, Against}
+use Rattle.reg_tables.specs.KeptReplyViews.{kept_reply_view}
+use Rattle.reg_tables.specs.Entries.{version_entry_view}
+use Rattle.reg_tables.specs.Inside.KeyedLaws.{IsKeyed, InsertKeepsReferences, KeepsOthers, IsTableAt, HasNoForeignKeyAction}
 use Rattle.reg_tables.proofs.KeyedTables.{by_id_test, number_order}
 use Rattle.reg_tables.proofs.Keys.{distinct_version_rows, distinct_kept_rows, keys_agree, one_key}
 use Rattle.reg_tables.proofs.MapLemmas.{tied_key}
 use Rattle.reg_tables.proofs.ForeignKeys.{has_text_at, has_version, more_versions, refer_if, refers_if, kept_refers, beside_refers}
-use Rattle.reg_tables.proofs.Settled.{IsSettled, in_layout_two, keyed_if, all_keys, are_apart, is_apart_from, apart_if}
+use Rattle.reg_tables.proofs.WellDeclared.{IsWellDeclared, in_layout_two, keyed_if, all_keys, are_apart, is_apart_from, apart_if}
 
 pub value_of : {X : Type 0} (o : Option X) → IsSome o → (x : X) × (o ≡ Some x)
 value_of None h = absurd (cc)
@@ -46,7 +46,7 @@ text_there place texts text row id there is its =
     let same : agree plain (0 ∷ []) text (place ∷ []) row ≡ true = rw its (by_id_test text id id is ∙ tied_key nat_cmp number_order id id refl) in
     or_right _ _ (some_from (λ parent. agree plain (0 ∷ []) parent (place ∷ []) row) texts text there same)
 
-pub place_version : (row : Row) (key : PlaceKey) → against_form.key_of row ≡ place_cells key → column row 1 ∷ column row 2 ∷ [] ≡ version_key_cells key.0
+pub place_version : (row : Row) (key : PositionKey) → against_form.key_of row ≡ position_cells key → column row 1 ∷ column row 2 ∷ [] ≡ version_key_cells key.0
 place_version row key is =
     let subject : column row 1 ≡ Text key.0.0 = cc in
     let number : column row 2 ≡ Int (pos key.0.1) = cc in
@@ -56,10 +56,10 @@ place_version row key is =
 
 module _ (first : ℕ) (indexes : List Index) (high : 10 ≤ first) where
   abbrev here : Schema
-  here = begins (added first) indexes
+  here = five_tables_then (added_tables first) indexes
 
   -- a version refers to its text
-  versions_refer : PutRefers here Versions
+  versions_refer : InsertKeepsReferences here Versions
   versions_refer db contents h key version refers row is next others came stays =
       let known = value_of (get contents.texts version.id) refers in
       let its = (h.shows TableName.Texts).complete version.id known.0 known.1 in
@@ -72,7 +72,7 @@ module _ (first : ℕ) (indexes : List Index) (high : 10 ≤ first) where
         | inr was ↦ had r was
       ]))
 
-  evidence_refers : PutRefers here Evidence
+  evidence_refers : InsertKeepsReferences here Evidence
   evidence_refers db contents h key level refers row is next others came stays held =
       let had = refer_if first indexes db.trees held in
       let texts : next 0 ≡ db.trees 0 = others.0 (λ e. omega (arith, e, high)) in
@@ -90,7 +90,7 @@ module _ (first : ℕ) (indexes : List Index) (high : 10 ≤ first) where
         seen = λ r there. subst (λ l. has_text_at 4 l r ≡ true) (sym texts) (had.seen r (subst (λ l. Has l r) against there));
       })
 
-  against_refers : PutRefers here Against
+  against_refers : InsertKeepsReferences here Against
   against_refers db contents h key id refers row is next others came stays held =
       let had = refer_if first indexes db.trees held in
       let texts : next 0 ≡ db.trees 0 = others.0 (λ e. omega (arith, e, high)) in
@@ -115,7 +115,7 @@ module _ (first : ℕ) (indexes : List Index) (high : 10 ≤ first) where
         ]);
       })
 
-  module _ (s : IsSettled here) where
+  module _ (s : IsWellDeclared here) where
     versions_in : IsKeyed here Versions
     versions_in = keyed_if here s Versions refl refl refl versions_refer
 
@@ -174,7 +174,7 @@ one_refers old new others h =
     each [] = tt
     each (row ∷ rows) = (refl, each rows)
 
-first_at : IsAt layout_one 4 meta
+first_at : IsTableAt layout_one 4 meta
 unfolding same_name joined
 first_at = record { there = refl; keys = all_keys layout_one meta refl refl refl refl }
 
@@ -189,14 +189,14 @@ one_keyed = record {
   put_refers = λ db contents h key value refers row is next others came stays. one_refers db.trees next others;
 }
 
-pub one_idle : (tree : ℕ) → IsIdle layout_one tree
+pub one_idle : (tree : ℕ) → HasNoForeignKeyAction layout_one tree
 one_idle tree olds news = rw (no_action (length news == 0)) refl
   where
     no_action : (b : Bool) → cond b NoAction NoAction ≡ NoAction
     no_action true = refl
     no_action false = refl
 
-pub in_both : (P : Schema → Type 0) → P layout_one → ((first : ℕ) (indexes : List Index) → 10 ≤ first → IsSettled (begins (added first) indexes) → P (begins (added first) indexes)) → (schema : Schema) → TakesMeta schema → P schema
+pub in_both : (P : Schema → Type 0) → P layout_one → ((first : ℕ) (indexes : List Index) → 10 ≤ first → IsWellDeclared (five_tables_then (added_tables first) indexes) → P (five_tables_then (added_tables first) indexes)) → (schema : Schema) → TakesMeta schema → P schema
 in_both P first each schema (inl is) = subst P (sym is) first
 in_both P first each schema (inr second) = in_layout_two P each schema second
 
@@ -208,8 +208,8 @@ meta_keyed = in_both (λ schema. IsKeyed schema Meta) one_keyed meta_in
 pub text_is_read : (found : String Global) (value : List ℕ) → column (text_cells value) 0 ∷ [] ≡ text_cells (string_bytes found) → string_bytes found ≡ value
 text_is_read found value is = let same : Text value ≡ Text (string_bytes found) = cc in cc
 
-pub reply_is_read : (found : KeptReply) (value : KeptRow) → kept_cells value ≡ kept_cells (kept_row found) → kept_row found ≡ value
-reply_is_read found value is = sym (distinct_kept_rows value (kept_row found) is)
+pub reply_is_read : (found : KeptReply) (value : KeptReplyView) → kept_cells value ≡ kept_cells (kept_reply_view found) → kept_reply_view found ≡ value
+reply_is_read found value is = sym (distinct_kept_rows value (kept_reply_view found) is)
 
-pub entry_is_read : (found : VersionEntry) (value : VersionRow) → version_cells value ≡ version_cells (version_row found) → version_row found ≡ value
-entry_is_read found value is = sym (distinct_version_rows value (version_row found) is)
+pub entry_is_read : (found : VersionEntry) (value : VersionEntryView) → version_cells value ≡ version_cells (version_entry_view found) → version_entry_view found ≡ value
+entry_is_read found value is = sym (distinct_version_rows value (version_entry_view found) is)

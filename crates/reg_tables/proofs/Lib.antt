@@ -5,7 +5,7 @@ pub mod RowLemmas
 pub mod Writes
 pub mod Statements
 pub mod OrderedQueries
-pub mod Settled
+pub mod WellDeclared
 pub mod KeyedTables
 pub mod Keys
 pub mod Tables
@@ -23,7 +23,7 @@ pub mod Transactions
 pub mod ReadableRows
 pub mod TableLines
 pub mod AnyDatabase
-pub mod TextLines
+pub mod RawTexts
 pub mod ListingLemmas
 pub mod MetaLines
 pub mod LastIds

@@ -18,7 +18,7 @@ use Rattle.sqlite_value.proofs.OrderLemmas.{value_cmp_total, value_cmp-Int}
 use Rattle.sqlite_rules.specs.Lists.{Has}
 use Rattle.sqlite_rules.proofs.ListLemmas.{all_from, all_has}
 use Rattle.reg_tables.specs.TableMaps.{Form, HaveOwnRowids, HaveRowids, ShowsMap}
-use Rattle.reg_tables.specs.Listings.{RowParts, parts_of, entry_parts, Lists, HasNoTwins, without_rowid}
+use Rattle.reg_tables.specs.Listings.{RowParts, parts_of, entry_parts, Lists, HasNoDuplicates, without_rowid}
 use Rattle.reg_tables.specs.Inside.KeyedLaws.{IsKeyOrder}
 use Rattle.reg_tables.proofs.ListMembers.{has_mapped, maps_had, has_permuted}
 use Rattle.reg_tables.proofs.MapLemmas.{same_key, tied_key, other_key}
@@ -121,7 +121,7 @@ module _ {K V : Type 0} (form : Form K V) (R : K → K → Ordering) (order : Is
       (subst (IsPermutation (map (λ (p : RowParts). p.0) (map (parts_of form) rows))) (map-map (λ (p : RowParts). p.0) (entry_parts form) es ∙ sym (map-map Int (λ (e : ℤ × K × V). e.0) es))
       (IsPermutation-map (λ (p : RowParts). p.0) (map (parts_of form) rows) (map (entry_parts form) es) lists))
 
-  pub shows_if_listed : HasNoTwins R es → ShowsMap form rows (get {R = R} (from_entries (map without_rowid es)))
+  pub shows_if_listed : HasNoDuplicates R es → ShowsMap form rows (get {R = R} (from_entries (map without_rowid es)))
   shows_if_listed apart = record {
     rowids = have;
     sound = λ row h.
@@ -148,7 +148,7 @@ module _ {K V : Type 0} (form : Form K V) (R : K → K → Ordering) (order : Is
 
   -- what a list of a map has
   pub record IsListOf (m : FinMap R V) : Type 0 where
-    pub apart : HasNoTwins R es
+    pub apart : HasNoDuplicates R es
     pub is : m ≡ from_entries (map without_rowid es)
 
   pub listed_if_shown : (m : FinMap R V) → ((v w : V) → form.value_cells v ≡ form.value_cells w → v ≡ w) → ShowsMap form rows (get m) → IsListOf m

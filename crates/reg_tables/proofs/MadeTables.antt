@@ -10,7 +10,7 @@ use Rattle.sqlite.specs.Effect.{Database, IsDatabase}
 use Rattle.sqlite.specs.State.{State, Executes, Writes}
 use Rattle.sqlite.proofs.Callers.{runs_as}
 use Rattle.reg_tables.specs.Layout.{no_schema}
-use Rattle.reg_tables.specs.Contents.{TableName, Texts, Versions, Levels, Kept, Meta, Modes, Evidence, Against, place_of, form_of, map_of, Contents, ShowsIn, ShowsAll, HoldsIn}
+use Rattle.reg_tables.specs.Contents.{TableName, Texts, Versions, Levels, Kept, Meta, Modes, Evidence, Against, ordinal_of, form_of, map_of, Contents, ShowsIn, ShowsAll, HoldsContents}
 use Rattle.reg_tables.specs.Changes.{no_contents}
 use Rattle.reg_tables.proofs.Statements.{MakesTable}
 use Rattle.reg_tables.proofs.Tables.{shows_made}
@@ -45,22 +45,22 @@ makes_more sql before table after m old new count declared h =
 
 -- the others hold what they held
 pub holds_more : (sql : List ℕ) (before : Schema) (table : Table) (after : Schema) → MakesTable sql before table after → (old new : State) (count : ℕ) (contents : Contents) → ShowsAll before old.now.trees contents → old.now.schema ≡ before
-    → Executes sql [] old new (Ok count) → HoldsIn after new.now contents
+    → Executes sql [] old new (Ok count) → HoldsContents after new.now contents
 holds_more sql before table after m old new count contents shows declared ran =
     let made = makes_more sql before table after m old new count declared ran in
     record {
       declared = made.declared;
       sound = made.sound;
       shows = subst (λ s. ShowsAll s new.now.trees contents) m.is
-          (λ name. shows_made (form_of name) (map_of name contents) before.tables (record table { tree = next_tree before }) old.now.trees new.now.trees made.others made.empty (place_of name) (shows name));
+          (λ name. shows_made (form_of name) (map_of name contents) before.tables (record table { tree = next_tree before }) old.now.trees new.now.trees made.others made.empty (ordinal_of name) (shows name));
     }
 
 -- so one table after the other is made
-pub makes : (sql : List ℕ) (before : Schema) (table : Table) (after : Schema) → MakesTable sql before table after → (old new : State) (count : ℕ) (contents : Contents) → HoldsIn before old.now contents → Executes sql [] old new (Ok count) → HoldsIn after new.now contents
+pub makes : (sql : List ℕ) (before : Schema) (table : Table) (after : Schema) → MakesTable sql before table after → (old new : State) (count : ℕ) (contents : Contents) → HoldsContents before old.now contents → Executes sql [] old new (Ok count) → HoldsContents after new.now contents
 makes sql before table after m old new count contents holds ran = holds_more sql before table after m old new count contents holds.shows holds.declared ran
 
 -- a database without tables holds nothing
-pub holds_nothing : (trees : Trees) (name : TableName) → ShowsIn (form_of name) trees (slice_get no_schema.tables (place_of name)) (map_of name no_contents)
+pub holds_nothing : (trees : Trees) (name : TableName) → ShowsIn (form_of name) trees (slice_get no_schema.tables (ordinal_of name)) (map_of name no_contents)
 holds_nothing trees Texts = refl
 holds_nothing trees Versions = refl
 holds_nothing trees Levels = refl

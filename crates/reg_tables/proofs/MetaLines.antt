@@ -9,9 +9,9 @@ use Rattle.std.proofs.lemmas.Bool.{false_from_ne_true}
 use Rattle.std.proofs.lemmas.Slice.Eq.{bytes_eq-Decides}
 use Rattle.sqlite.specs.Schema.{Schema}
 use Rattle.sqlite.specs.Effect.{Database}
-use Rattle.reg_tables.specs.declared.meta.MetaLine.{MetaLine}
+use Rattle.reg_tables.specs.declared.meta.RawMeta.{RawMeta}
 use Rattle.reg_tables.specs.Layout.{meta, HasFiveTables}
-use Rattle.reg_tables.specs.Contents.{text_cmp, pair_form, Contents, HoldsIn}
+use Rattle.reg_tables.specs.Contents.{text_cmp, pair_form, Contents, HoldsContents}
 use Rattle.reg_tables.specs.Listings.{without_rowid, meta_entry, ListsMeta}
 use Rattle.reg_tables.proofs.MapLemmas.{tied_key, other_key, same_or_not}
 use Rattle.reg_tables.proofs.KeyedTables.{text_order, distinct_texts}
@@ -19,10 +19,10 @@ use Rattle.reg_tables.proofs.Tables.{five}
 use Rattle.reg_tables.proofs.ListingLemmas.{listed_if_shown}
 
 -- the value of the first line of a name
-abbrev pub value_in : List ℕ → List MetaLine → Option (List ℕ)
-value_in name lines = option_map (λ (line : MetaLine). string_bytes line.value) (find (λ (line : MetaLine). bytes_eq (string_bytes line.name) name) lines)
+abbrev pub value_in : List ℕ → List RawMeta → Option (List ℕ)
+value_in name lines = option_map (λ (line : RawMeta). string_bytes line.value) (find (λ (line : RawMeta). bytes_eq (string_bytes line.name) name) lines)
 
-value_found : (name : List ℕ) (lines : List MetaLine) → value_in name lines ≡ find_key text_cmp name (map without_rowid (map meta_entry lines))
+value_found : (name : List ℕ) (lines : List RawMeta) → value_in name lines ≡ find_key text_cmp name (map without_rowid (map meta_entry lines))
 value_found name [] = refl
 value_found name (line ∷ lines) = elim (same_or_not text_cmp text_order name (string_bytes line.name)) [
   | inl same ↦ go (value_found name lines) true ((bytes_eq-Decides (string_bytes line.name) name).1 (sym same)) (tied_key text_cmp text_order name (string_bytes line.name) same)
@@ -35,7 +35,7 @@ value_found name (line ∷ lines) = elim (same_or_not text_cmp text_order name (
     go rest false here there = rw (here, there) rest
 
 -- where `meta` holds some contents, it is what they have under the name
-pub value_read : (schema : Schema) (db : Database) → HasFiveTables schema → (contents : Contents) → HoldsIn schema db contents → (lines : List MetaLine) → ListsMeta db lines → (name : List ℕ) → value_in name lines ≡ get contents.meta name
+pub value_read : (schema : Schema) (db : Database) → HasFiveTables schema → (contents : Contents) → HoldsContents schema db contents → (lines : List RawMeta) → ListsMeta db lines → (name : List ℕ) → value_in name lines ≡ get contents.meta name
 value_read schema db first contents holds lines lists name =
     let shown = listed_if_shown pair_form text_cmp text_order distinct_texts (db.trees meta.tree) (map meta_entry lines) lists contents.meta distinct_texts (five holds first).meta in
     value_found name lines ∙ sym (get-from_entries text_order.total (map without_rowid (map meta_entry lines)) name) ∙ ap (λ m. get m name) (sym shown.is)

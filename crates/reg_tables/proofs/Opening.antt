@@ -7,15 +7,15 @@ use Rattle.sqlite.specs.Schema.{Schema}
 use Rattle.sqlite.specs.Table.{Table}
 use Rattle.sqlite.specs.Tree.{Trees}
 use Rattle.sqlite.specs.Effect.{Database, IsDatabase}
-use Rattle.reg_tables.specs.Layout.{begins, texts, versions, levels, kept, meta, IsLayoutOne, HasFiveTables}
-use Rattle.reg_tables.specs.Contents.{text_form, version_form, pair_form, kept_form, evidence_form, against_form, TableName, Texts, Versions, Levels, Kept, Meta, Modes, Evidence, Against, place_of, KeyOf, ValueOf, cmp_of, form_of, MapOf, map_of, Contents, ShowsIn, ShowsAll, HoldsIn}
+use Rattle.reg_tables.specs.Layout.{five_tables_then, texts, versions, levels, kept, meta, IsLayoutOne, HasFiveTables}
+use Rattle.reg_tables.specs.Contents.{text_form, version_form, pair_form, kept_form, evidence_form, against_form, TableName, Texts, Versions, Levels, Kept, Meta, Modes, Evidence, Against, ordinal_of, KeyOf, ValueOf, cmp_of, form_of, MapOf, map_of, Contents, ShowsIn, ShowsAll, HoldsContents}
 use Rattle.reg_tables.specs.TableMaps.{Form}
-use Rattle.reg_tables.specs.Listings.{HasNoTwins, Lists, without_rowid, text_entry, version_entry, level_entry, kept_entry, meta_entry, mode_entry, evidence_entry, against_entry}
-use Rattle.reg_tables.specs.Inside.AllLines.{entry_of, Lines, ListsIn, ListsAll, HaveNoTwins, map_in, contents_of}
+use Rattle.reg_tables.specs.Listings.{HasNoDuplicates, Lists, without_rowid, text_entry, version_entry, level_entry, kept_entry, meta_entry, mode_entry, evidence_entry, against_entry}
+use Rattle.reg_tables.specs.Inside.AllRawRows.{entry_of, RawRows, ListsIn, ListsAll, HaveNoDuplicates, map_in, contents_of}
 use Rattle.reg_tables.proofs.Keys.{key_laws}
 use Rattle.reg_tables.proofs.ListingLemmas.{shows_if_listed, listed_if_shown}
 
-map_of_lines : (name : TableName) (lines : Lines) → map_of name (contents_of lines) ≡ map_in name lines
+map_of_lines : (name : TableName) (lines : RawRows) → map_of name (contents_of lines) ≡ map_in name lines
 map_of_lines Texts lines = refl
 map_of_lines Versions lines = refl
 map_of_lines Levels lines = refl
@@ -27,41 +27,41 @@ map_of_lines Against lines = refl
 
 module _ (name : TableName) (trees : Trees) (entries : List (ℤ × KeyOf name × ValueOf name)) where
   -- entries in which no rowid and no key comes twice are those of the map that they spell
-  shows_listed : HasNoTwins (cmp_of name) entries → (table : Option Table) → ListsIn (form_of name) trees table entries → ShowsIn (form_of name) trees table (from_entries {R = cmp_of name} (map without_rowid entries))
+  shows_listed : HasNoDuplicates (cmp_of name) entries → (table : Option Table) → ListsIn (form_of name) trees table entries → ShowsIn (form_of name) trees table (from_entries {R = cmp_of name} (map without_rowid entries))
   shows_listed apart None none = ap (λ (es : List (ℤ × KeyOf name × ValueOf name)). from_entries {R = cmp_of name} (map without_rowid es)) none
   shows_listed apart (Some table) lists = shows_if_listed (form_of name) (cmp_of name) (key_laws name).order (key_laws name).distinct (trees table.tree) entries lists apart
 
   -- the entries of a table are such a list, and spell the map that it shows
   pub record AreOf (held : MapOf name) : Type 0 where
-    pub apart : HasNoTwins (cmp_of name) entries
+    pub apart : HasNoDuplicates (cmp_of name) entries
     pub is : held ≡ from_entries (map without_rowid entries)
 
   pub listed_shown : (held : MapOf name) (table : Option Table) → ListsIn (form_of name) trees table entries → ShowsIn (form_of name) trees table held → AreOf held
   unfolding IsDistinct
   listed_shown held None none empty = record {
-    apart = subst (HasNoTwins (cmp_of name)) (sym none) (record { rowids = tt; keys = tt });
+    apart = subst (HasNoDuplicates (cmp_of name)) (sym none) (record { rowids = tt; keys = tt });
     is = empty ∙ sym (ap (λ (es : List (ℤ × KeyOf name × ValueOf name)). from_entries {R = cmp_of name} (map without_rowid es)) none);
   }
   listed_shown held (Some table) lists shows =
       let it = listed_if_shown (form_of name) (cmp_of name) (key_laws name).order (key_laws name).distinct (trees table.tree) entries lists held (key_laws name).distinct_values shows in
       record { apart = it.apart; is = it.is }
 
-module _ (schema : Schema) (db : Database) (lines : Lines) (lists : ListsAll schema db.trees lines) where
+module _ (schema : Schema) (db : Database) (lines : RawRows) (lists : ListsAll schema db.trees lines) where
   -- lists in which no rowid and no key comes twice are those of the contents that they spell
-  pub holds_if_listed : db.schema ≡ schema → IsDatabase db → HaveNoTwins lines → HoldsIn schema db (contents_of lines)
+  pub holds_if_listed : db.schema ≡ schema → IsDatabase db → HaveNoDuplicates lines → HoldsContents schema db (contents_of lines)
   holds_if_listed declared sound apart = record {
     declared = declared;
     sound = sound;
-    shows = λ name. subst (λ m. ShowsIn (form_of name) db.trees (slice_get schema.tables (place_of name)) m) (sym (map_of_lines name lines))
-        (shows_listed name db.trees (map (entry_of name) (lines name)) (apart name) (slice_get schema.tables (place_of name)) (lists name));
+    shows = λ name. subst (λ m. ShowsIn (form_of name) db.trees (slice_get schema.tables (ordinal_of name)) m) (sym (map_of_lines name lines))
+        (shows_listed name db.trees (map (entry_of name) (lines name)) (apart name) (slice_get schema.tables (ordinal_of name)) (lists name));
   }
 
   -- the lists of what the database holds are such lists, and spell just that
-  module _ (contents : Contents) (h : HoldsIn schema db contents) where
+  module _ (contents : Contents) (h : HoldsContents schema db contents) where
     of_table : (name : TableName) → AreOf name db.trees (map (entry_of name) (lines name)) (map_of name contents)
-    of_table name = listed_shown name db.trees (map (entry_of name) (lines name)) (map_of name contents) (slice_get schema.tables (place_of name)) (lists name) (h.shows name)
+    of_table name = listed_shown name db.trees (map (entry_of name) (lines name)) (map_of name contents) (slice_get schema.tables (ordinal_of name)) (lists name) (h.shows name)
 
-    pub listed_if_holds : HaveNoTwins lines × (contents ≡ contents_of lines)
+    pub listed_if_holds : HaveNoDuplicates lines × (contents ≡ contents_of lines)
     listed_if_holds = (
       λ name. (of_table name).apart,
       λ i. record {
@@ -96,16 +96,16 @@ pub nothing_held : (schema : Schema) → IsLayoutOne schema → (trees : Trees) 
 nothing_held schema (inl is) trees contents shows = let it = subst (λ s. ShowsAll s trees contents) is shows in (it Modes, it Evidence, it Against)
 nothing_held schema (inr is) trees contents shows = let it = subst (λ s. ShowsAll s trees contents) is shows in (it Modes, it Evidence, it Against)
 
-module _ (schema : Schema) (first : HasFiveTables schema) (trees : Trees) (lines : Lines) where
+module _ (schema : Schema) (first : HasFiveTables schema) (trees : Trees) (lines : RawRows) where
   pub lists_by_name : Lists text_form (trees texts.tree) (map text_entry (lines Texts)) → Lists version_form (trees versions.tree) (map version_entry (lines Versions)) → Lists pair_form (trees levels.tree) (map level_entry (lines Levels))
       → Lists kept_form (trees kept.tree) (map kept_entry (lines Kept)) → Lists pair_form (trees meta.tree) (map meta_entry (lines Meta)) → ListsIn pair_form trees (slice_get schema.tables 5) (map mode_entry (lines Modes))
       → ListsIn evidence_form trees (slice_get schema.tables 6) (map evidence_entry (lines Evidence)) → ListsIn against_form trees (slice_get schema.tables 7) (map against_entry (lines Against)) → ListsAll schema trees lines
   lists_by_name of_texts of_versions of_levels of_kept of_meta of_modes of_evidence of_against = each
     where
-      at_first : (P : Option Table → Type 0) (at : ℕ) → P (slice_get (begins first.tables first.indexes).tables at) → P (slice_get schema.tables at)
+      at_first : (P : Option Table → Type 0) (at : ℕ) → P (slice_get (five_tables_then first.tables first.indexes).tables at) → P (slice_get schema.tables at)
       at_first P at = subst (λ (s : Schema). P (slice_get s.tables at)) (sym first.is)
 
-      each : (name : TableName) → ListsIn (form_of name) trees (slice_get schema.tables (place_of name)) (map (entry_of name) (lines name))
+      each : (name : TableName) → ListsIn (form_of name) trees (slice_get schema.tables (ordinal_of name)) (map (entry_of name) (lines name))
       each Texts = at_first (λ o. ListsIn text_form trees o (map text_entry (lines Texts))) 0 of_texts
       each Versions = at_first (λ o. ListsIn version_form trees o (map version_entry (lines Versions))) 1 of_versions
       each Levels = at_first (λ o. ListsIn pair_form trees o (map level_entry (lines Levels))) 2 of_levels

@@ -18,8 +18,8 @@ use Rattle.sqlite_value.proofs.OrderLemmas.{value_cmp-Text}
 use Rattle.sqlite_rules.specs.Lists.{Has}
 use Rattle.sqlite_rules.proofs.ListLemmas.{test_has, some_has}
 use Rattle.sqlite_rules.proofs.RuleLemmas.{keeps_at}
-use Rattle.reg_tables.specs.Layout.{automatic_index, layout_one_unindexed, begins, texts, versions, to_texts, added, HasEightTables}
-use Rattle.reg_tables.specs.Contents.{text_cmp, text_cells, number_cells, VersionRow, Contents, HoldsIn, version_cmp, PlaceKey, TableName}
+use Rattle.reg_tables.specs.Layout.{automatic_index, layout_one_unindexed, five_tables_then, texts, versions, to_texts, added_tables, HasEightTables}
+use Rattle.reg_tables.specs.Contents.{text_cmp, text_cells, number_cells, VersionEntryView, Contents, HoldsContents, version_cmp, PositionKey, TableName}
 use Rattle.reg_tables.specs.Inside.Statements.{by_id}
 use Rattle.reg_tables.proofs.MapLemmas.{same_key, tied_key}
 use Rattle.reg_tables.proofs.KeyedTables.{text_order, number_order, by_id_test, version_order}
@@ -46,7 +46,7 @@ parent_is : (db : Trees) (schema : Schema) → HasFiveKeys schema → (row : Row
     → (parent : Row) × Has (db texts.tree) parent × (agree plain (0 ∷ []) parent (3 ∷ []) row ≡ true)
 unfolding same_name joined
 parent_is db schema known row id its held =
-    let here : has_parent (begins known.tables (layout_one_unindexed.indexes ++ known.indexes)).tables db row to_texts ≡ true = subst (λ (s : Schema). has_parent s.tables db row to_texts ≡ true) known.is held in
+    let here : has_parent (five_tables_then known.tables (layout_one_unindexed.indexes ++ known.indexes)).tables db row to_texts ≡ true = subst (λ (s : Schema). has_parent s.tables db row to_texts ≡ true) known.is held in
     elim (or_cases (has_null (3 ∷ []) row) (list_any (λ parent. agree plain (0 ∷ []) parent (3 ∷ []) row) (db texts.tree)) here) [ inl null ↦ absurd (let none = rw its at null in cc) | inr some ↦ some_has (λ parent. agree plain (0 ∷ []) parent (3 ∷ []) row) (db texts.tree) some ]
 
 -- the parent has the id that the row names in this column
@@ -56,7 +56,7 @@ id_named place parent row id named is its same =
     let tie : passes by_id (Int (pos named) ∷ []) parent ≡ true = rw its at same in
     same_key nat_cmp number_order id named (sym (by_id_test parent named id is) ∙ tie)
 
-module _ (schema : Schema) (db : Database) (contents : Contents) (known : HasFiveKeys schema) (holds : HoldsIn schema db contents) where
+module _ (schema : Schema) (db : Database) (contents : Contents) (known : HasFiveKeys schema) (holds : HoldsContents schema db contents) where
   shows : ShowsFive db contents
   shows = five holds (one_keys schema known)
 
@@ -76,7 +76,7 @@ module _ (schema : Schema) (db : Database) (contents : Contents) (known : HasFiv
       cc
 
   -- the foreign key of versions.id
-  pub has_text : (key : List ℕ × ℕ) (version : VersionRow) → get contents.versions key ≡ Some version → (text : List ℕ) × (get contents.texts version.id ≡ Some text)
+  pub has_text : (key : List ℕ × ℕ) (version : VersionEntryView) → get contents.versions key ≡ Some version → (text : List ℕ) × (get contents.texts version.id ≡ Some text)
   has_text key version there =
       let row = shows.versions.complete key version there in
       let its : column row.0 3 ≡ Int (pos version.id) = (let e = row.2.1 in cc) in
@@ -87,7 +87,7 @@ module _ (schema : Schema) (db : Database) (contents : Contents) (known : HasFiv
 
 -- ---- evidence
 
-module _ (first : ℕ) (indexes : List Index) (db : Database) (contents : Contents) (holds : HoldsIn (begins (added first) indexes) db contents) where
+module _ (first : ℕ) (indexes : List Index) (db : Database) (contents : Contents) (holds : HoldsContents (five_tables_then (added_tables first) indexes) db contents) where
   refer : Refer first db.trees
   refer = refer_if first indexes db.trees (subst (λ (s : Schema). Refers All s db.trees) holds.declared (holds.sound.obeys.rules ForeignKey))
 
@@ -104,7 +104,7 @@ module _ (first : ℕ) (indexes : List Index) (db : Database) (contents : Conten
             ap is_some (ap (get contents.versions) (sym same) ∙ entry.2)
       ]
 
-  text_there : (place : PlaceKey) (id : ℕ) → get contents.against place ≡ Some id → IsSome (get contents.texts id)
+  text_there : (place : PositionKey) (id : ℕ) → get contents.against place ≡ Some id → IsSome (get contents.texts id)
   text_there place id there =
       let row = (holds.shows TableName.Against).complete place id there in
       let its : column row.0 4 ≡ Int (pos id) = (let e = row.2.1 in cc) in
@@ -117,10 +117,10 @@ module _ (first : ℕ) (indexes : List Index) (db : Database) (contents : Conten
       ]
 
 -- the foreign key of evidence
-pub has_evidence_version : (schema : Schema) (db : Database) (contents : Contents) → HasEightTables schema → HoldsIn schema db contents → (key : List ℕ × ℕ) (level : List ℕ) → get contents.evidence key ≡ Some level
+pub has_evidence_version : (schema : Schema) (db : Database) (contents : Contents) → HasEightTables schema → HoldsContents schema db contents → (key : List ℕ × ℕ) (level : List ℕ) → get contents.evidence key ≡ Some level
     → IsSome (get contents.versions key)
-has_evidence_version schema db contents known = subst (λ s. HoldsIn s db contents → (key : List ℕ × ℕ) (level : List ℕ) → get contents.evidence key ≡ Some level → IsSome (get contents.versions key)) (sym known.is) (version_there known.first known.indexes db contents)
+has_evidence_version schema db contents known = subst (λ s. HoldsContents s db contents → (key : List ℕ × ℕ) (level : List ℕ) → get contents.evidence key ≡ Some level → IsSome (get contents.versions key)) (sym known.is) (version_there known.first known.indexes db contents)
 
 -- the foreign key of against.id
-pub has_against_text : (schema : Schema) (db : Database) (contents : Contents) → HasEightTables schema → HoldsIn schema db contents → (place : PlaceKey) (id : ℕ) → get contents.against place ≡ Some id → IsSome (get contents.texts id)
-has_against_text schema db contents known = subst (λ s. HoldsIn s db contents → (place : PlaceKey) (id : ℕ) → get contents.against place ≡ Some id → IsSome (get contents.texts id)) (sym known.is) (text_there known.first known.indexes db contents)
+pub has_against_text : (schema : Schema) (db : Database) (contents : Contents) → HasEightTables schema → HoldsContents schema db contents → (place : PositionKey) (id : ℕ) → get contents.against place ≡ Some id → IsSome (get contents.texts id)
+has_against_text schema db contents known = subst (λ s. HoldsContents s db contents → (place : PositionKey) (id : ℕ) → get contents.against place ≡ Some id → IsSome (get contents.texts id)) (sym known.is) (text_there known.first known.indexes db contents)

@@ -13,13 +13,13 @@ use Rattle.sqlite.specs.Table.{Table}
 use Rattle.sqlite.specs.Order.{Row}
 use Rattle.sqlite.specs.Schema.{Schema}
 use Rattle.sqlite.specs.Effect.{Database}
-use Rattle.reg_tables.specs.Contents.{flag_cell, Contents, HoldsIn}
+use Rattle.reg_tables.specs.Contents.{flag_cell, Contents, HoldsContents}
 use Rattle.sqlite.specs.Listing.{understood}
 use Rattle.sqlite.proofs.Callers.{statement_of}
 use Rattle.sqlite_sql.specs.declared.ops.BinaryOp.TheVariants.{Compare}
 use Rattle.sqlite_sql.specs.declared.ops.CompareOp.TheVariants.{Eq, Gt, Ge, Le}
 use Rattle.sqlite_tied.specs.Compute.{everything}
-use Rattle.reg_tables.specs.Layout.{no_schema, begun, begins, layout_one, layout_one_unindexed, HasFiveTables, IsLayoutOne, texts, versions, levels, kept, meta, modes, evidence, against, extended}
+use Rattle.reg_tables.specs.Layout.{no_schema, partial_layout_one, five_tables_then, layout_one, layout_one_unindexed, HasFiveTables, IsLayoutOne, texts, versions, levels, kept, meta, modes, evidence, against, partial_layout_two}
 use Rattle.reg_tables.specs.Inside.Statements.{by_key, by_version, IsCommand, TableQuery, IsQuery, Takes, all_rows, plain_query}
 use Rattle.sqlite_schema.specs.declared.schema.Index.{Index}
 
@@ -36,56 +36,56 @@ pub record MakesTable (sql : List ℕ) (schema : Schema) (table : Table) (after 
 abbrev pub make_texts : List ℕ
 make_texts = codes "CREATE TABLE texts (id INTEGER PRIMARY KEY, text TEXT NOT NULL UNIQUE) STRICT"
 
-pub makes_texts : MakesTable make_texts no_schema texts (begun 1)
+pub makes_texts : MakesTable make_texts no_schema texts (partial_layout_one 1)
 unfolding understood everything
 makes_texts = record { command = record { is = refl; plain = (refl, refl) }; text = refl; defined = refl; is = refl; whole = refl }
 
 abbrev pub make_versions : List ℕ
 make_versions = codes "CREATE TABLE versions (subject TEXT NOT NULL, version INTEGER NOT NULL, id INTEGER NOT NULL REFERENCES texts (id), deleted INTEGER NOT NULL CHECK (deleted = 0 OR deleted = 1), PRIMARY KEY (subject, version)) STRICT"
 
-pub makes_versions : MakesTable make_versions (begun 1) (record versions { tree = 0 }) (begun 2)
+pub makes_versions : MakesTable make_versions (partial_layout_one 1) (record versions { tree = 0 }) (partial_layout_one 2)
 unfolding understood everything
 makes_versions = record { command = record { is = refl; plain = (refl, refl) }; text = refl; defined = refl; is = refl; whole = refl }
 
 abbrev pub make_levels : List ℕ
 make_levels = codes "CREATE TABLE levels (subject TEXT NOT NULL PRIMARY KEY, level TEXT NOT NULL) STRICT"
 
-pub makes_levels : MakesTable make_levels (begun 2) (record levels { tree = 0 }) (begun 3)
+pub makes_levels : MakesTable make_levels (partial_layout_one 2) (record levels { tree = 0 }) (partial_layout_one 3)
 unfolding understood everything
 makes_levels = record { command = record { is = refl; plain = (refl, refl) }; text = refl; defined = refl; is = refl; whole = refl }
 
 abbrev pub make_kept : List ℕ
 make_kept = codes "CREATE TABLE kept (key TEXT NOT NULL PRIMARY KEY, command TEXT NOT NULL, status INTEGER NOT NULL, body TEXT NOT NULL) STRICT"
 
-pub makes_kept : MakesTable make_kept (begun 3) (record kept { tree = 0 }) (begun 4)
+pub makes_kept : MakesTable make_kept (partial_layout_one 3) (record kept { tree = 0 }) (partial_layout_one 4)
 unfolding understood everything
 makes_kept = record { command = record { is = refl; plain = (refl, refl) }; text = refl; defined = refl; is = refl; whole = refl }
 
 abbrev pub make_meta : List ℕ
 make_meta = codes "CREATE TABLE meta (name TEXT NOT NULL PRIMARY KEY, value TEXT NOT NULL) STRICT"
 
-pub makes_meta : MakesTable make_meta (begun 4) (record meta { tree = 0 }) (begun 5)
+pub makes_meta : MakesTable make_meta (partial_layout_one 4) (record meta { tree = 0 }) (partial_layout_one 5)
 unfolding understood everything
 makes_meta = record { command = record { is = refl; plain = (refl, refl) }; text = refl; defined = refl; is = refl; whole = refl }
 
 abbrev pub make_modes : List ℕ
 make_modes = codes "CREATE TABLE modes (subject TEXT NOT NULL PRIMARY KEY, mode TEXT NOT NULL) STRICT"
 
-pub makes_modes : MakesTable make_modes (extended 0) (record (modes 11) { tree = 0 }) (extended 1)
+pub makes_modes : MakesTable make_modes (partial_layout_two 0) (record (modes 11) { tree = 0 }) (partial_layout_two 1)
 unfolding understood everything
 makes_modes = record { command = record { is = refl; plain = (refl, refl) }; text = refl; defined = refl; is = refl; whole = refl }
 
 abbrev pub make_evidence : List ℕ
 make_evidence = codes "CREATE TABLE evidence (subject TEXT NOT NULL, version INTEGER NOT NULL, level TEXT NOT NULL, PRIMARY KEY (subject, version), FOREIGN KEY (subject, version) REFERENCES versions (subject, version) ON DELETE CASCADE) STRICT"
 
-pub makes_evidence : MakesTable make_evidence (extended 1) (record (evidence 13) { tree = 0 }) (extended 2)
+pub makes_evidence : MakesTable make_evidence (partial_layout_two 1) (record (evidence 13) { tree = 0 }) (partial_layout_two 2)
 unfolding understood everything
 makes_evidence = record { command = record { is = refl; plain = (refl, refl) }; text = refl; defined = refl; is = refl; whole = refl }
 
 abbrev pub make_against : List ℕ
 make_against = codes "CREATE TABLE against (subject TEXT NOT NULL, version INTEGER NOT NULL, position INTEGER NOT NULL, id INTEGER NOT NULL REFERENCES texts (id), PRIMARY KEY (subject, version, position), FOREIGN KEY (subject, version) REFERENCES versions (subject, version) ON DELETE CASCADE) STRICT"
 
-pub makes_against : MakesTable make_against (extended 2) (record (against 15) { tree = 0 }) (extended 3)
+pub makes_against : MakesTable make_against (partial_layout_two 2) (record (against 15) { tree = 0 }) (partial_layout_two 3)
 unfolding understood everything
 makes_against = record { command = record { is = refl; plain = (refl, refl) }; text = refl; defined = refl; is = refl; whole = refl }
 
@@ -108,7 +108,7 @@ text_terms = col 0 0 ∷ lit Null ∷ col 0 1 ∷ []
 abbrev pub put_text : List ℕ
 put_text = codes "INSERT INTO texts (id, text) VALUES (?1, ?2)"
 
-pub put_text_is : (tables : List Table) (indexes : List Index) → IsCommand (begins tables indexes) put_text (Insert 0 (Values text_terms 3))
+pub put_text_is : (tables : List Table) (indexes : List Index) → IsCommand (five_tables_then tables indexes) put_text (Insert 0 (Values text_terms 3))
 unfolding understood everything
 put_text_is tables indexes = record { is = refl; plain = (refl, refl) }
 
@@ -119,7 +119,7 @@ with_flag = col 1 0 ∷ col 1 1 ∷ col 1 2 ∷ col 1 3 ∷ lit (Int (pos 1)) �
 abbrev pub mark_version : List ℕ
 mark_version = codes "UPDATE versions SET deleted = 1 WHERE subject = ?1 AND version = ?2"
 
-pub mark_version_is : (tables : List Table) (indexes : List Index) → IsCommand (begins tables indexes) mark_version (Update 1 (record { lets = []; body = plain_query 2 by_version (col 1 0 ∷ with_flag) }))
+pub mark_version_is : (tables : List Table) (indexes : List Index) → IsCommand (five_tables_then tables indexes) mark_version (Update 1 (record { lets = []; body = plain_query 2 by_version (col 1 0 ∷ with_flag) }))
 unfolding understood everything
 mark_version_is tables indexes = record { is = refl; plain = (refl, refl) }
 
@@ -138,7 +138,7 @@ by_text = op2 (Compare Eq Binary) (col 1 2) (col 0 0) ∷ []
 
 -- ---- queries
 
-pub laid_out : {schema : Schema} {db : Database} {contents : Contents} → HoldsIn schema db contents → HasFiveTables schema → HasFiveTables db.schema
+pub laid_out : {schema : Schema} {db : Database} {contents : Contents} → HoldsContents schema db contents → HasFiveTables schema → HasFiveTables db.schema
 laid_out holds first = subst HasFiveTables (sym holds.declared) first
 
 pub one_has_five : (schema : Schema) → IsLayoutOne schema → HasFiveTables schema
@@ -146,7 +146,7 @@ one_has_five schema (inl is) = record { tables = []; indexes = layout_one.indexe
 one_has_five schema (inr is) = record { tables = []; indexes = layout_one_unindexed.indexes; is = is }
 
 -- what is so whatever tables and indexes are there beside the five tables, and so in layout 2 too
-pub behind_tables : (P : Schema → Type 0) → ((tables : List Table) (indexes : List Index) → P (begins tables indexes)) → (schema : Schema) → HasFiveTables schema → P schema
+pub behind_tables : (P : Schema → Type 0) → ((tables : List Table) (indexes : List Index) → P (five_tables_then tables indexes)) → (schema : Schema) → HasFiveTables schema → P schema
 behind_tables P all schema first = subst P (sym first.is) (all first.tables first.indexes)
 
 -- whatever tables follow the five, the text is this query, and takes these parameters
@@ -154,7 +154,7 @@ pub record IsAsked (q : TableQuery) (params : Row) : Type 0 where
   pub is : (schema : Schema) → HasFiveTables schema → IsQuery q schema
   pub takes : (schema : Schema) → HasFiveTables schema → Takes q params schema
 
-asked : {q : TableQuery} {params : Row} → ((tables : List Table) (indexes : List Index) → IsQuery q (begins tables indexes) × Takes q params (begins tables indexes)) → IsAsked q params
+asked : {q : TableQuery} {params : Row} → ((tables : List Table) (indexes : List Index) → IsQuery q (five_tables_then tables indexes) × Takes q params (five_tables_then tables indexes)) → IsAsked q params
 asked {q} {params} each = record { is = λ schema first. (behind_tables (λ s. IsQuery q s × Takes q params s) each schema first).0; takes = λ schema first. (behind_tables (λ s. IsQuery q s × Takes q params s) each schema first).1 }
 
 abbrev pub find_id : TableQuery

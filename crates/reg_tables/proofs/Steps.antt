@@ -9,11 +9,11 @@ use Rattle.sqlite.specs.declared.error.Error.{Error}
 use Rattle.sqlite.specs.declared.transaction.Transaction.{Transaction}
 use Rattle.sqlite_trees.specs.declared.store.Store.{Ghosts}
 use Rattle.reg_tables.specs.Layout.{no_schema}
-use Rattle.reg_tables.specs.Contents.{Contents, HoldsIn}
+use Rattle.reg_tables.specs.Contents.{Contents, HoldsContents}
 use Rattle.reg_tables.specs.Changes.{no_contents}
-use Rattle.reg_tables.specs.Frames.{state_in, StaysInside}
+use Rattle.reg_tables.specs.Frames.{state_in, RunsInTransaction}
 use Rattle.reg_tables.specs.FailedCalls.{IsWriteFault}
-use Rattle.reg_tables.specs.Writing.{WhereHeld, Alters, Turns, IsEmpty, Holding}
+use Rattle.reg_tables.specs.Writing.{ForHeldContents, AppliesChange, Transforms, IsEmpty, Holding}
 use Rattle.reg_tables.proofs.Statements.{MakesTable}
 use Rattle.reg_tables.proofs.MadeTables.{makes, holds_more, holds_nothing}
 use Rattle.reg_tables.proofs.CreationFaults.{CanBeMade, make_fails}
@@ -32,7 +32,7 @@ none Q e (Ok x) is = absurd is
 none Q e (Err failure) is = tt
 
 module _ {S X Y : Type 0} {g : Ghosts S} {a b c : Transaction S} where
-  stays_then : {x : X} {r : Result Y Error} → StaysInside g a b (Ok x) → StaysInside g b c r → StaysInside g a c r
+  stays_then : {x : X} {r : Result Y Error} → RunsInTransaction g a b (Ok x) → RunsInTransaction g b c r → RunsInTransaction g a c r
   stays_then {r = r} p q =
       let soon = early (state_in g b) (state_in g c) q.keeps.survives in
       record {
@@ -47,7 +47,7 @@ module _ {S X Y : Type 0} {g : Ghosts S} {a b c : Transaction S} where
       }
 
 module _ {S X Y : Type 0} {g : Ghosts S} {a b : Transaction S} where
-  stays_failed : {e : Error} {r : Result Y Error} → StaysInside {X = X} g a b (Err e) → IsErrAnd r (λ failure. failure ≡ e) → StaysInside g a b r
+  stays_failed : {e : Error} {r : Result Y Error} → RunsInTransaction {X = X} g a b (Err e) → IsErrAnd r (λ failure. failure ≡ e) → RunsInTransaction g a b r
   stays_failed {e} {r} p is = record {
     keeps = p.keeps;
     shut = λ clean. if_err_is r (λ failure. IsTrue (state_in g a).is_open ⊎ IsWriteFault (state_in g a) (state_in g b) failure) e is (p.shut clean);
@@ -56,7 +56,7 @@ module _ {S X Y : Type 0} {g : Ghosts S} {a b : Transaction S} where
   }
 
 module _ {IsFailure : State → State → Error → Type 0} {S X Y I : Type 0} {g : Ghosts S} {a b c : Transaction S} {From Mid To : I → Database → Type 0} where
-  pub turns_then : IsCarried IsFailure → {x : X} {r : Result Y Error} → Turns IsFailure g a b (Ok x) From Mid → Turns IsFailure g b c r Mid To → Turns IsFailure g a c r From To
+  pub turns_then : IsCarried IsFailure → {x : X} {r : Result Y Error} → Transforms IsFailure g a b (Ok x) From Mid → Transforms IsFailure g b c r Mid To → Transforms IsFailure g a c r From To
   turns_then carried {r = r} p q =
       let soon = early (state_in g b) (state_in g c) q.frame.keeps.survives in
       record {
@@ -69,7 +69,7 @@ module _ {IsFailure : State → State → Error → Type 0} {S X Y I : Type 0} {
 
 -- `?` passes the error on
 module _ {IsFailure : State → State → Error → Type 0} {S X Y I : Type 0} {g : Ghosts S} {a b : Transaction S} {From Mid To : I → Database → Type 0} where
-  pub turns_failed : {e : Error} {r : Result Y Error} → Turns {X = X} IsFailure g a b (Err e) From Mid → IsErrAnd r (λ failure. failure ≡ e) → Turns IsFailure g a b r From To
+  pub turns_failed : {e : Error} {r : Result Y Error} → Transforms {X = X} IsFailure g a b (Err e) From Mid → IsErrAnd r (λ failure. failure ≡ e) → Transforms IsFailure g a b r From To
   turns_failed {e} {r} p is = record {
     frame = stays_failed p.frame is;
     made = λ clean. none _ e r is;
@@ -77,23 +77,23 @@ module _ {IsFailure : State → State → Error → Type 0} {S X Y I : Type 0} {
   }
 
 module _ {IsFailure : State → State → Error → Type 0} {S X I : Type 0} {g : Ghosts S} {a b : Transaction S} {r : Result X Error} {From To : I → Database → Type 0} where
-  pub turns_from : {J : Type 0} {Before : J → Database → Type 0} (about : J → I) → ((j : J) (db : Database) → Before j db → From (about j) db) → Turns IsFailure g a b r From To → Turns IsFailure g a b r Before (λ j. To (about j))
+  pub turns_from : {J : Type 0} {Before : J → Database → Type 0} (about : J → I) → ((j : J) (db : Database) → Before j db → From (about j) db) → Transforms IsFailure g a b r From To → Transforms IsFailure g a b r Before (λ j. To (about j))
   turns_from about from p = record {
     frame = p.frame;
     made = λ clean. on_ok r (λ made j before. made (about j) (from j (state_in g a).now before)) (p.made clean);
     fault = λ clean. if_err r (λ e failed j before. failed (about j) (from j (state_in g a).now before)) (p.fault clean);
   }
 
-  pub turns_to : {After : I → Database → Type 0} → ((about : I) (db : Database) → To about db → After about db) → Turns IsFailure g a b r From To → Turns IsFailure g a b r From After
+  pub turns_to : {After : I → Database → Type 0} → ((about : I) (db : Database) → To about db → After about db) → Transforms IsFailure g a b r From To → Transforms IsFailure g a b r From After
   turns_to to p = record { frame = p.frame; made = λ clean. on_ok r (λ made about from. to about (state_in g b).now (made about from)) (p.made clean); fault = p.fault }
 
-  pub turns_or : {IsOther : State → State → Error → Type 0} → ((e : Error) → IsFailure (state_in g a) (state_in g b) e → IsOther (state_in g a) (state_in g b) e) → Turns IsFailure g a b r From To → Turns IsOther g a b r From To
+  pub turns_or : {IsOther : State → State → Error → Type 0} → ((e : Error) → IsFailure (state_in g a) (state_in g b) e → IsOther (state_in g a) (state_in g b) e) → Transforms IsFailure g a b r From To → Transforms IsOther g a b r From To
   turns_or other p = record { frame = p.frame; made = p.made; fault = λ clean. if_err r (λ e failed about from. other e (failed about from)) (p.fault clean) }
 
 -- ---- changes of the contents
 
 module _ {IsFailure : State → State → Error → Type 0} {S X Y : Type 0} {g : Ghosts S} {a b c : Transaction S} {one two : Contents → Contents} where
-  pub alters_then : IsCarried IsFailure → {x : X} {r : Result Y Error} → Alters IsFailure g a b (Ok x) one → Alters IsFailure g b c r two → Alters IsFailure g a c r (λ contents. two (one contents))
+  pub alters_then : IsCarried IsFailure → {x : X} {r : Result Y Error} → AppliesChange IsFailure g a b (Ok x) one → AppliesChange IsFailure g b c r two → AppliesChange IsFailure g a c r (λ contents. two (one contents))
   alters_then carried {r = r} p q =
       let soon = early (state_in g b) (state_in g c) q.frame.keeps.survives in
       record {
@@ -106,19 +106,19 @@ module _ {IsFailure : State → State → Error → Type 0} {S X Y : Type 0} {g 
       }
 
 module _ {IsFailure : State → State → Error → Type 0} {S X Y : Type 0} {g : Ghosts S} {a b : Transaction S} {one two : Contents → Contents} where
-  pub alters_failed : {e : Error} {r : Result Y Error} → Alters {X = X} IsFailure g a b (Err e) one → IsErrAnd r (λ failure. failure ≡ e) → Alters IsFailure g a b r two
+  pub alters_failed : {e : Error} {r : Result Y Error} → AppliesChange {X = X} IsFailure g a b (Err e) one → IsErrAnd r (λ failure. failure ≡ e) → AppliesChange IsFailure g a b r two
   alters_failed {e} {r} p is = record {
     frame = stays_failed p.frame is;
     changed = λ clean. none _ e r is;
-    fault = λ clean. if_err_is r (λ failure. WhereHeld (state_in g a) (λ contents. IsFailure (state_in g a) (state_in g b) failure)) e is (p.fault clean);
+    fault = λ clean. if_err_is r (λ failure. ForHeldContents (state_in g a) (λ contents. IsFailure (state_in g a) (state_in g b) failure)) e is (p.fault clean);
   }
 
 -- ---- CREATE TABLE
 
-module _ {S X : Type 0} {g : Ghosts S} {a b : Transaction S} {r : Result X Error} {sql : List ℕ} {before : Schema} {table : Table} {after : Schema} (m : MakesTable sql before table after) (can : CanBeMade sql before table) (frame : StaysInside g a b r)
+module _ {S X : Type 0} {g : Ghosts S} {a b : Transaction S} {r : Result X Error} {sql : List ℕ} {before : Schema} {table : Table} {after : Schema} (m : MakesTable sql before table after) (can : CanBeMade sql before table) (frame : RunsInTransaction g a b r)
     (runs : HasCleanDisk (state_in g b) → OnOk r ((count : ℕ) × ExecutesInside 0 sql [] (state_in g a) (state_in g b) (Ok count)))
     (failed : HasCleanDisk (state_in g b) → IfErr r (λ e. OrTooLate (state_in g a) e (ExecutesInside 0 sql [] (state_in g a) (state_in g b) (Err e)))) where
-  pub makes_table : Turns IsWriteFault g a b r (Holding before) (Holding after)
+  pub makes_table : Transforms IsWriteFault g a b r (Holding before) (Holding after)
   makes_table = record {
     frame = frame;
     made = λ clean. on_ok r (λ ran contents holds. makes sql before table after m (state_in g a) (state_in g b) ran.0 contents holds ran.1.0) (runs clean);
@@ -126,10 +126,10 @@ module _ {S X : Type 0} {g : Ghosts S} {a b : Transaction S} {r : Result X Error
   }
 
 -- in a database that has none
-module _ {S X : Type 0} {g : Ghosts S} {a b : Transaction S} {r : Result X Error} {sql : List ℕ} {table : Table} {after : Schema} (m : MakesTable sql no_schema table after) (can : CanBeMade sql no_schema table) (frame : StaysInside g a b r)
+module _ {S X : Type 0} {g : Ghosts S} {a b : Transaction S} {r : Result X Error} {sql : List ℕ} {table : Table} {after : Schema} (m : MakesTable sql no_schema table after) (can : CanBeMade sql no_schema table) (frame : RunsInTransaction g a b r)
     (runs : HasCleanDisk (state_in g b) → OnOk r ((count : ℕ) × ExecutesInside 0 sql [] (state_in g a) (state_in g b) (Ok count)))
     (failed : HasCleanDisk (state_in g b) → IfErr r (λ e. OrTooLate (state_in g a) e (ExecutesInside 0 sql [] (state_in g a) (state_in g b) (Err e)))) where
-  pub makes_first : Turns IsWriteFault g a b r IsEmpty (λ _ db. HoldsIn after db no_contents)
+  pub makes_first : Transforms IsWriteFault g a b r IsEmpty (λ _ db. HoldsContents after db no_contents)
   makes_first = record {
     frame = frame;
     made = λ clean. on_ok r (λ ran about none. holds_more sql no_schema table after m (state_in g a) (state_in g b) ran.0 no_contents (holds_nothing (state_in g a).now.trees) none ran.1.0) (runs clean);

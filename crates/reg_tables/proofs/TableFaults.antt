@@ -48,8 +48,8 @@ use Rattle.reg_tables.specs.TableMaps.{Form, ShowsMap}
 use Rattle.reg_tables.specs.Rooms.{HasRoom}
 use Rattle.reg_tables.proofs.Rooms.{above, less}
 use Rattle.reg_tables.specs.FailedCalls.{IsFault, IsInsertFault}
-use Rattle.reg_tables.specs.Inside.KeyedLaws.{AreApart, IsIdle, HasKeys, IsAt}
-use Rattle.reg_tables.specs.Inside.Statements.{plain_query, IsCommand, IsWhole}
+use Rattle.reg_tables.specs.Inside.KeyedLaws.{HaveOwnTrees, HasNoForeignKeyAction, HasKeys, IsTableAt}
+use Rattle.reg_tables.specs.Inside.Statements.{plain_query, IsCommand, IsOneStatement}
 use Rattle.sqlite.specs.Schema.{Schema}
 use Rattle.reg_tables.proofs.Cascades.{delete_allowed}
 use Rattle.reg_tables.proofs.UniqueLemmas.{with_tree_there, with_tree_elsewhere, stays_unique}
@@ -113,7 +113,7 @@ no_trouble rows count h row its why (inr taken) =
 abbrev pub IsRowTrouble : Schema → Table → List Row → Row → Error → Type 0
 IsRowTrouble schema table rows row e = ((e ≡ SqliteFailure code.TooBig) × IsOversized schema table row) ⊎ ((why : Refusal) × IsRowidTrouble rows row why × (e ≡ edit_error why))
 
-module _ (schema : Schema) (apart : AreApart schema) (trees : Trees) (table : Table) (listed : Has schema.tables table) (keys : HasKeys schema table) (lawful : Obeys schema trees) (rowids : Rowids) (sources : List Row) (row : Row)
+module _ (schema : Schema) (apart : HaveOwnTrees schema) (trees : Trees) (table : Table) (listed : Has schema.tables table) (keys : HasKeys schema table) (lawful : Obeys schema trees) (rowids : Rowids) (sources : List Row) (row : Row)
     (news : (edit_of trees table [] rowids 0 sources).news ≡ row ∷ []) (fitting : IsFitting schema table (trees table.tree) row) where
   abbrev edit : Edit
   edit = edit_of trees table [] rowids 0 sources
@@ -170,7 +170,7 @@ pub plain_fits : (trees : Trees) (params : Row) (tree : ℕ) (tests shown : List
 plain_fits trees params tree tests shown (inl none) = none
 plain_fits trees params tree tests shown (inr some) = (any_has _ _ some).2
 
-module _ (schema : Schema) (apart : AreApart schema) (at : ℕ) (table : Table) (its : IsAt schema at table) (old new : State) (declared : old.now.schema ≡ schema) (sound : IsDatabase old.now) where
+module _ (schema : Schema) (apart : HaveOwnTrees schema) (at : ℕ) (table : Table) (its : IsTableAt schema at table) (old new : State) (declared : old.now.schema ≡ schema) (sound : IsDatabase old.now) where
   lawful : Obeys schema old.now.trees
   lawful = obeys schema old.now declared sound
 
@@ -180,12 +180,12 @@ module _ (schema : Schema) (apart : AreApart schema) (at : ℕ) (table : Table) 
   abbrev cut : List Row → Edit
   cut found = edit_of old.now.trees table (ids_of found) Given 0 []
 
-  ends : IsIdle schema table.tree → (found : List Row) → NeverStops schema old.now.trees (cut found)
+  ends : HasNoForeignKeyAction schema table.tree → (found : List Row) → NeverStops schema old.now.trees (cut found)
   ends idle found = none_stops schema old.now.trees (cut found) (idle (taken_by old.now.trees (cut found)) [])
 
   -- a DELETE of rows to which no other refers
-  pub delete_fails : (sql : List ℕ) (params : Row) (tests : List Term) → IsIdle schema table.tree → IsCommand schema sql (Delete at (record { lets = []; body = plain_query table.tree tests (col 1 0 ∷ []) }))
-      → IsWhole sql (length params) (understood schema sql) → accepts_program schema [] (plain_query table.tree tests (col 1 0 ∷ [])) params ≡ true
+  pub delete_fails : (sql : List ℕ) (params : Row) (tests : List Term) → HasNoForeignKeyAction schema table.tree → IsCommand schema sql (Delete at (record { lets = []; body = plain_query table.tree tests (col 1 0 ∷ []) }))
+      → IsOneStatement sql (length params) (understood schema sql) → accepts_program schema [] (plain_query table.tree tests (col 1 0 ∷ [])) params ≡ true
       → ((found : List Row) (next : Trees) → Applies schema Enforced old.now.trees (edit_of old.now.trees table (ids_of found) Given 0 []) next → Refers All schema old.now.trees → Refers All schema next)
       → (e : Error) → ExecutesInside 0 sql params old new (Err e) → IsFault old new e
   delete_fails sql params tests idle it whole typed refers e h =
@@ -207,7 +207,7 @@ module _ (schema : Schema) (apart : AreApart schema) (at : ℕ) (table : Table) 
     abbrev put : Edit
     put = edit_of old.now.trees table [] Chosen 0 sources
 
-    pub insert_fails : (sql : List ℕ) → table.is_counted ≡ false → IsCommand schema sql (Insert at (Values terms width)) → IsWhole sql (length params) (understood schema sql) → accepts_terms terms (stamped table params) ≡ true
+    pub insert_fails : (sql : List ℕ) → table.is_counted ≡ false → IsCommand schema sql (Insert at (Values terms width)) → IsOneStatement sql (length params) (understood schema sql) → accepts_terms terms (stamped table params) ≡ true
         → put.news ≡ row ∷ [] → IsFitting schema table (old.now.trees table.tree) row → ((next : Trees) → Applies schema Enforced old.now.trees put next → Refers All schema old.now.trees → Refers All schema next)
         → (e : Error) → ExecutesInside 0 sql params old new (Err e) → IsFault old new e ⊎ IsRowTrouble schema table (old.now.trees table.tree) row e
     insert_fails sql uncounted it whole typed news fitting refers e h =

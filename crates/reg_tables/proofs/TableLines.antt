@@ -15,14 +15,14 @@ use Rattle.sqlite.specs.Query.{IsAnswer}
 use Rattle.sqlite.specs.Program.{overlay}
 use Rattle.sqlite.specs.State.{State, Shown, HasCleanDisk}
 use Rattle.sqlite_rules.specs.Lists.{Has}
-use Rattle.reg_tables.specs.declared.idle.Idle.{Idle}
-use Rattle.reg_tables.specs.Frames.{once_begun, StaysIdle}
+use Rattle.reg_tables.specs.declared.autocommit.AutocommitConnection.{AutocommitConnection}
+use Rattle.reg_tables.specs.Frames.{after_begin, ReadsInAutocommit}
 use Rattle.reg_tables.specs.Lookups.{Finds}
 use Rattle.reg_tables.specs.Layout.{HasFiveTables, no_schema, HasEightTables}
-use Rattle.reg_tables.specs.Reads.{HoldsReadable, CanBeRead, HoldsMeta, HasLayout, HoldsSome}
+use Rattle.reg_tables.specs.Reads.{HoldsReadable, CanBeRead, HoldsMeta, HasLayout, HoldsReadableIn}
 use Rattle.reg_tables.specs.FailedCalls.{IsFault, IsUnreadable}
 use Rattle.reg_tables.specs.TableMaps.{Form, IsEntry, ShowsMap}
-use Rattle.reg_tables.specs.Contents.{version_form, pair_form, kept_form, PlaceKey, evidence_form, against_form, TableName, Versions, Modes, Evidence, Against, Contents, AreReadable, HoldsIn, table_in, HasTable, form_of, map_of}
+use Rattle.reg_tables.specs.Contents.{version_form, pair_form, kept_form, PositionKey, evidence_form, against_form, TableName, Versions, Modes, Evidence, Against, Contents, AreReadable, HoldsContents, table_in, HasTable, form_of, map_of}
 use Rattle.reg_tables.specs.Listings.{parts_of, entry_parts, Lists}
 use Rattle.reg_tables.specs.Inside.ReadableRows.{IsReadableVersion, IsReadablePair, IsReadableKept, IsReadableEvidence, IsReadableAgainst}
 use Rattle.reg_tables.specs.Inside.FailedLists.{FailsToList}
@@ -78,33 +78,33 @@ module _ {q : TableQuery} {params : Row} (it : IsAsked q params) (is_readable : 
   list_told e why known = asked_told q.sql old new end is_readable e params why (λ is_open. asks_five it old.now.schema (known is_open))
 
 -- a look-up of versions by such a query
-module _ {S X : Type 0} {g : Ghosts S} {q : TableQuery} {params : Row} (asked : IsAsked q params) {Tells : Contents → X → Type 0} (is_readable : Row → Type 0) (Reads : X → List Row → Type 0) (old new : Idle S g) (r : Result X Error) (frame : StaysIdle g old.conn new.conn r)
-    (read : HasCleanDisk (state g new.conn) → IfOk r (λ x. (last : Held S) × (found : List Row) × Shown q.sql params (once_begun g old.conn) (state g last) found × Reads x found))
-    (failed : HasCleanDisk (state g new.conn) → IfErr r (λ e. (last : Held S) × FailsToList is_readable q.sql params (once_begun g old.conn) (state g last) (state g new.conn) e)) where
-  pub finds_versions : ((last : State) (schema : Schema) (contents : Contents) → HoldsIn schema (once_begun g old.conn).now contents → HasFiveTables schema → (found : List Row) → Shown q.sql params (once_begun g old.conn) last found
+module _ {S X : Type 0} {g : Ghosts S} {q : TableQuery} {params : Row} (asked : IsAsked q params) {Tells : Contents → X → Type 0} (is_readable : Row → Type 0) (Reads : X → List Row → Type 0) (old new : AutocommitConnection S g) (r : Result X Error) (frame : ReadsInAutocommit g old.conn new.conn r)
+    (read : HasCleanDisk (state g new.conn) → IfOk r (λ x. (last : Held S) × (found : List Row) × Shown q.sql params (after_begin g old.conn) (state g last) found × Reads x found))
+    (failed : HasCleanDisk (state g new.conn) → IfErr r (λ e. (last : Held S) × FailsToList is_readable q.sql params (after_begin g old.conn) (state g last) (state g new.conn) e)) where
+  pub finds_versions : ((last : State) (schema : Schema) (contents : Contents) → HoldsContents schema (after_begin g old.conn).now contents → HasFiveTables schema → (found : List Row) → Shown q.sql params (after_begin g old.conn) last found
       → ((x : X) → Reads x found → Tells contents x) × (AreReadable contents → All is_readable found)) → Finds Versions old new r Tells
   finds_versions each = record {
     frame = frame;
     found = λ clean. if_ok r (λ x its schema known contents holds. (each (state g its.0) schema contents holds known its.1 its.2).0 x its.3) (read clean);
     fault = λ clean. if_err r
-        (λ e why. list_fault asked is_readable (once_begun g old.conn) (state g why.0) (state g new.conn) (λ found shows there. (each (state g why.0) there.schema there.contents there.holds there.known found shows).1 there.readable) e why.1)
+        (λ e why. list_fault asked is_readable (after_begin g old.conn) (state g why.0) (state g new.conn) (λ found shows there. (each (state g why.0) there.schema there.contents there.holds there.known found shows).1 there.readable) e why.1)
         (failed clean);
   }
 
 -- ---- all rows of a table
 
 -- in each schema that is known the text shows all rows of its table, each with its parts in the same places
-pub record ShowsTable {K V : Type 0} (Known : Schema → Type 0) (Holds : Database → Type 0) (form : Form K V) (is_readable : Row → Type 0) (sql : List ℕ) (tree : Schema → ℕ) : Type 0 where
+pub record ShowsTable {K V : Type 0} (Known : Schema → Type 0) (HoldsLayoutOne : Database → Type 0) (form : Form K V) (is_readable : Row → Type 0) (sql : List ℕ) (tree : Schema → ℕ) : Type 0 where
   pub shown : List Term
   pub names : List (List ℕ)
   pub is : (schema : Schema) → Known schema → IsQuery (all_of sql (tree schema) shown names) schema
   pub takes : (schema : Schema) → Known schema → Takes (all_of sql (tree schema) shown names) [] schema
   pub whole : (row : Row) → parts_of form (eval_all shown ([] ∷ row ∷ [])) ≡ parts_of form row
-  pub known : (db : Database) → Holds db → Known db.schema
-  pub readable : (db : Database) → Holds db → (row : Row) → Has (db.trees (tree db.schema)) row → is_readable (eval_all shown ([] ∷ row ∷ []))
+  pub known : (db : Database) → HoldsLayoutOne db → Known db.schema
+  pub readable : (db : Database) → HoldsLayoutOne db → (row : Row) → Has (db.trees (tree db.schema)) row → is_readable (eval_all shown ([] ∷ row ∷ []))
 
 abbrev ShowsInFive : {K V : Type 0} → (Database → Type 0) → Form K V → (Row → Type 0) → TableQuery → Type 0
-ShowsInFive Holds form is_readable q = ShowsTable HasFiveTables Holds form is_readable q.sql (λ schema. q.tree)
+ShowsInFive HoldsLayoutOne form is_readable q = ShowsTable HasFiveTables HoldsLayoutOne form is_readable q.sql (λ schema. q.tree)
 
 pub shows_versions : ShowsInFive HoldsReadable version_form IsReadableVersion all_versions
 shows_versions = record { shown = all_versions.shown; names = all_versions.names; is = asks_all_versions.is; takes = asks_all_versions.takes; whole = λ row. refl; known = of_layout; readable = readable_version }
@@ -123,7 +123,7 @@ all_if_each P [] each k d low = absurd (omega arith)
 all_if_each P (x ∷ xs) each zero d low = each x (inl refl)
 all_if_each P (x ∷ xs) each (suc k) d low = all_if_each P xs (λ y h. each y (inr h)) k d (omega (arith, low))
 
-module _ {K V : Type 0} {Known : Schema → Type 0} {Holds : Database → Type 0} {form : Form K V} {is_readable : Row → Type 0} {sql : List ℕ} {tree : Schema → ℕ} (table : ShowsTable Known Holds form is_readable sql tree) (old new : State) where
+module _ {K V : Type 0} {Known : Schema → Type 0} {HoldsLayoutOne : Database → Type 0} {form : Form K V} {is_readable : Row → Type 0} {sql : List ℕ} {tree : Schema → ℕ} (table : ShowsTable Known HoldsLayoutOne form is_readable sql tree) (old new : State) where
   abbrev place : ℕ
   place = tree old.now.schema
 
@@ -145,7 +145,7 @@ module _ {K V : Type 0} {Known : Schema → Type 0} {Holds : Database → Type 0
         let same : map (parts_of form) (map show rows) ≡ map (parts_of form) rows = map-map (parts_of form) show rows ∙ (λ i. map (λ (row : Row). table.whole row i) rows) in
         subst (λ l. IsPermutation l (map (parts_of form) found)) same (IsPermutation-map (parts_of form) (map show rows) found all)
 
-    shown_readable : Holds old.now → All is_readable found
+    shown_readable : HoldsLayoutOne old.now → All is_readable found
     shown_readable there = all_if_each is_readable found (λ x has.
         let r = answer_has [] [] place table.shown (overlay old.now.trees []) found answer x has in
         subst is_readable (sym r.3) (table.readable old.now there r.0 (subst (λ l. Has l r.0) (with_nothing old.now.trees place) r.1)))
@@ -155,7 +155,7 @@ module _ {K V : Type 0} {Known : Schema → Type 0} {Holds : Database → Type 0
   lists_lines entry lines found h read laid = subst (IsPermutation (map (parts_of form) (old.now.trees place))) (read ∙ sym (map-map (entry_parts form) entry lines)) (shown_parts laid found h)
 
   -- of readable contents the lines fail with a fault alone
-  pub lines_fault : (end : State) (e : Error) → FailsToList is_readable sql [] old new end e → (IsTrue old.is_open → Holds old.now) → IsFault old end e
+  pub lines_fault : (end : State) (e : Error) → FailsToList is_readable sql [] old new end e → (IsTrue old.is_open → HoldsLayoutOne old.now) → IsFault old end e
   lines_fault end e why can = asked_fault sql old new end is_readable e [] why (λ is_open. let there = can is_open in let laid = table.known old.now there in (its_asks laid, λ found h. shown_readable laid found h there))
 
   -- of any contents they fail with a fault, or where a row can't be read
@@ -166,7 +166,7 @@ module _ {K V : Type 0} {Known : Schema → Type 0} {Holds : Database → Type 0
 
 -- the database has the eight tables, and holds what can be read
 abbrev HoldsEight : Database → Type 0
-HoldsEight = HoldsSome HasEightTables
+HoldsEight = HoldsReadableIn HasEightTables
 
 pub of_eight : (db : Database) → HoldsEight db → HasEightTables db.schema
 of_eight db there = subst HasEightTables (sym there.holds.declared) there.known
@@ -174,7 +174,7 @@ of_eight db there = subst HasEightTables (sym there.holds.declared) there.known
 abbrev pub tree_of : TableName → Schema → ℕ
 tree_of name schema = (table_in schema name).tree
 
-shows_here : (db : Database) (name : TableName) (there : HoldsSome (HasTable name) db) → ShowsMap (form_of name) (db.trees (tree_of name db.schema)) (get (map_of name there.contents))
+shows_here : (db : Database) (name : TableName) (there : HoldsReadableIn (HasTable name) db) → ShowsMap (form_of name) (db.trees (tree_of name db.schema)) (get (map_of name there.contents))
 shows_here db name there = subst (λ s. ShowsMap (form_of name) (db.trees (tree_of name s)) (get (map_of name there.contents))) (sym there.holds.declared) (shown_by there.holds name there.known)
 
 -- ---- modes
@@ -241,7 +241,7 @@ against_shown = col 1 0 ∷ col 1 1 ∷ col 1 2 ∷ col 1 3 ∷ col 1 4 ∷ []
 abbrev pub against_names : List (List ℕ)
 against_names = codes "rowid" ∷ codes "subject" ∷ codes "version" ∷ codes "position" ∷ codes "id" ∷ []
 
-against_row : (row : Row) (key : PlaceKey) (id : ℕ) → rowid row ≡ Int (id_in (rowid row)) → IsEntry against_form row key id
+against_row : (row : Row) (key : PositionKey) (id : ℕ) → rowid row ≡ Int (id_in (rowid row)) → IsEntry against_form row key id
     → rowid row ∷ column row 1 ∷ column row 2 ∷ column row 3 ∷ column row 4 ∷ [] ≡ Int (id_in (rowid row)) ∷ Text key.0.0 ∷ Int (pos key.0.1) ∷ Int (pos key.1) ∷ Int (pos id) ∷ []
 against_row row key id rowid_is is =
     ap (λ (r : Row). rowid row ∷ column row 1 ∷ column row 2 ∷ column row 3 ∷ r) is.1 ∙ ap (λ (r : Row). rowid row ∷ column r 0 ∷ column r 1 ∷ column r 2 ∷ Int (pos id) ∷ []) is.0

@@ -6,7 +6,7 @@ use Rattle.sqlite.specs.Order.{Row}
 use Rattle.sqlite.specs.State.{State, Shown}
 use Rattle.sqlite.specs.Schema.{Schema}
 use Rattle.reg_tables.specs.Layout.{HasFiveTables}
-use Rattle.reg_tables.specs.Contents.{text_cmp, Contents, number_cells, HoldsIn}
+use Rattle.reg_tables.specs.Contents.{text_cmp, Contents, number_cells, HoldsContents}
 use Rattle.reg_tables.specs.Inside.Statements.{IsQuery}
 use Rattle.reg_tables.proofs.KeyedTables.{text_order, by_text_test, shown_has, has_shown}
 use Rattle.reg_tables.proofs.MapLemmas.{same_key, tied_key}
@@ -21,7 +21,7 @@ first_shown (r ∷ found) P Q some none None is = absurd (cc)
 first_shown [] P Q some none (Some row) is = absurd (cc)
 first_shown (r ∷ found) P Q some none (Some row) is = let same : row ≡ r = cc in some row (inl same)
 
-module _ (old new : State) (schema : Schema) (contents : Contents) (h : HoldsIn schema old.now contents) (first : HasFiveTables schema) where
+module _ (old new : State) (schema : Schema) (contents : Contents) (h : HoldsContents schema old.now contents) (first : HasFiveTables schema) where
   laid : HasFiveTables old.now.schema
   laid = laid_out h first
 

@@ -12,10 +12,10 @@ use Rattle.sqlite.specs.Table.{Table}
 use Rattle.sqlite.specs.Tree.{Trees, IsAscending}
 use Rattle.sqlite_schema.specs.declared.schema.Index.{Index}
 use Rattle.sqlite_rules.proofs.ListLemmas.{all_has, has_got}
-use Rattle.reg_tables.specs.Layout.{layout_one, layout_two, layout_two_indexed_last, IsLayoutTwo, TakesMeta, HasFiveTables, HasEightTables, begins, added, texts, versions, levels, kept, meta, layout_two_unindexed, IsOpenable}
+use Rattle.reg_tables.specs.Layout.{layout_one, layout_two, layout_two_indexed_last, IsLayoutTwo, TakesMeta, HasFiveTables, HasEightTables, five_tables_then, added_tables, texts, versions, levels, kept, meta, layout_two_unindexed, IsOpenable}
 use Rattle.reg_tables.specs.TableMaps.{Form, ShowsMap}
-use Rattle.reg_tables.specs.Contents.{text_form, version_form, pair_form, kept_form, TableName, Texts, Versions, Levels, Kept, Meta, Modes, Evidence, Against, place_of, table_in, HasTable, form_of, MapOf, map_of, with_map, Contents, ShowsIn, ShowsAll, HoldsIn}
-use Rattle.reg_tables.specs.Inside.KeyedLaws.{AreApart, TurnsTable}
+use Rattle.reg_tables.specs.Contents.{text_form, version_form, pair_form, kept_form, TableName, Texts, Versions, Levels, Kept, Meta, Modes, Evidence, Against, ordinal_of, table_in, HasTable, form_of, MapOf, map_of, with_map, Contents, ShowsIn, ShowsAll, HoldsContents}
+use Rattle.reg_tables.specs.Inside.KeyedLaws.{HaveOwnTrees, ReplacesMap}
 use Rattle.reg_tables.proofs.RowLemmas.{same_rows, shows_empty}
 
 -- ---- the maps
@@ -40,7 +40,7 @@ last_map Modes first last contents = refl
 last_map Evidence first last contents = refl
 last_map Against first last contents = refl
 
-other_map : (name other : TableName) → place_of other ≢ place_of name → (map : MapOf name) (contents : Contents) → map_of other (with_map name map contents) ≡ map_of other contents
+other_map : (name other : TableName) → ordinal_of other ≢ ordinal_of name → (map : MapOf name) (contents : Contents) → map_of other (with_map name map contents) ≡ map_of other contents
 other_map Texts Texts apart map contents = absurd (apart refl)
 other_map Texts other apart map contents = refl
 other_map Versions Versions apart map contents = absurd (apart refl)
@@ -68,7 +68,7 @@ name_at (suc (suc (suc (suc (suc zero))))) = Modes
 name_at (suc (suc (suc (suc (suc (suc zero)))))) = Evidence
 name_at (suc (suc (suc (suc (suc (suc (suc n))))))) = Against
 
-named : (name : TableName) → name_at (place_of name) ≡ name
+named : (name : TableName) → name_at (ordinal_of name) ≡ name
 named Texts = refl
 named Versions = refl
 named Levels = refl
@@ -114,35 +114,35 @@ module _ {K V : Type 0} {R : K → K → Ordering} (form : Form K V) (map : FinM
     shown_in None there shows = absurd (cc)
     shown_in (Some table) there shows = shows
 
-pub all_still : (tables : List Table) (old new : Trees) (contents : Contents) → KeepsRows tables old new → ((name : TableName) → ShowsIn (form_of name) old (slice_get tables (place_of name)) (map_of name contents))
-    → (name : TableName) → ShowsIn (form_of name) new (slice_get tables (place_of name)) (map_of name contents)
+pub all_still : (tables : List Table) (old new : Trees) (contents : Contents) → KeepsRows tables old new → ((name : TableName) → ShowsIn (form_of name) old (slice_get tables (ordinal_of name)) (map_of name contents))
+    → (name : TableName) → ShowsIn (form_of name) new (slice_get tables (ordinal_of name)) (map_of name contents)
 all_still tables old new contents kept h name =
-    shows_still (form_of name) (map_of name contents) old new (slice_get tables (place_of name)) (λ t is. all_has (λ (x : Table). new x.tree ≡ old x.tree) tables t kept (has_got tables (place_of name) t is)) (h name)
+    shows_still (form_of name) (map_of name contents) old new (slice_get tables (ordinal_of name)) (λ t is. all_has (λ (x : Table). new x.tree ≡ old x.tree) tables t kept (has_got tables (ordinal_of name) t is)) (h name)
 
 -- ---- a write to one table
 
-module _ (schema : Schema) (apart : AreApart schema) (name : TableName) (table : Table) (there : slice_get schema.tables (place_of name) ≡ Some table) (old new : Database) (contents : Contents) (h : HoldsIn schema old contents)
-    (map : MapOf name) (t : TurnsTable schema (form_of name) table.tree old new (get map)) where
-  own : ShowsIn (form_of name) new.trees (slice_get schema.tables (place_of name)) (map_of name (with_map name map contents))
+module _ (schema : Schema) (apart : HaveOwnTrees schema) (name : TableName) (table : Table) (there : slice_get schema.tables (ordinal_of name) ≡ Some table) (old new : Database) (contents : Contents) (h : HoldsContents schema old contents)
+    (map : MapOf name) (t : ReplacesMap schema (form_of name) table.tree old new (get map)) where
+  own : ShowsIn (form_of name) new.trees (slice_get schema.tables (ordinal_of name)) (map_of name (with_map name map contents))
   own = subst (λ (o : Option Table). ShowsIn (form_of name) new.trees o (map_of name (with_map name map contents))) (sym there)
       (subst (λ m. ShowsIn (form_of name) new.trees (Some table) m) (sym (its_map name map contents)) t.rows)
 
-  turned_shows : (other : TableName) → ShowsIn (form_of other) new.trees (slice_get schema.tables (place_of other)) (map_of other (with_map name map contents))
-  turned_shows other = elim (cases_Bool (place_of other == place_of name)) [
+  turned_shows : (other : TableName) → ShowsIn (form_of other) new.trees (slice_get schema.tables (ordinal_of other)) (map_of other (with_map name map contents))
+  turned_shows other = elim (cases_Bool (ordinal_of other == ordinal_of name)) [
     | inl same ↦
-        let place : place_of other ≡ place_of name = (unsigned_Decides (place_of other) (place_of name)).0 same in
+        let place : ordinal_of other ≡ ordinal_of name = (unsigned_Decides (ordinal_of other) (ordinal_of name)).0 same in
         let is : name ≡ other = sym (named name) ∙ ap name_at (sym place) ∙ named other in
-        subst (λ (n : TableName). ShowsIn (form_of n) new.trees (slice_get schema.tables (place_of n)) (map_of n (with_map name map contents))) is own
+        subst (λ (n : TableName). ShowsIn (form_of n) new.trees (slice_get schema.tables (ordinal_of n)) (map_of n (with_map name map contents))) is own
     | inr differs ↦
-        let places : place_of other ≢ place_of name = λ e. both_ways _ differs ((unsigned_Decides (place_of other) (place_of name)).1 e) in
-        subst (λ m. ShowsIn (form_of other) new.trees (slice_get schema.tables (place_of other)) m) (sym (other_map name other places map contents))
-        (shows_still (form_of other) (map_of other contents) old.trees new.trees (slice_get schema.tables (place_of other))
-        (λ x is. all_has (λ (x : Table). x.tree ≢ table.tree → new.trees x.tree ≡ old.trees x.tree) schema.tables x t.others (has_got schema.tables (place_of other) x is) (apart_at schema.tables apart (place_of other) (place_of name) x table is there places))
+        let places : ordinal_of other ≢ ordinal_of name = λ e. both_ways _ differs ((unsigned_Decides (ordinal_of other) (ordinal_of name)).1 e) in
+        subst (λ m. ShowsIn (form_of other) new.trees (slice_get schema.tables (ordinal_of other)) m) (sym (other_map name other places map contents))
+        (shows_still (form_of other) (map_of other contents) old.trees new.trees (slice_get schema.tables (ordinal_of other))
+        (λ x is. all_has (λ (x : Table). x.tree ≢ table.tree → new.trees x.tree ≡ old.trees x.tree) schema.tables x t.others (has_got schema.tables (ordinal_of other) x is) (apart_at schema.tables apart (ordinal_of other) (ordinal_of name) x table is there places))
         (h.shows other))
   ]
 
   -- the contents have the other map
-  pub turned : HoldsIn schema new (with_map name map contents)
+  pub turned : HoldsContents schema new (with_map name map contents)
   turned = record { declared = t.declared; sound = t.sound; shows = turned_shows }
 
 -- ---- the tables of the layouts
@@ -155,18 +155,18 @@ pub record ShowsFive (db : Database) (contents : Contents) : Type 0 where
   pub kept : ShowsMap kept_form (db.trees kept.tree) (get contents.kept)
   pub meta : ShowsMap pair_form (db.trees meta.tree) (get contents.meta)
 
-pub five : {schema : Schema} {db : Database} {contents : Contents} → HoldsIn schema db contents → HasFiveTables schema → ShowsFive db contents
+pub five : {schema : Schema} {db : Database} {contents : Contents} → HoldsContents schema db contents → HasFiveTables schema → ShowsFive db contents
 five {schema} {db} {contents} h first =
-    let shows : ShowsAll (begins first.tables first.indexes) db.trees contents = subst (λ s. ShowsAll s db.trees contents) first.is h.shows in
+    let shows : ShowsAll (five_tables_then first.tables first.indexes) db.trees contents = subst (λ s. ShowsAll s db.trees contents) first.is h.shows in
     record { texts = shows Texts; versions = shows Versions; levels = shows Levels; kept = shows Kept; meta = shows Meta }
 
 pub eight_has_five : (schema : Schema) → HasEightTables schema → HasFiveTables schema
-eight_has_five schema known = record { tables = added known.first; indexes = known.indexes; is = known.is }
+eight_has_five schema known = record { tables = added_tables known.first; indexes = known.indexes; is = known.is }
 
 abbrev HasPlace : ℕ → Schema → Type 0
 HasPlace place schema = IsSome (slice_get schema.tables place)
 
-pub has_table : (schema : Schema) (name : TableName) → HasTable name schema → IsSome (slice_get schema.tables (place_of name))
+pub has_table : (schema : Schema) (name : TableName) → HasTable name schema → IsSome (slice_get schema.tables (ordinal_of name))
 has_table schema Texts known = subst (HasPlace 0) (sym known.is) refl
 has_table schema Versions known = subst (HasPlace 1) (sym known.is) refl
 has_table schema Levels known = subst (HasPlace 2) (sym known.is) refl
@@ -177,8 +177,8 @@ has_table schema Evidence known = subst (HasPlace 6) (sym known.is) refl
 has_table schema Against known = subst (HasPlace 7) (sym known.is) refl
 
 -- a table that is there shows its map
-pub shown_by : {schema : Schema} {db : Database} {contents : Contents} → HoldsIn schema db contents → (name : TableName) → HasTable name schema → ShowsMap (form_of name) (db.trees (table_in schema name).tree) (get (map_of name contents))
-shown_by {schema} {db} {contents} h name known = shown_in (form_of name) (map_of name contents) db.trees _ (slice_get schema.tables (place_of name)) (has_table schema name known) (h.shows name)
+pub shown_by : {schema : Schema} {db : Database} {contents : Contents} → HoldsContents schema db contents → (name : TableName) → HasTable name schema → ShowsMap (form_of name) (db.trees (table_in schema name).tree) (get (map_of name contents))
+shown_by {schema} {db} {contents} h name known = shown_in (form_of name) (map_of name contents) db.trees _ (slice_get schema.tables (ordinal_of name)) (has_table schema name known) (h.shows name)
 
 pub two_has_eight : (schema : Schema) → IsLayoutTwo schema → HasEightTables schema
 two_has_eight schema (inl is) = record { first = 11; place = inr refl; indexes = layout_two.indexes; is = is }
@@ -194,15 +194,15 @@ openable_has_eight schema (inl (inr is)) = record { first = 10; place = inl refl
 openable_has_eight schema (inr is) = record { first = 10; place = inl refl; indexes = layout_two_unindexed.indexes; is = is }
 
 -- what is so whatever tables and indexes follow the five tables, and so in each of these schemas
-pub begins_in_two : (P : Schema → Type 0) → ((tables : List Table) (indexes : List Index) → P (begins tables indexes)) → (schema : Schema) → IsLayoutTwo schema → P schema
-begins_in_two P each schema is = let known = two_has_eight schema is in subst P (sym known.is) (each (added known.first) known.indexes)
+pub begins_in_two : (P : Schema → Type 0) → ((tables : List Table) (indexes : List Index) → P (five_tables_then tables indexes)) → (schema : Schema) → IsLayoutTwo schema → P schema
+begins_in_two P each schema is = let known = two_has_eight schema is in subst P (sym known.is) (each (added_tables known.first) known.indexes)
 
-pub begins_written : (P : Schema → Type 0) → ((tables : List Table) (indexes : List Index) → P (begins tables indexes)) → (schema : Schema) → TakesMeta schema → P schema
+pub begins_written : (P : Schema → Type 0) → ((tables : List Table) (indexes : List Index) → P (five_tables_then tables indexes)) → (schema : Schema) → TakesMeta schema → P schema
 begins_written P each schema written = let it = meta_has_five schema written in subst P (sym it.is) (each it.tables it.indexes)
 
 -- what is so wherever the new tables stand, before the index or behind it
-pub at_both : (P : Schema → Type 0) → ((indexes : List Index) → P (begins (added 10) indexes)) → ((indexes : List Index) → P (begins (added 11) indexes)) → (schema : Schema) → HasEightTables schema → P schema
+pub at_both : (P : Schema → Type 0) → ((indexes : List Index) → P (five_tables_then (added_tables 10) indexes)) → ((indexes : List Index) → P (five_tables_then (added_tables 11) indexes)) → (schema : Schema) → HasEightTables schema → P schema
 at_both P before behind schema known = subst P (sym known.is) (elim known.place [
-  | inl is ↦ subst (λ n. P (begins (added n) known.indexes)) (sym is) (before known.indexes)
-  | inr is ↦ subst (λ n. P (begins (added n) known.indexes)) (sym is) (behind known.indexes)
+  | inl is ↦ subst (λ n. P (five_tables_then (added_tables n) known.indexes)) (sym is) (before known.indexes)
+  | inr is ↦ subst (λ n. P (five_tables_then (added_tables n) known.indexes)) (sym is) (behind known.indexes)
 ])

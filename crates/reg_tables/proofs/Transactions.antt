@@ -10,7 +10,7 @@ use Rattle.sqlite.specs.State.{State, Survives, KeepsCommit, IsUnchanged, IsRoll
 use Rattle.sqlite.proofs.StateLemmas.{survives_then}
 use Rattle.sqlite_schema.specs.declared.command.Returning.{Returning}
 use Rattle.sqlite_trees.specs.declared.store.Store.{Ghosts}
-use Rattle.reg_tables.specs.Frames.{StaysIdle}
+use Rattle.reg_tables.specs.Frames.{ReadsInAutocommit}
 
 pub keeps_then : (a b c : State) → KeepsCommit a b → KeepsCommit b c → KeepsCommit a c
 keeps_then a b c p q = record { was_open = λ h. p.was_open (q.was_open h); committed = λ h. q.committed h ∙ p.committed (q.was_open h) }
@@ -90,14 +90,14 @@ if_err_is (Err e) P first is h = subst P (sym is) h
 -- ---- what a read leaves, whatever is made of it
 
 module _ {S X Y E F : Type 0} (g : Ghosts S) (a b : Held S) where
-  pub stays_read : {x : X} (r : Result Y F) → StaysIdle {E = E} g a b (Ok x) → StaysIdle g a b r
+  pub stays_read : {x : X} (r : Result Y F) → ReadsInAutocommit {E = E} g a b (Ok x) → ReadsInAutocommit g a b r
   stays_read {x} r frame = record { was_open = λ clean. each r (frame.was_open clean); only_reads = frame.only_reads; survives = frame.survives }
     where
       each : (r : Result Y F) → IsTrue (state g a).is_open → OnOk r (IsTrue (state g a).is_open)
       each (Ok y) h = h
       each (Err e) h = tt
 
-  pub stays_unread : {e : E} (r : Result Y F) (first : F) → StaysIdle {X = X} g a b (Err e) → IsErrAnd r (λ failure. failure ≡ first) → StaysIdle g a b r
+  pub stays_unread : {e : E} (r : Result Y F) (first : F) → ReadsInAutocommit {X = X} g a b (Err e) → IsErrAnd r (λ failure. failure ≡ first) → ReadsInAutocommit g a b r
   stays_unread {e} r first frame is = record { was_open = λ clean. none r is; only_reads = frame.only_reads; survives = frame.survives }
     where
       none : (r : Result Y F) → IsErrAnd r (λ failure. failure ≡ first) → OnOk r (IsTrue (state g a).is_open)

@@ -18,17 +18,17 @@ use Rattle.sqlite_value.proofs.OrderLemmas.{value_cmp-Int}
 use Rattle.sqlite_rules.specs.Lists.{Has}
 use Rattle.sqlite_rules.proofs.ListLemmas.{test_has, some_from}
 use Rattle.sqlite_rules.proofs.RuleLemmas.{keeps_at}
-use Rattle.reg_tables.specs.Contents.{text_cmp, version_cmp, place_cmp, TableName, KeyOf, ValueOf, cmp_of, form_of, table_in}
-use Rattle.reg_tables.specs.Layout.{HasFiveTables, automatic_index, versions_of_id, layout_one, layout_one_unindexed, begins, IsLayoutOne, versions, levels, kept, meta, added, added_indexes, layout_two, layout_two_indexed_last, layout_two_unindexed, IsOpenable}
-use Rattle.reg_tables.specs.Listings.{RowParts, Lists, HasNoTwins, text_entry, version_entry, level_entry, kept_entry, meta_entry, mode_entry, evidence_entry, against_entry, ListsVersions, ListsLevels, ListsKept, ListsMeta, ListsModes, ListsEvidence, ListsAgainst}
-use Rattle.reg_tables.specs.declared.modes.ModeLine.{ModeLine}
-use Rattle.reg_tables.specs.declared.evidence.EvidenceLine.{EvidenceLine}
-use Rattle.reg_tables.specs.declared.evidence.AgainstLine.{AgainstLine}
-use Rattle.reg_tables.specs.declared.text_lines.TextLine.{TextLine}
-use Rattle.reg_tables.specs.declared.versions.VersionLine.{VersionLine}
-use Rattle.reg_tables.specs.declared.levels.LevelLine.{LevelLine}
-use Rattle.reg_tables.specs.declared.kept.KeptLine.{KeptLine}
-use Rattle.reg_tables.specs.declared.meta.MetaLine.{MetaLine}
+use Rattle.reg_tables.specs.Contents.{text_cmp, version_cmp, position_cmp, TableName, KeyOf, ValueOf, cmp_of, form_of, table_in}
+use Rattle.reg_tables.specs.Layout.{HasFiveTables, automatic_index, versions_of_id, layout_one, layout_one_unindexed, five_tables_then, IsLayoutOne, versions, levels, kept, meta, added_tables, added_indexes, layout_two, layout_two_indexed_last, layout_two_unindexed, IsOpenable}
+use Rattle.reg_tables.specs.Listings.{RowParts, Lists, HasNoDuplicates, text_entry, version_entry, level_entry, kept_entry, meta_entry, mode_entry, evidence_entry, against_entry, ListsVersions, ListsLevels, ListsKept, ListsMeta, ListsModes, ListsEvidence, ListsAgainst}
+use Rattle.reg_tables.specs.declared.modes.RawMode.{RawMode}
+use Rattle.reg_tables.specs.declared.evidence.RawEvidence.{RawEvidence}
+use Rattle.reg_tables.specs.declared.evidence.RawAgainst.{RawAgainst}
+use Rattle.reg_tables.specs.declared.raw_texts.RawText.{RawText}
+use Rattle.reg_tables.specs.declared.versions.RawVersion.{RawVersion}
+use Rattle.reg_tables.specs.declared.levels.RawLevel.{RawLevel}
+use Rattle.reg_tables.specs.declared.kept.RawKept.{RawKept}
+use Rattle.reg_tables.specs.declared.meta.RawMeta.{RawMeta}
 use Rattle.reg_tables.proofs.KeyedTables.{number_order}
 use Rattle.reg_tables.proofs.Keys.{key_columns, key_laws, keys_agree}
 use Rattle.reg_tables.proofs.ListingLemmas.{stored, keys_distinct}
@@ -62,7 +62,7 @@ module _ (db : Database) (sound : IsDatabase db) (name : TableName) (table : Tab
   abbrev es : List (ℤ × KeyOf name × ValueOf name)
   es = map entry lines
 
-  pub apart_by_key : Lists (form_of name) (db.trees table.tree) es → IsDistinct (eq_by_cmp int_cmp) (map rowid_of lines) → HasNoTwins (cmp_of name) es
+  pub apart_by_key : Lists (form_of name) (db.trees table.tree) es → IsDistinct (eq_by_cmp int_cmp) (map rowid_of lines) → HasNoDuplicates (cmp_of name) es
   apart_by_key lists distinct = record { rowids = ids; keys = keys_distinct (cmp_of name) (key_laws name).order es one_id ids }
     where
       ids : IsDistinct (eq_by_cmp int_cmp) (map (λ (e : ℤ × KeyOf name × ValueOf name). e.0) es)
@@ -78,10 +78,10 @@ module _ (db : Database) (sound : IsDatabase db) (name : TableName) (table : Tab
           same_number e.0 f.0 (ap (λ v. differ v (Int f.0)) (ap (λ (p : RowParts). p.0) a.2) ∙ ap (differ (rowid a.0)) (ap (λ (p : RowParts). p.0) b.2) ∙ one)
 
 -- an id is its row's rowid
-pub apart_by_id : (lines : List TextLine) → IsDistinct (eq_by_cmp int_cmp) (map (λ (line : TextLine). pos line.id) lines) → HasNoTwins nat_cmp (map text_entry lines)
+pub apart_by_id : (lines : List RawText) → IsDistinct (eq_by_cmp int_cmp) (map (λ (line : RawText). pos line.id) lines) → HasNoDuplicates nat_cmp (map text_entry lines)
 apart_by_id lines ids = record { rowids = moved; keys = keys_distinct nat_cmp number_order (map text_entry lines) one_id moved }
   where
-    ids_are : (ls : List TextLine) → map (λ (e : ℤ × ℕ × List ℕ). e.0) (map text_entry ls) ≡ map (λ (line : TextLine). pos line.id) ls
+    ids_are : (ls : List RawText) → map (λ (e : ℤ × ℕ × List ℕ). e.0) (map text_entry ls) ≡ map (λ (line : RawText). pos line.id) ls
     ids_are [] = refl
     ids_are (l ∷ ls) = ap (λ r. pos l.id ∷ r) (ids_are ls)
 
@@ -100,7 +100,7 @@ apart_by_id lines ids = record { rowids = moved; keys = keys_distinct nat_cmp nu
 pub record HasFiveKeys (schema : Schema) : Type 0 where
   pub tables : List Table
   pub indexes : List Index
-  pub is : schema ≡ begins tables (layout_one_unindexed.indexes ++ indexes)
+  pub is : schema ≡ five_tables_then tables (layout_one_unindexed.indexes ++ indexes)
 
 pub one_keys : (schema : Schema) → HasFiveKeys schema → HasFiveTables schema
 one_keys schema known = record { tables = known.tables; indexes = layout_one_unindexed.indexes ++ known.indexes; is = known.is }
@@ -110,9 +110,9 @@ layout_keys schema (inl is) = record { tables = []; indexes = versions_of_id ∷
 layout_keys schema (inr is) = record { tables = []; indexes = []; is = is }
 
 pub two_keys : (schema : Schema) → IsOpenable schema → HasFiveKeys schema
-two_keys schema (inl (inl is)) = record { tables = added 11; indexes = versions_of_id ∷ added_indexes 11; is = is }
-two_keys schema (inl (inr is)) = record { tables = added 10; indexes = added_indexes 10 ++ (record versions_of_id { tree = 16 }) ∷ []; is = is }
-two_keys schema (inr is) = record { tables = added 10; indexes = added_indexes 10; is = is }
+two_keys schema (inl (inl is)) = record { tables = added_tables 11; indexes = versions_of_id ∷ added_indexes 11; is = is }
+two_keys schema (inl (inr is)) = record { tables = added_tables 10; indexes = added_indexes 10 ++ (record versions_of_id { tree = 16 }) ∷ []; is = is }
+two_keys schema (inr is) = record { tables = added_tables 10; indexes = added_indexes 10; is = is }
 
 module _ (db : Database) (known : HasFiveKeys db.schema) (sound : IsDatabase db) where
   -- a table that comes first, and its index
@@ -122,17 +122,17 @@ module _ (db : Database) (known : HasFiveKeys db.schema) (sound : IsDatabase db)
   pub has_index : (index : Index) → Has layout_one_unindexed.indexes index → Has db.schema.indexes index
   has_index index here = subst (λ (s : Schema). Has s.indexes index) (sym known.is) (has_front layout_one_unindexed.indexes known.indexes index here)
 
-  pub versions_apart : (lines : List VersionLine) → ListsVersions db lines → IsDistinct (eq_by_cmp int_cmp) (map (λ (l : VersionLine). l.rowid) lines) → HasNoTwins version_cmp (map version_entry lines)
-  versions_apart = apart_by_key db sound TableName.Versions versions (codes "sqlite_autoindex_versions_1") (has_table versions (inr (inl refl))) (has_index _ (inr (inl refl))) refl version_entry (λ (l : VersionLine). l.rowid) (λ l. refl)
+  pub versions_apart : (lines : List RawVersion) → ListsVersions db lines → IsDistinct (eq_by_cmp int_cmp) (map (λ (l : RawVersion). l.rowid) lines) → HasNoDuplicates version_cmp (map version_entry lines)
+  versions_apart = apart_by_key db sound TableName.Versions versions (codes "sqlite_autoindex_versions_1") (has_table versions (inr (inl refl))) (has_index _ (inr (inl refl))) refl version_entry (λ (l : RawVersion). l.rowid) (λ l. refl)
 
-  pub levels_apart : (lines : List LevelLine) → ListsLevels db lines → IsDistinct (eq_by_cmp int_cmp) (map (λ (l : LevelLine). l.rowid) lines) → HasNoTwins text_cmp (map level_entry lines)
-  levels_apart = apart_by_key db sound TableName.Levels levels (codes "sqlite_autoindex_levels_1") (has_table levels (inr (inr (inl refl)))) (has_index _ (inr (inr (inl refl)))) refl level_entry (λ (l : LevelLine). l.rowid) (λ l. refl)
+  pub levels_apart : (lines : List RawLevel) → ListsLevels db lines → IsDistinct (eq_by_cmp int_cmp) (map (λ (l : RawLevel). l.rowid) lines) → HasNoDuplicates text_cmp (map level_entry lines)
+  levels_apart = apart_by_key db sound TableName.Levels levels (codes "sqlite_autoindex_levels_1") (has_table levels (inr (inr (inl refl)))) (has_index _ (inr (inr (inl refl)))) refl level_entry (λ (l : RawLevel). l.rowid) (λ l. refl)
 
-  pub kept_apart : (lines : List KeptLine) → ListsKept db lines → IsDistinct (eq_by_cmp int_cmp) (map (λ (l : KeptLine). l.rowid) lines) → HasNoTwins text_cmp (map kept_entry lines)
-  kept_apart = apart_by_key db sound TableName.Kept kept (codes "sqlite_autoindex_kept_1") (has_table kept (inr (inr (inr (inl refl))))) (has_index _ (inr (inr (inr (inl refl))))) refl kept_entry (λ (l : KeptLine). l.rowid) (λ l. refl)
+  pub kept_apart : (lines : List RawKept) → ListsKept db lines → IsDistinct (eq_by_cmp int_cmp) (map (λ (l : RawKept). l.rowid) lines) → HasNoDuplicates text_cmp (map kept_entry lines)
+  kept_apart = apart_by_key db sound TableName.Kept kept (codes "sqlite_autoindex_kept_1") (has_table kept (inr (inr (inr (inl refl))))) (has_index _ (inr (inr (inr (inl refl))))) refl kept_entry (λ (l : RawKept). l.rowid) (λ l. refl)
 
-  pub meta_apart : (lines : List MetaLine) → ListsMeta db lines → IsDistinct (eq_by_cmp int_cmp) (map (λ (l : MetaLine). l.rowid) lines) → HasNoTwins text_cmp (map meta_entry lines)
-  meta_apart = apart_by_key db sound TableName.Meta meta (codes "sqlite_autoindex_meta_1") (has_table meta (inr (inr (inr (inr (inl refl)))))) (has_index _ (inr (inr (inr (inr (inl refl)))))) refl meta_entry (λ (l : MetaLine). l.rowid) (λ l. refl)
+  pub meta_apart : (lines : List RawMeta) → ListsMeta db lines → IsDistinct (eq_by_cmp int_cmp) (map (λ (l : RawMeta). l.rowid) lines) → HasNoDuplicates text_cmp (map meta_entry lines)
+  meta_apart = apart_by_key db sound TableName.Meta meta (codes "sqlite_autoindex_meta_1") (has_table meta (inr (inr (inr (inr (inl refl)))))) (has_index _ (inr (inr (inr (inr (inl refl)))))) refl meta_entry (λ (l : RawMeta). l.rowid) (λ l. refl)
 
 -- ---- the tables that layout 2 adds
 
@@ -160,11 +160,11 @@ against_at = at_layouts (λ s. HasKeyAt s TableName.Against (codes "sqlite_autoi
     (record { listed = has_at 7 layout_two_indexed_last.tables _ refl; indexed = has_at 7 layout_two_indexed_last.indexes _ refl; guarded = refl }) (record { listed = has_at 7 layout_two_unindexed.tables _ refl; indexed = has_at 7 layout_two_unindexed.indexes _ refl; guarded = refl })
 
 module _ (db : Database) (known : IsOpenable db.schema) (sound : IsDatabase db) where
-  pub modes_apart : (lines : List ModeLine) → ListsModes db lines → IsDistinct (eq_by_cmp int_cmp) (map (λ (l : ModeLine). l.rowid) lines) → HasNoTwins text_cmp (map mode_entry lines)
-  modes_apart = let key = modes_at db.schema known in apart_by_key db sound TableName.Modes (table_in db.schema TableName.Modes) (codes "sqlite_autoindex_modes_1") key.listed key.indexed key.guarded mode_entry (λ (l : ModeLine). l.rowid) (λ l. refl)
+  pub modes_apart : (lines : List RawMode) → ListsModes db lines → IsDistinct (eq_by_cmp int_cmp) (map (λ (l : RawMode). l.rowid) lines) → HasNoDuplicates text_cmp (map mode_entry lines)
+  modes_apart = let key = modes_at db.schema known in apart_by_key db sound TableName.Modes (table_in db.schema TableName.Modes) (codes "sqlite_autoindex_modes_1") key.listed key.indexed key.guarded mode_entry (λ (l : RawMode). l.rowid) (λ l. refl)
 
-  pub evidence_apart : (lines : List EvidenceLine) → ListsEvidence db lines → IsDistinct (eq_by_cmp int_cmp) (map (λ (l : EvidenceLine). l.rowid) lines) → HasNoTwins version_cmp (map evidence_entry lines)
-  evidence_apart = let key = evidence_at db.schema known in apart_by_key db sound TableName.Evidence (table_in db.schema TableName.Evidence) (codes "sqlite_autoindex_evidence_1") key.listed key.indexed key.guarded evidence_entry (λ (l : EvidenceLine). l.rowid) (λ l. refl)
+  pub evidence_apart : (lines : List RawEvidence) → ListsEvidence db lines → IsDistinct (eq_by_cmp int_cmp) (map (λ (l : RawEvidence). l.rowid) lines) → HasNoDuplicates version_cmp (map evidence_entry lines)
+  evidence_apart = let key = evidence_at db.schema known in apart_by_key db sound TableName.Evidence (table_in db.schema TableName.Evidence) (codes "sqlite_autoindex_evidence_1") key.listed key.indexed key.guarded evidence_entry (λ (l : RawEvidence). l.rowid) (λ l. refl)
 
-  pub against_apart : (lines : List AgainstLine) → ListsAgainst db lines → IsDistinct (eq_by_cmp int_cmp) (map (λ (l : AgainstLine). l.rowid) lines) → HasNoTwins place_cmp (map against_entry lines)
-  against_apart = let key = against_at db.schema known in apart_by_key db sound TableName.Against (table_in db.schema TableName.Against) (codes "sqlite_autoindex_against_1") key.listed key.indexed key.guarded against_entry (λ (l : AgainstLine). l.rowid) (λ l. refl)
+  pub against_apart : (lines : List RawAgainst) → ListsAgainst db lines → IsDistinct (eq_by_cmp int_cmp) (map (λ (l : RawAgainst). l.rowid) lines) → HasNoDuplicates position_cmp (map against_entry lines)
+  against_apart = let key = against_at db.schema known in apart_by_key db sound TableName.Against (table_in db.schema TableName.Against) (codes "sqlite_autoindex_against_1") key.listed key.indexed key.guarded against_entry (λ (l : RawAgainst). l.rowid) (λ l. refl)

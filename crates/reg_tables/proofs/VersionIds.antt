@@ -20,9 +20,9 @@ use Rattle.sqlite_sql.specs.declared.ops.BinaryOp.TheVariants.{Compare}
 use Rattle.sqlite_sql.specs.declared.ops.CompareOp.TheVariants.{Eq}
 use Rattle.reg_tables.specs.Layout.{HasEightTables}
 use Rattle.reg_tables.specs.Contents.{version_cmp, version_key_cells, against_form, Against}
-use Rattle.reg_tables.specs.Reads.{HoldsSome}
+use Rattle.reg_tables.specs.Reads.{HoldsReadableIn}
 use Rattle.reg_tables.specs.Listings.{against_entry, is_of, ListsAgainstOf, parts_of, entry_parts}
-use Rattle.reg_tables.specs.declared.evidence.AgainstLine.{AgainstLine}
+use Rattle.reg_tables.specs.declared.evidence.RawAgainst.{RawAgainst}
 use Rattle.reg_tables.specs.Inside.ReadableRows.{IsReadableAgainst}
 use Rattle.reg_tables.specs.Inside.Statements.{by_version, all_rows, TableQuery, IsQuery, Takes}
 use Rattle.reg_tables.proofs.KeyedTables.{by_version_test, with_nothing, answered}
@@ -86,7 +86,7 @@ module _ (version : List ℕ × ℕ) where
   pub asks_ids : (schema : Schema) → HasEightTables schema → Asks ids_sql (of_version version) schema
   asks_ids schema known = asks (ids_query schema) (of_version version) schema (ids_is schema known) (ids_takes version schema known)
 
-  pub reads_ids : (old new : State) → HoldsSome HasEightTables old.now → ReadsBy ids_sql (of_version version) IsReadableAgainst old new
+  pub reads_ids : (old new : State) → HoldsReadableIn HasEightTables old.now → ReadsBy ids_sql (of_version version) IsReadableAgainst old new
   reads_ids old new there =
       let known = of_eight old.now there in
       let tree = tree_of Against old.now.schema in (
@@ -96,7 +96,7 @@ module _ (version : List ℕ × ℕ) where
             subst IsReadableAgainst (sym r.3) (readable_against old.now there r.0 (subst (λ l. Has l r.0) (with_nothing old.now.trees tree) r.1))),
       )
 
-  pub lists_ids : (old new : State) (lines : List AgainstLine) (found : List Row) → Shown ids_sql (of_version version) old new found → map (parts_of against_form) found ≡ map (λ line. entry_parts against_form (against_entry line)) lines
+  pub lists_ids : (old new : State) (lines : List RawAgainst) (found : List Row) → Shown ids_sql (of_version version) old new found → map (parts_of against_form) found ≡ map (λ line. entry_parts against_form (against_entry line)) lines
       → HasEightTables old.now.schema → ListsAgainstOf version old.now lines
   lists_ids old new lines found h read known =
       let tree = tree_of Against old.now.schema in

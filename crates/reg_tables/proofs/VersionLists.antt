@@ -17,8 +17,8 @@ use Rattle.sqlite_value.specs.declared.keys.Key.{Key}
 use Rattle.sqlite_value.proofs.OrderLemmas.{value_cmp-Int, value_cmp-Text}
 use Rattle.reg_tables.specs.Layout.{HasFiveTables}
 use Rattle.reg_tables.specs.TableMaps.{IsEntry, ShowsMap}
-use Rattle.reg_tables.specs.Contents.{version_cmp, VersionRow, version_cells, version_key_cells, version_form, text_cmp, Contents, AreReadable, HoldsIn}
-use Rattle.reg_tables.specs.Entries.{NumberedVersion, numbered, numbered_cells, subject_versions, IsReadableNumbered}
+use Rattle.reg_tables.specs.Contents.{version_cmp, VersionEntryView, version_cells, version_key_cells, version_form, text_cmp, Contents, AreReadable, HoldsContents}
+use Rattle.reg_tables.specs.Entries.{SubjectVersionView, subject_version_view, subject_version_cells, subject_versions, IsReadableSubjectVersion}
 use Rattle.reg_tables.specs.declared.listed.SubjectVersion.{SubjectVersion}
 use Rattle.reg_tables.specs.Inside.Statements.{all_rows, ordered_query, TableQuery, body_of, IsQuery, by_key}
 use Rattle.reg_tables.proofs.KeyedTables.{int_order, text_order, version_order, by_key_test, with_nothing, answered}
@@ -36,7 +36,7 @@ use Rattle.std.proofs.lemmas.Simd.{map-map}
 
 -- the key of a version, and what is in its row
 abbrev pub Entry : Type 0
-Entry = (List ℕ × ℕ) × VersionRow
+Entry = (List ℕ × ℕ) × VersionEntryView
 
 -- a version's key is ordered by its columns
 pub ranks : (a b : List ℕ × ℕ) → version_cmp a b ≡ Less → key_cmp 0 (map (λ (k : Term × Key). k.1) in_order) (version_key_cells a) (version_key_cells b) ≡ Less
@@ -96,14 +96,14 @@ same_text a b = elim (cases_Bool (is_eq (text_cmp a b))) [
   | inr other ↦ other ∙ sym (false_from_ne_true _ (λ same. both_ways _ other (tied_key text_cmp text_order a b ((bytes_eq-Decides a b).0 same))))
 ]
 
-pub distinct_numbered : (a b : NumberedVersion) → numbered_cells a ≡ numbered_cells b → a ≡ b
+pub distinct_numbered : (a b : SubjectVersionView) → subject_version_cells a ≡ subject_version_cells b → a ≡ b
 distinct_numbered a b h =
     let number : a.0 ≡ b.0 = cc in
     let rest : version_cells a.1 ≡ version_cells b.1 = cc in
     λ i. (number i, distinct_version_rows a.1 b.1 rest i)
 
 abbrev pub entry_cells : Entry → Row
-entry_cells e = numbered_cells (e.0.1, e.1)
+entry_cells e = subject_version_cells (e.0.1, e.1)
 
 pub by_subject : (subject : List ℕ) (row : Row) (e : Entry) → IsEntry version_form row e.0 e.1 → passes by_key (Text subject ∷ []) row ≡ bytes_eq e.0.0 subject
 by_subject subject row e is = by_key_test row subject e.0.0 (let k = is.0 in cc) ∙ same_text e.0.0 subject
@@ -113,22 +113,22 @@ entry_shown row e is =
     let number : column row 2 ≡ Int (pos e.0.1) = (let k = is.0 in cc) in
     λ i. number i ∷ is.1 i
 
-pub readable_entry : (e : Entry) → IsUtf8 e.0.0 × (e.0.1 < 2 ^ 32) × (e.1.id < 2 ^ 32) → IsReadableNumbered (entry_cells e)
+pub readable_entry : (e : Entry) → IsUtf8 e.0.0 × (e.0.1 < 2 ^ 32) × (e.1.id < 2 ^ 32) → IsReadableSubjectVersion (entry_cells e)
 readable_entry e can = record { number = e.0.1; version = e.1; is = refl; low = can.1; low_id = can.2 }
 
-module _ (old new : State) (schema : Schema) (contents : Contents) (h : HoldsIn schema old.now contents) (first : HasFiveTables schema) (subject : List ℕ) (found : List Row) (shown : Shown find_versions.sql (Text subject ∷ []) old new found) where
+module _ (old new : State) (schema : Schema) (contents : Contents) (h : HoldsContents schema old.now contents) (first : HasFiveTables schema) (subject : List ℕ) (found : List Row) (shown : Shown find_versions.sql (Text subject ∷ []) old new found) where
   its : IsQuery find_versions old.now.schema
   its = (asks_versions subject).is old.now.schema (laid_out h first)
 
-  pub finds_versions : found ≡ map numbered_cells (subject_versions subject contents)
+  pub finds_versions : found ≡ map subject_version_cells (subject_versions subject contents)
   finds_versions =
       lists_versions find_versions refl (Text subject ∷ []) old new its found shown contents (five h first).versions (λ e. bytes_eq e.0.0 subject) (by_subject subject) entry_cells entry_shown
-      ∙ sym (map-map numbered_cells (λ (e : Entry). (e.0.1, e.1)) (filter (λ (e : Entry). bytes_eq e.0.0 subject) (entries contents.versions)))
+      ∙ sym (map-map subject_version_cells (λ (e : Entry). (e.0.1, e.1)) (filter (λ (e : Entry). bytes_eq e.0.0 subject) (entries contents.versions)))
 
-  pub numbered_lines : (lines : List SubjectVersion) → map (λ (row : Row). column row 0 ∷ column row 1 ∷ column row 2 ∷ []) found ≡ map (λ (line : SubjectVersion). numbered_cells (numbered line)) lines → map numbered lines ≡ subject_versions subject contents
-  numbered_lines lines read = same_cells numbered_cells distinct_numbered (map numbered lines) (subject_versions subject contents)
-      (map-map numbered_cells numbered lines ∙ sym read ∙ ap (map (λ (row : Row). column row 0 ∷ column row 1 ∷ column row 2 ∷ [])) finds_versions
-      ∙ map-map (λ (row : Row). column row 0 ∷ column row 1 ∷ column row 2 ∷ []) numbered_cells (subject_versions subject contents))
+  pub numbered_lines : (lines : List SubjectVersion) → map (λ (row : Row). column row 0 ∷ column row 1 ∷ column row 2 ∷ []) found ≡ map (λ (line : SubjectVersion). subject_version_cells (subject_version_view line)) lines → map subject_version_view lines ≡ subject_versions subject contents
+  numbered_lines lines read = same_cells subject_version_cells distinct_numbered (map subject_version_view lines) (subject_versions subject contents)
+      (map-map subject_version_cells subject_version_view lines ∙ sym read ∙ ap (map (λ (row : Row). column row 0 ∷ column row 1 ∷ column row 2 ∷ [])) finds_versions
+      ∙ map-map (λ (row : Row). column row 0 ∷ column row 1 ∷ column row 2 ∷ []) subject_version_cells (subject_versions subject contents))
 
-  pub readable_numbered : AreReadable contents → All IsReadableNumbered found
-  readable_numbered = readable_versions find_versions refl (Text subject ∷ []) old new its found shown contents (five h first).versions (λ e. bytes_eq e.0.0 subject) (by_subject subject) entry_cells entry_shown IsReadableNumbered readable_entry
+  pub readable_numbered : AreReadable contents → All IsReadableSubjectVersion found
+  readable_numbered = readable_versions find_versions refl (Text subject ∷ []) old new its found shown contents (five h first).versions (λ e. bytes_eq e.0.0 subject) (by_subject subject) entry_cells entry_shown IsReadableSubjectVersion readable_entry

@@ -39,7 +39,7 @@ use Rattle.sqlite_rules.proofs.ActionLemmas.{no_works}
 use Rattle.sqlite_sql.specs.Program.{ProgramOverflows}
 use Rattle.sqlite_typing.specs.Types.{accepts_program, accepts_terms}
 use Rattle.reg_tables.specs.FailedCalls.{IsFault, IsWriteFault, IsPutFault, IsInsertFault}
-use Rattle.reg_tables.specs.Inside.Statements.{IsWhole, IsCommand}
+use Rattle.reg_tables.specs.Inside.Statements.{IsOneStatement, IsCommand}
 use Rattle.reg_tables.proofs.Reasons.{reason_or_large, reason_of, reason_if_shut, reason_by, fault_since}
 use Rattle.sqlite_trees.specs.declared.error.StoreError.{StoreError}
 use Rattle.reg_tables.proofs.Writes.{uncounts}
@@ -60,7 +60,7 @@ pub record IsWriting (command : Command) : Type 0 where
   pub stays : is_control command ≡ false
 
 module _ (sql : List ℕ) (params : Row) (old new : State) (schema : Schema) (has : old.now.schema ≡ schema) (command : Command) (it : IsCommand schema sql command)
-    (whole : IsWhole sql (length params) (understood schema sql)) (writes : IsWriting command) where
+    (whole : IsOneStatement sql (length params) (understood schema sql)) (writes : IsWriting command) where
   controls : (k : Command) → command ≡ k → is_control k ≡ true → ⊥
   controls k is on = both_ways _ writes.stays (ap is_control is ∙ on)
 
@@ -89,7 +89,7 @@ module _ (sql : List ℕ) (params : Row) (old new : State) (schema : Schema) (ha
   no_statement e (inl fault) = subst IsPlain (sym (ap (λ s. understood s sql) has) ∙ fault.1) it.plain
   no_statement e (inr wrong) =
       let known = known_as wrong.0 wrong.1 in
-      let fits = subst (IsWhole sql (length params)) known whole in
+      let fits = subst (IsOneStatement sql (length params)) known whole in
       let bare = subst IsPlain known it.plain in
       elim wrong.2 [ inl tail ↦ tail.0 fits.0 | inr rest ↦ elim rest [ inl given ↦ given.0 (sym fits.1) | inr clock ↦ clock.0 bare.1 ] ]
 

@@ -23,7 +23,7 @@ use Rattle.sqlite_schema.specs.declared.program.Program.{Program}
 use Rattle.sqlite_rules.specs.Action as action
 use Rattle.sqlite_rules.specs.Calls.{ids_of}
 use Rattle.sqlite_rules.proofs.ActionLemmas.{no_works}
-use Rattle.reg_tables.specs.Inside.KeyedLaws.{IsIdle, IsSteady}
+use Rattle.reg_tables.specs.Inside.KeyedLaws.{HasNoForeignKeyAction, HasNoUpdateAction}
 
 -- a part that gave a value did not stop on the way
 pub went : {B E R : Type 0} {b : B} {Stops : E → Type 0} → ((stop : E) × Stops stop × (Ok b ≡ Err stop)) ⊎ R → R
@@ -102,7 +102,7 @@ module _ (schema : Schema) (at : ℕ) (table : Table) (there : slice_get schema.
       (asked.0, asked.1, ap (λ (d : Database). d.schema) wrote.2, subst (λ t. action.Writes schema Enforced old.now.trees edit (Ok t)) now cut.1)
 
   -- where no action follows
-  pub deleted : IsIdle schema table.tree → (q : Program) → Writes old new None (Delete at q) text params count
+  pub deleted : HasNoForeignKeyAction schema table.tree → (q : Program) → Writes old new None (Delete at q) text params count
       → (found : List Row) × Answers (record { schema = schema; trees = old.now.trees }) q params found × IsStep schema old new (edit_of old.now.trees table (ids_of found) Given 0 [])
   deleted idle q w =
       let cut = cuts q w in
@@ -119,7 +119,7 @@ module _ (schema : Schema) (at : ℕ) (table : Table) (there : slice_get schema.
       (ran.0, ran.1, ap (λ (p : Tally × Database). p.1) (same_value {E = Option Error} shown.2))
 
   -- the query gives the rowids, and the rows that take their places
-  pub updated : IsSteady schema table → (q : Program) → Writes old new None (Update at q) text params count
+  pub updated : HasNoUpdateAction schema table → (q : Program) → Writes old new None (Update at q) text params count
       → (found : List Row) × Answers (record { schema = schema; trees = old.now.trees }) q params found × IsStep schema old new (edit_of old.now.trees table (ids_of found) Given 1 found)
   updated steady q w =
       let wrote = update_wrote q w in

@@ -4,11 +4,11 @@ use Rattle.std.specs.FinMap.{get}
 use Rattle.sqlite.specs.State.{State, Executes, ExecutesInside}
 use Rattle.sqlite.specs.declared.error.Error.{Error}
 use Rattle.sqlite.specs.declared.types.Value.TheVariants.{Int, Text}
-use Rattle.reg_tables.specs.Contents.{version_key_cells, Contents, HoldsIn}
+use Rattle.reg_tables.specs.Contents.{version_key_cells, Contents, HoldsContents}
 use Rattle.reg_tables.specs.Changes.{with_text, with_deleted, without_version}
-use Rattle.reg_tables.specs.Writing.{WhereHeld, Changes, ChangesIf}
+use Rattle.reg_tables.specs.Writing.{ForHeldContents, Changes, ChangesIf}
 use Rattle.reg_tables.specs.FailedCalls.{IsFault, IsPutFault, IsInsertFault}
-use Rattle.reg_tables.proofs.Settled.{in_layout_two}
+use Rattle.reg_tables.proofs.WellDeclared.{in_layout_two}
 use Rattle.reg_tables.proofs.Statements.{put_text, mark_version, drop_version}
 use Rattle.reg_tables.proofs.TableWrites.{puts_text, marks_version}
 use Rattle.reg_tables.proofs.FailedVersions.{put_text_fails}
@@ -17,23 +17,23 @@ use Rattle.reg_tables.proofs.DroppedVersions.{drops_version, drop_version_fails}
 
 module _ (old new : State) where
   pub puts_text_in : (count id : ℕ) (text : List ℕ) → Executes put_text (Int (pos id) ∷ Text text ∷ []) old new (Ok count) → ChangesIf old new (λ contents. get contents.texts id ≡ None) (with_text id text)
-  puts_text_in count id text ran = in_layout_two (λ schema. (contents : Contents) → HoldsIn schema old.now contents → get contents.texts id ≡ None → HoldsIn schema new.now (with_text id text contents))
+  puts_text_in count id text ran = in_layout_two (λ schema. (contents : Contents) → HoldsContents schema old.now contents → get contents.texts id ≡ None → HoldsContents schema new.now (with_text id text contents))
       (λ first indexes high s contents holds free. puts_text first indexes s old new count contents holds id text free ran)
 
   pub put_text_fails_in : (e : Error) (id : ℕ) (text : List ℕ) → id < 2 ^ 32 → ExecutesInside 0 put_text (Int (pos id) ∷ Text text ∷ []) old new (Err e)
-      → WhereHeld old (λ contents. get contents.texts id ≡ None → ((other : ℕ) → get contents.texts other ≡ Some text → ⊥) → IsPutFault old new e)
-  put_text_fails_in e id text low ran = in_layout_two (λ schema. (contents : Contents) → HoldsIn schema old.now contents → get contents.texts id ≡ None → ((other : ℕ) → get contents.texts other ≡ Some text → ⊥) → IsPutFault old new e)
+      → ForHeldContents old (λ contents. get contents.texts id ≡ None → ((other : ℕ) → get contents.texts other ≡ Some text → ⊥) → IsPutFault old new e)
+  put_text_fails_in e id text low ran = in_layout_two (λ schema. (contents : Contents) → HoldsContents schema old.now contents → get contents.texts id ≡ None → ((other : ℕ) → get contents.texts other ≡ Some text → ⊥) → IsPutFault old new e)
       (λ first indexes high s contents holds free unheld. put_text_fails first indexes high s old new contents holds e id text low free unheld ran)
 
   pub marks_version_in : (count : ℕ) (key : List ℕ × ℕ) → Executes mark_version (version_key_cells key) old new (Ok count) → Changes old new (with_deleted key)
-  marks_version_in count key ran = in_layout_two (λ schema. (contents : Contents) → HoldsIn schema old.now contents → HoldsIn schema new.now (with_deleted key contents)) (λ first indexes high s contents holds. marks_version first indexes s old new count contents holds key ran)
+  marks_version_in count key ran = in_layout_two (λ schema. (contents : Contents) → HoldsContents schema old.now contents → HoldsContents schema new.now (with_deleted key contents)) (λ first indexes high s contents holds. marks_version first indexes s old new count contents holds key ran)
 
-  pub mark_version_fails_in : (e : Error) (key : List ℕ × ℕ) → ExecutesInside 0 mark_version (version_key_cells key) old new (Err e) → WhereHeld old (λ contents. IsInsertFault old new e)
-  mark_version_fails_in e key ran = in_layout_two (λ schema. (contents : Contents) → HoldsIn schema old.now contents → IsInsertFault old new e) (λ first indexes high s contents holds. mark_version_fails first indexes high s old new contents holds e key ran)
+  pub mark_version_fails_in : (e : Error) (key : List ℕ × ℕ) → ExecutesInside 0 mark_version (version_key_cells key) old new (Err e) → ForHeldContents old (λ contents. IsInsertFault old new e)
+  mark_version_fails_in e key ran = in_layout_two (λ schema. (contents : Contents) → HoldsContents schema old.now contents → IsInsertFault old new e) (λ first indexes high s contents holds. mark_version_fails first indexes high s old new contents holds e key ran)
 
   -- with the version its evidence goes
   pub drops_version_in : (count : ℕ) (key : List ℕ × ℕ) → Executes drop_version (version_key_cells key) old new (Ok count) → Changes old new (without_version key)
-  drops_version_in count key ran = in_layout_two (λ schema. (contents : Contents) → HoldsIn schema old.now contents → HoldsIn schema new.now (without_version key contents)) (λ first indexes high s contents holds. drops_version first high indexes s old new contents holds key count ran)
+  drops_version_in count key ran = in_layout_two (λ schema. (contents : Contents) → HoldsContents schema old.now contents → HoldsContents schema new.now (without_version key contents)) (λ first indexes high s contents holds. drops_version first high indexes s old new contents holds key count ran)
 
-  pub drop_version_fails_in : (e : Error) (key : List ℕ × ℕ) → ExecutesInside 0 drop_version (version_key_cells key) old new (Err e) → WhereHeld old (λ contents. IsFault old new e)
-  drop_version_fails_in e key ran = in_layout_two (λ schema. (contents : Contents) → HoldsIn schema old.now contents → IsFault old new e) (λ first indexes high s contents holds. drop_version_fails first high indexes s old new contents holds key e ran)
+  pub drop_version_fails_in : (e : Error) (key : List ℕ × ℕ) → ExecutesInside 0 drop_version (version_key_cells key) old new (Err e) → ForHeldContents old (λ contents. IsFault old new e)
+  drop_version_fails_in e key ran = in_layout_two (λ schema. (contents : Contents) → HoldsContents schema old.now contents → IsFault old new e) (λ first indexes high s contents holds. drop_version_fails first high indexes s old new contents holds key e ran)

@@ -3,7 +3,7 @@ use Rattle.std.specs.Prelude.{ℕ, true, not, List, option_map, unwrap_or, codes
 use Rattle.std.specs.declared.cmp.Ordering.{Ordering}
 use Rattle.std.specs.Ordering.{is_eq}
 use Rattle.std.specs.FinMap.{FinMap, get, insert, remove, retain_keys, empty}
-use Rattle.reg_tables.specs.Contents.{version_cmp, PlaceKey, place_cmp, TextMap, VersionRow, KeptRow, Contents}
+use Rattle.reg_tables.specs.Contents.{version_cmp, PositionKey, position_cmp, TextMap, VersionEntryView, KeptReplyView, Contents}
 
 abbrev pub with_meta : List ℕ → List ℕ → Contents → Contents
 with_meta name value contents = record contents { meta = insert contents.meta name value }
@@ -18,8 +18,8 @@ abbrev pub with_global_mode : List ℕ → Contents → Contents
 with_global_mode mode = with_meta (codes "mode") mode
 
 -- layout 2 by its number; a registry of layout 1 is READWRITE
-abbrev pub numbered_layout_two : Contents → Contents
-numbered_layout_two contents = with_global_mode (codes "READWRITE") (with_meta (codes "layout") (codes "2") contents)
+abbrev pub marked_layout_two : Contents → Contents
+marked_layout_two contents = with_global_mode (codes "READWRITE") (with_meta (codes "layout") (codes "2") contents)
 
 abbrev pub with_level : List ℕ → List ℕ → Contents → Contents
 with_level subject level contents = record contents { levels = insert contents.levels subject level }
@@ -27,31 +27,31 @@ with_level subject level contents = record contents { levels = insert contents.l
 abbrev pub without_level : List ℕ → Contents → Contents
 without_level subject contents = record contents { levels = remove contents.levels subject }
 
-abbrev pub with_kept : List ℕ → KeptRow → Contents → Contents
+abbrev pub with_kept : List ℕ → KeptReplyView → Contents → Contents
 with_kept key reply contents = record contents { kept = insert contents.kept key reply }
 
 abbrev pub with_text : ℕ → List ℕ → Contents → Contents
 with_text id text contents = record contents { texts = insert contents.texts id text }
 
-abbrev pub with_version : List ℕ × ℕ → VersionRow → Contents → Contents
+abbrev pub with_version : List ℕ × ℕ → VersionEntryView → Contents → Contents
 with_version key version contents = record contents { versions = insert contents.versions key version }
 
 -- no place of the version
-abbrev pub without_places : FinMap place_cmp ℕ → List ℕ × ℕ → FinMap place_cmp ℕ
-without_places places key = retain_keys places (λ place. not (is_eq (version_cmp place.0 key)))
+abbrev pub without_positions : FinMap position_cmp ℕ → List ℕ × ℕ → FinMap position_cmp ℕ
+without_positions places key = retain_keys places (λ place. not (is_eq (version_cmp place.0 key)))
 
 -- the version goes, and its evidence with it
 abbrev pub without_version : List ℕ × ℕ → Contents → Contents
 without_version key contents = record contents {
   versions = remove contents.versions key;
   evidence = remove contents.evidence key;
-  against = without_places contents.against key;
+  against = without_positions contents.against key;
 }
 
 abbrev pub with_evidence : List ℕ × ℕ → List ℕ → Contents → Contents
 with_evidence key level contents = record contents { evidence = insert contents.evidence key level }
 
-abbrev pub with_against : PlaceKey → ℕ → Contents → Contents
+abbrev pub with_against : PositionKey → ℕ → Contents → Contents
 with_against key id contents = record contents { against = insert contents.against key id }
 
 abbrev pub with_mode : List ℕ → List ℕ → Contents → Contents
@@ -65,7 +65,7 @@ abbrev pub altered : {K V : Type 0} {R : K → K → Ordering} → FinMap R V �
 altered m key change = unwrap_or (option_map (λ value. insert m key (change value)) (get m key)) m
 
 -- the version, marked as deleted
-abbrev pub as_deleted : VersionRow → VersionRow
+abbrev pub as_deleted : VersionEntryView → VersionEntryView
 as_deleted version = record version { deleted = true }
 
 -- the version is marked as deleted, if there is one
@@ -78,27 +78,27 @@ abbrev pub no_contents : Contents
 no_contents = record { texts = empty; versions = empty; levels = empty; kept = empty; meta = empty; modes = empty; evidence = empty; against = empty }
 
 -- the format and the layout's number
-abbrev pub numbered_meta : List ℕ → TextMap (List ℕ)
-numbered_meta number = insert (insert empty (codes "format") (codes "avroreg")) (codes "layout") number
+abbrev pub meta_before_level : List ℕ → TextMap (List ℕ)
+meta_before_level number = insert (insert empty (codes "format") (codes "avroreg")) (codes "layout") number
 
 -- the rows of `meta` in the layout of this number, but for the mode
-abbrev pub meta_as : List ℕ → List ℕ → TextMap (List ℕ)
-meta_as number level = insert (numbered_meta number) (codes "global") level
+abbrev pub meta_of_layout : List ℕ → List ℕ → TextMap (List ℕ)
+meta_of_layout number level = insert (meta_before_level number) (codes "global") level
 
 -- the rows of `meta` in layout 1
-abbrev pub meta_of : List ℕ → TextMap (List ℕ)
-meta_of = meta_as (codes "1")
+abbrev pub meta_of_layout_one : List ℕ → TextMap (List ℕ)
+meta_of_layout_one = meta_of_layout (codes "1")
 
 -- Schema Registry API reference, Config: a new registry's level is BACKWARD
-abbrev pub numbered_contents : List ℕ → Contents
-numbered_contents number = record no_contents { meta = numbered_meta number }
+abbrev pub contents_before_level : List ℕ → Contents
+contents_before_level number = record no_contents { meta = meta_before_level number }
 
-abbrev pub contents_as : List ℕ → Contents
-contents_as number = record no_contents { meta = meta_as number (codes "BACKWARD") }
+abbrev pub contents_of_layout : List ℕ → Contents
+contents_of_layout number = record no_contents { meta = meta_of_layout number (codes "BACKWARD") }
 
 abbrev pub new_contents_one : Contents
-new_contents_one = contents_as (codes "1")
+new_contents_one = contents_of_layout (codes "1")
 
 -- a new registry in layout 2: its level is BACKWARD, and its mode READWRITE
 abbrev pub new_contents_two : Contents
-new_contents_two = with_global_mode (codes "READWRITE") (contents_as (codes "2"))
+new_contents_two = with_global_mode (codes "READWRITE") (contents_of_layout (codes "2"))

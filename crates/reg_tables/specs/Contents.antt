@@ -22,22 +22,22 @@ abbrev pub version_cmp : List ℕ × ℕ → List ℕ × ℕ → Ordering
 version_cmp = then_cmp (on (λ (key : List ℕ × ℕ). key.0) text_cmp) (on (λ (key : List ℕ × ℕ). key.1) nat_cmp)
 
 -- a place among the ids that a version was tested against
-abbrev pub PlaceKey : Type 0
-PlaceKey = (List ℕ × ℕ) × ℕ
+abbrev pub PositionKey : Type 0
+PositionKey = (List ℕ × ℕ) × ℕ
 
-abbrev pub place_cmp : PlaceKey → PlaceKey → Ordering
-place_cmp = then_cmp (on (λ (key : PlaceKey). key.0) version_cmp) (on (λ (key : PlaceKey). key.1) nat_cmp)
+abbrev pub position_cmp : PositionKey → PositionKey → Ordering
+position_cmp = then_cmp (on (λ (key : PositionKey). key.0) version_cmp) (on (λ (key : PositionKey). key.1) nat_cmp)
 
 abbrev pub TextMap : Type 0 → Type 0
 TextMap V = FinMap text_cmp V
 
 -- the columns of `versions` after the key
-pub record VersionRow : Type 0 where
+pub record VersionEntryView : Type 0 where
   pub id : ℕ
   pub deleted : Bool
 
 -- the columns of `kept` after the key
-pub record KeptRow : Type 0 where
+pub record KeptReplyView : Type 0 where
   pub command : List ℕ
   pub status : ℕ
   pub body : List ℕ
@@ -45,18 +45,18 @@ pub record KeptRow : Type 0 where
 pub record Contents : Type 0 where
   -- the text of each id
   pub texts : FinMap nat_cmp (List ℕ)
-  pub versions : FinMap version_cmp VersionRow
+  pub versions : FinMap version_cmp VersionEntryView
   -- the own level of each subject that has one
   pub levels : TextMap (List ℕ)
   -- what is kept under each retry key
-  pub kept : TextMap KeptRow
+  pub kept : TextMap KeptReplyView
   pub meta : TextMap (List ℕ)
   -- the own mode of each subject that has one
   pub modes : TextMap (List ℕ)
   -- the level of each version that has evidence
   pub evidence : FinMap version_cmp (List ℕ)
   -- the ids that a version was tested against, by position
-  pub against : FinMap place_cmp ℕ
+  pub against : FinMap position_cmp ℕ
 
 -- ---- the rows
 
@@ -72,14 +72,14 @@ flag_cell flag = Int (if flag then pos 1 else pos 0)
 abbrev pub version_key_cells : List ℕ × ℕ → Row
 version_key_cells key = Text key.0 ∷ Int (pos key.1) ∷ []
 
-abbrev pub version_cells : VersionRow → Row
+abbrev pub version_cells : VersionEntryView → Row
 version_cells version = Int (pos version.id) ∷ flag_cell version.deleted ∷ []
 
-abbrev pub kept_cells : KeptRow → Row
+abbrev pub kept_cells : KeptReplyView → Row
 kept_cells reply = Text reply.command ∷ Int (pos reply.status) ∷ Text reply.body ∷ []
 
-abbrev pub place_cells : PlaceKey → Row
-place_cells key = Text key.0.0 ∷ Int (pos key.0.1) ∷ Int (pos key.1) ∷ []
+abbrev pub position_cells : PositionKey → Row
+position_cells key = Text key.0.0 ∷ Int (pos key.0.1) ∷ Int (pos key.1) ∷ []
 
 -- a row of `texts` after its rowid, which stands for the id
 abbrev pub text_row_cells : List ℕ → Row
@@ -89,7 +89,7 @@ text_row_cells text = Null ∷ text_cells text
 abbrev pub text_form : Form ℕ (List ℕ)
 text_form = record { key_of = λ row. column row 0 ∷ []; value_of = λ row. column row 2 ∷ []; key_cells = number_cells; value_cells = text_cells }
 
-abbrev pub version_form : Form (List ℕ × ℕ) VersionRow
+abbrev pub version_form : Form (List ℕ × ℕ) VersionEntryView
 version_form = record {
   key_of = λ row. column row 1 ∷ column row 2 ∷ [];
   value_of = λ row. column row 3 ∷ column row 4 ∷ [];
@@ -105,7 +105,7 @@ keyed_by_text value_of value_cells = record { key_of = λ row. column row 1 ∷ 
 abbrev pub pair_form : Form (List ℕ) (List ℕ)
 pair_form = keyed_by_text (λ row. column row 2 ∷ []) text_cells
 
-abbrev pub kept_form : Form (List ℕ) KeptRow
+abbrev pub kept_form : Form (List ℕ) KeptReplyView
 kept_form = keyed_by_text (λ row. column row 2 ∷ column row 3 ∷ column row 4 ∷ []) kept_cells
 
 abbrev pub evidence_form : Form (List ℕ × ℕ) (List ℕ)
@@ -116,11 +116,11 @@ evidence_form = record {
   value_cells = text_cells;
 }
 
-abbrev pub against_form : Form PlaceKey ℕ
+abbrev pub against_form : Form PositionKey ℕ
 against_form = record {
   key_of = λ row. column row 1 ∷ column row 2 ∷ column row 3 ∷ [];
   value_of = λ row. column row 4 ∷ [];
-  key_cells = place_cells;
+  key_cells = position_cells;
   value_cells = number_cells;
 }
 
@@ -130,18 +130,18 @@ pub data TableName : Type 0 where
   Texts Versions Levels Kept Meta Modes Evidence Against : TableName
 
 -- its place among the tables of a schema
-abbrev pub place_of : TableName → ℕ
-place_of Texts = 0
-place_of Versions = 1
-place_of Levels = 2
-place_of Kept = 3
-place_of Meta = 4
-place_of Modes = 5
-place_of Evidence = 6
-place_of Against = 7
+abbrev pub ordinal_of : TableName → ℕ
+ordinal_of Texts = 0
+ordinal_of Versions = 1
+ordinal_of Levels = 2
+ordinal_of Kept = 3
+ordinal_of Meta = 4
+ordinal_of Modes = 5
+ordinal_of Evidence = 6
+ordinal_of Against = 7
 
 abbrev pub table_in : Schema → TableName → Table
-table_in schema name = table_at schema (place_of name)
+table_in schema name = table_at schema (ordinal_of name)
 
 -- a database with this schema has the table, after those that are declared before it
 abbrev pub HasTable : TableName → Schema → Type 0
@@ -162,13 +162,13 @@ KeyOf Kept = List ℕ
 KeyOf Meta = List ℕ
 KeyOf Modes = List ℕ
 KeyOf Evidence = List ℕ × ℕ
-KeyOf Against = PlaceKey
+KeyOf Against = PositionKey
 
 abbrev pub ValueOf : TableName → Type 0
 ValueOf Texts = List ℕ
-ValueOf Versions = VersionRow
+ValueOf Versions = VersionEntryView
 ValueOf Levels = List ℕ
-ValueOf Kept = KeptRow
+ValueOf Kept = KeptReplyView
 ValueOf Meta = List ℕ
 ValueOf Modes = List ℕ
 ValueOf Evidence = List ℕ
@@ -182,7 +182,7 @@ cmp_of Kept = text_cmp
 cmp_of Meta = text_cmp
 cmp_of Modes = text_cmp
 cmp_of Evidence = version_cmp
-cmp_of Against = place_cmp
+cmp_of Against = position_cmp
 
 abbrev pub form_of : (name : TableName) → Form (KeyOf name) (ValueOf name)
 form_of Texts = text_form
@@ -227,21 +227,21 @@ ShowsIn form trees None map = map ≡ empty
 
 -- each table of the schema shows its map; those that layout 1 lacks have none
 abbrev pub ShowsAll : Schema → Trees → Contents → Type 0
-ShowsAll schema trees contents = (name : TableName) → ShowsIn (form_of name) trees (slice_get schema.tables (place_of name)) (map_of name contents)
+ShowsAll schema trees contents = (name : TableName) → ShowsIn (form_of name) trees (slice_get schema.tables (ordinal_of name)) (map_of name contents)
 
 -- the database has this schema, and its tables hold the contents
-pub record HoldsIn (schema : Schema) (db : Database) (contents : Contents) : Type 0 where
+pub record HoldsContents (schema : Schema) (db : Database) (contents : Contents) : Type 0 where
   pub declared : db.schema ≡ schema
   -- the database lists its schema, which an open of it finds, and obeys it
   pub sound : IsDatabase db
   pub shows : ShowsAll schema db.trees contents
 
 -- the database has the five tables and the index as layout 1 declares them, and these hold the contents
-abbrev pub Holds : Database → Contents → Type 0
-Holds = HoldsIn layout_one
+abbrev pub HoldsLayoutOne : Database → Contents → Type 0
+HoldsLayoutOne = HoldsContents layout_one
 
 -- texts are UTF-8, and the status is below 2^32
-pub record IsReadableReply (reply : KeptRow) : Type 0 where
+pub record IsReadableReply (reply : KeptReplyView) : Type 0 where
   pub command : IsUtf8 reply.command
   pub status : reply.status < 2 ^ 32
   pub body : IsUtf8 reply.body
@@ -249,10 +249,10 @@ pub record IsReadableReply (reply : KeptRow) : Type 0 where
 -- each text is UTF-8, and each number is below 2^32, as a `String` and a `u32` hold them
 pub record AreReadable (contents : Contents) : Type 0 where
   pub texts : (id : ℕ) (text : List ℕ) → get contents.texts id ≡ Some text → (id < 2 ^ 32) × IsUtf8 text
-  pub versions : (key : List ℕ × ℕ) (version : VersionRow) → get contents.versions key ≡ Some version → IsUtf8 key.0 × (key.1 < 2 ^ 32) × (version.id < 2 ^ 32)
+  pub versions : (key : List ℕ × ℕ) (version : VersionEntryView) → get contents.versions key ≡ Some version → IsUtf8 key.0 × (key.1 < 2 ^ 32) × (version.id < 2 ^ 32)
   pub levels : (subject level : List ℕ) → get contents.levels subject ≡ Some level → IsUtf8 subject × IsUtf8 level
-  pub kept : (key : List ℕ) (reply : KeptRow) → get contents.kept key ≡ Some reply → IsUtf8 key × IsReadableReply reply
+  pub kept : (key : List ℕ) (reply : KeptReplyView) → get contents.kept key ≡ Some reply → IsUtf8 key × IsReadableReply reply
   pub meta : (name value : List ℕ) → get contents.meta name ≡ Some value → IsUtf8 name × IsUtf8 value
   pub modes : (subject mode : List ℕ) → get contents.modes subject ≡ Some mode → IsUtf8 subject × IsUtf8 mode
   pub evidence : (key : List ℕ × ℕ) (level : List ℕ) → get contents.evidence key ≡ Some level → IsUtf8 key.0 × (key.1 < 2 ^ 32) × IsUtf8 level
-  pub against : (key : PlaceKey) (id : ℕ) → get contents.against key ≡ Some id → IsUtf8 key.0.0 × (key.0.1 < 2 ^ 32) × (key.1 < 2 ^ 32) × (id < 2 ^ 32)
+  pub against : (key : PositionKey) (id : ℕ) → get contents.against key ≡ Some id → IsUtf8 key.0.0 × (key.0.1 < 2 ^ 32) × (key.1 < 2 ^ 32) × (id < 2 ^ 32)

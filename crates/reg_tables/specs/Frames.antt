@@ -5,37 +5,37 @@ use Rattle.sqlite.specs.Held.{Held, state}
 use Rattle.sqlite.specs.State.{State, HasCleanDisk, Survives, KeepsCommit}
 use Rattle.sqlite_trees.specs.declared.store.Store.{Ghosts}
 use Rattle.sqlite.specs.declared.error.Error.{Error}
-use Rattle.reg_tables.specs.declared.idle.Idle.{Idle}
+use Rattle.reg_tables.specs.declared.autocommit.AutocommitConnection.{AutocommitConnection}
 use Rattle.reg_tables.specs.Reads.{OnlyReads}
 use Rattle.reg_tables.specs.FailedCalls.{IsWriteFault}
 
 -- what a connection shows once it has begun a transaction
-abbrev pub once_begun : {S : Type 0} → Ghosts S → Held S → State
-once_begun g conn = state g (record conn { in_transaction = true })
+abbrev pub after_begin : {S : Type 0} → Ghosts S → Held S → State
+after_begin g conn = state g (record conn { in_transaction = true })
 
 -- what a transaction's connection shows
 abbrev pub state_in : {S : Type 0} → Ghosts S → Transaction S → State
 state_in g tx = state g tx.conn.now
 
 -- what a connection outside a transaction shows
-abbrev pub shown : {S : Type 0} {g : Ghosts S} → Idle S g → State
-shown {S} {g} db = state g db.conn
+abbrev pub conn_state : {S : Type 0} {g : Ghosts S} → AutocommitConnection S g → State
+conn_state {S} {g} db = state g db.conn
 
 -- Inside a transaction the connection stays the same and nothing is committed, so a crash leaves what it left before.
-pub record KeepsInside {S : Type 0} (g : Ghosts S) (old new : Transaction S) : Type 0 where
+pub record KeepsTransaction {S : Type 0} (g : Ghosts S) (old new : Transaction S) : Type 0 where
   pub same_reference : new.conn.ghost_name ≡ old.conn.ghost_name
   pub commit_stays : HasCleanDisk (state_in g new) → KeepsCommit (state_in g old) (state_in g new)
   pub survives : Survives (state_in g old) (state_in g new) (λ _. ⊥)
 
 -- A call that runs a statement inside a transaction keeps that much. Where it succeeds the connection was open, and the transaction goes on; over one that is shut it fails with a fault.
-pub record StaysInside {S X : Type 0} (g : Ghosts S) (old new : Transaction S) (result : Result X Error) : Type 0 where
-  pub keeps : KeepsInside g old new
+pub record RunsInTransaction {S X : Type 0} (g : Ghosts S) (old new : Transaction S) (result : Result X Error) : Type 0 where
+  pub keeps : KeepsTransaction g old new
   pub shut : HasCleanDisk (state_in g new) → IfErr result (λ e. IsTrue (state_in g old).is_open ⊎ IsWriteFault (state_in g old) (state_in g new) e)
   pub was_open : HasCleanDisk (state_in g new) → OnOk result (IsTrue (state_in g old).is_open)
   pub inside : HasCleanDisk (state_in g new) → OnOk result ((state_in g new).in_transaction ≡ true)
 
 -- A call that only reads ends outside a transaction, and commits nothing. What it answers was read over an open connection.
-pub record StaysIdle {S X E : Type 0} (g : Ghosts S) (old new : Held S) (result : Result X E) : Type 0 where
+pub record ReadsInAutocommit {S X E : Type 0} (g : Ghosts S) (old new : Held S) (result : Result X E) : Type 0 where
   pub was_open : HasCleanDisk (state g new) → OnOk result (IsTrue (state g old).is_open)
   pub only_reads : HasCleanDisk (state g new) → OnlyReads (state g old) (state g new)
   pub survives : Survives (state g old) (state g new) (λ _. ⊥)

@@ -1,5 +1,5 @@
 pub mod ReadableRows
-pub mod AllLines
+pub mod AllRawRows
 pub mod Forms
 pub mod Checks
 pub mod Keyed

@@ -4,7 +4,7 @@ pub mod Contents
 pub mod Changes
 pub mod Reads
 pub mod FailedCalls
-pub mod KeptRows
+pub mod KeptReplyViews
 pub mod Entries
 pub mod Listings
 pub mod Frames

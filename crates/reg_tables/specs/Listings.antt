@@ -8,18 +8,18 @@ use Rattle.sqlite.specs.declared.types.Value.TheVariants.{Int, Text}
 use Rattle.sqlite.specs.Order.{Row, column, value_cmp}
 use Rattle.sqlite.specs.Tree.{rowid}
 use Rattle.sqlite.specs.Effect.{Database}
-use Rattle.reg_tables.specs.declared.text_lines.TextLine.{TextLine}
-use Rattle.reg_tables.specs.declared.versions.VersionLine.{VersionLine}
-use Rattle.reg_tables.specs.declared.levels.LevelLine.{LevelLine}
-use Rattle.reg_tables.specs.declared.kept.KeptLine.{KeptLine}
-use Rattle.reg_tables.specs.declared.meta.MetaLine.{MetaLine}
-use Rattle.reg_tables.specs.declared.modes.ModeLine.{ModeLine}
-use Rattle.reg_tables.specs.declared.evidence.EvidenceLine.{EvidenceLine}
-use Rattle.reg_tables.specs.declared.evidence.AgainstLine.{AgainstLine}
+use Rattle.reg_tables.specs.declared.raw_texts.RawText.{RawText}
+use Rattle.reg_tables.specs.declared.versions.RawVersion.{RawVersion}
+use Rattle.reg_tables.specs.declared.levels.RawLevel.{RawLevel}
+use Rattle.reg_tables.specs.declared.kept.RawKept.{RawKept}
+use Rattle.reg_tables.specs.declared.meta.RawMeta.{RawMeta}
+use Rattle.reg_tables.specs.declared.modes.RawMode.{RawMode}
+use Rattle.reg_tables.specs.declared.evidence.RawEvidence.{RawEvidence}
+use Rattle.reg_tables.specs.declared.evidence.RawAgainst.{RawAgainst}
 use Rattle.reg_tables.specs.Layout.{texts, versions, levels, kept, meta, table_at}
 use Rattle.reg_tables.specs.TableMaps.{Form}
-use Rattle.reg_tables.specs.Contents.{PlaceKey, VersionRow, KeptRow, text_form, version_form, pair_form, kept_form, evidence_form, against_form}
-use Rattle.reg_tables.specs.KeptRows.{kept_row}
+use Rattle.reg_tables.specs.Contents.{PositionKey, VersionEntryView, KeptReplyView, text_form, version_form, pair_form, kept_form, evidence_form, against_form}
+use Rattle.reg_tables.specs.KeptReplyViews.{kept_reply_view}
 
 -- a rowid, and the columns of a key and of a value
 abbrev pub RowParts : Type 0
@@ -36,7 +36,7 @@ abbrev pub Lists : {K V : Type 0} → Form K V → List Row → List (ℤ × K �
 Lists form rows entries = IsPermutation (map (parts_of form) rows) (map (entry_parts form) entries)
 
 -- no rowid and no key comes twice
-pub record HasNoTwins {K V : Type 0} (R : K → K → Ordering) (entries : List (ℤ × K × V)) : Type 0 where
+pub record HasNoDuplicates {K V : Type 0} (R : K → K → Ordering) (entries : List (ℤ × K × V)) : Type 0 where
   pub rowids : IsDistinct (eq_by_cmp int_cmp) (map (λ entry. entry.0) entries)
   pub keys : IsDistinct (eq_by_cmp R) (map (λ entry. entry.1) entries)
 
@@ -45,52 +45,52 @@ without_rowid entry = (entry.1, entry.2)
 
 -- ---- the lines of the tables
 
-abbrev pub text_entry : TextLine → ℤ × ℕ × List ℕ
+abbrev pub text_entry : RawText → ℤ × ℕ × List ℕ
 text_entry line = (pos line.id, line.id, string_bytes line.text)
 
-abbrev pub version_entry : VersionLine → ℤ × (List ℕ × ℕ) × VersionRow
+abbrev pub version_entry : RawVersion → ℤ × (List ℕ × ℕ) × VersionEntryView
 version_entry line = (line.rowid, (string_bytes line.subject, line.version), record { id = line.id; deleted = line.deleted })
 
-abbrev pub level_entry : LevelLine → ℤ × List ℕ × List ℕ
+abbrev pub level_entry : RawLevel → ℤ × List ℕ × List ℕ
 level_entry line = (line.rowid, string_bytes line.subject, string_bytes line.level)
 
-abbrev pub kept_entry : KeptLine → ℤ × List ℕ × KeptRow
-kept_entry line = (line.rowid, string_bytes line.key, kept_row line.reply)
+abbrev pub kept_entry : RawKept → ℤ × List ℕ × KeptReplyView
+kept_entry line = (line.rowid, string_bytes line.key, kept_reply_view line.reply)
 
-abbrev pub meta_entry : MetaLine → ℤ × List ℕ × List ℕ
+abbrev pub meta_entry : RawMeta → ℤ × List ℕ × List ℕ
 meta_entry line = (line.rowid, string_bytes line.name, string_bytes line.value)
 
-abbrev pub ListsTexts : Database → List TextLine → Type 0
+abbrev pub ListsTexts : Database → List RawText → Type 0
 ListsTexts db lines = Lists text_form (db.trees texts.tree) (map text_entry lines)
 
-abbrev pub ListsVersions : Database → List VersionLine → Type 0
+abbrev pub ListsVersions : Database → List RawVersion → Type 0
 ListsVersions db lines = Lists version_form (db.trees versions.tree) (map version_entry lines)
 
-abbrev pub ListsLevels : Database → List LevelLine → Type 0
+abbrev pub ListsLevels : Database → List RawLevel → Type 0
 ListsLevels db lines = Lists pair_form (db.trees levels.tree) (map level_entry lines)
 
-abbrev pub ListsKept : Database → List KeptLine → Type 0
+abbrev pub ListsKept : Database → List RawKept → Type 0
 ListsKept db lines = Lists kept_form (db.trees kept.tree) (map kept_entry lines)
 
-abbrev pub ListsMeta : Database → List MetaLine → Type 0
+abbrev pub ListsMeta : Database → List RawMeta → Type 0
 ListsMeta db lines = Lists pair_form (db.trees meta.tree) (map meta_entry lines)
 
-abbrev pub mode_entry : ModeLine → ℤ × List ℕ × List ℕ
+abbrev pub mode_entry : RawMode → ℤ × List ℕ × List ℕ
 mode_entry line = (line.rowid, string_bytes line.subject, string_bytes line.mode)
 
-abbrev pub ListsModes : Database → List ModeLine → Type 0
+abbrev pub ListsModes : Database → List RawMode → Type 0
 ListsModes db lines = Lists pair_form (db.trees (table_at db.schema 5).tree) (map mode_entry lines)
 
-abbrev pub evidence_entry : EvidenceLine → ℤ × (List ℕ × ℕ) × List ℕ
+abbrev pub evidence_entry : RawEvidence → ℤ × (List ℕ × ℕ) × List ℕ
 evidence_entry line = (line.rowid, (string_bytes line.subject, line.version), string_bytes line.level)
 
-abbrev pub against_entry : AgainstLine → ℤ × PlaceKey × ℕ
+abbrev pub against_entry : RawAgainst → ℤ × PositionKey × ℕ
 against_entry line = (line.rowid, ((string_bytes line.subject, line.version), line.position), line.id)
 
-abbrev pub ListsEvidence : Database → List EvidenceLine → Type 0
+abbrev pub ListsEvidence : Database → List RawEvidence → Type 0
 ListsEvidence db lines = Lists evidence_form (db.trees (table_at db.schema 6).tree) (map evidence_entry lines)
 
-abbrev pub ListsAgainst : Database → List AgainstLine → Type 0
+abbrev pub ListsAgainst : Database → List RawAgainst → Type 0
 ListsAgainst db lines = Lists against_form (db.trees (table_at db.schema 7).tree) (map against_entry lines)
 
 -- ---- parts of `texts`
@@ -104,7 +104,7 @@ abbrev pub is_between : ℕ → ℕ → Row → Bool
 is_between low high row = not (is_lt (value_cmp (rowid row) (Int (pos low)))) && not (is_gt (value_cmp (rowid row) (Int (pos high))))
 
 -- the rows whose ids lie between two, both counted
-abbrev pub ListsTextsBetween : ℕ → ℕ → Database → List TextLine → Type 0
+abbrev pub ListsTextsBetween : ℕ → ℕ → Database → List RawText → Type 0
 ListsTextsBetween low high db lines = Lists text_form (filter (is_between low high) (db.trees texts.tree)) (map text_entry lines)
 
 -- ---- parts of `against`
@@ -117,7 +117,7 @@ abbrev pub is_of : List ℕ × ℕ → Row → Bool
 is_of version row = is_eq (value_cmp (column row 1) (Text version.0)) && is_eq (value_cmp (column row 2) (Int (pos version.1)))
 
 -- the rows of a version
-abbrev pub ListsAgainstOf : List ℕ × ℕ → Database → List AgainstLine → Type 0
+abbrev pub ListsAgainstOf : List ℕ × ℕ → Database → List RawAgainst → Type 0
 ListsAgainstOf version db lines = Lists against_form (filter (is_of version) (against_rows db)) (map against_entry lines)
 
 -- SQLite, Datatypes: the greatest integer

@@ -6,7 +6,7 @@ use Rattle.sqlite.specs.Schema.{Schema}
 use Rattle.sqlite.specs.Effect.{Database}
 use Rattle.reg_tables.specs.Layout.{HasFiveTables, HasEightTables, meta}
 use Rattle.reg_tables.specs.TableMaps.{ShowsMap}
-use Rattle.reg_tables.specs.Contents.{TextMap, pair_form, Contents, AreReadable, HoldsIn}
+use Rattle.reg_tables.specs.Contents.{TextMap, pair_form, Contents, AreReadable, HoldsContents}
 
 -- nothing is committed, and while the connection is open it shows the last commit
 pub record OnlyReads (old new : State) : Type 0 where
@@ -14,20 +14,20 @@ pub record OnlyReads (old new : State) : Type 0 where
   pub settled : IsTrue new.is_open → new.now ≡ new.committed
 
 -- the database has one of these schemas, and holds what can be read
-pub record HoldsSome (Known : Schema → Type 0) (db : Database) : Type 0 where
+pub record HoldsReadableIn (Known : Schema → Type 0) (db : Database) : Type 0 where
   pub schema : Schema
   pub known : Known schema
   pub contents : Contents
-  pub holds : HoldsIn schema db contents
+  pub holds : HoldsContents schema db contents
   pub readable : AreReadable contents
 
 -- while the connection is open, the database has one of these schemas, and holds what can be read
 abbrev pub CanBeReadIn : (Schema → Type 0) → State → Type 0
-CanBeReadIn Known s = IsTrue s.is_open → HoldsSome Known s.now
+CanBeReadIn Known s = IsTrue s.is_open → HoldsReadableIn Known s.now
 
 -- the five tables come first, whatever else is there, and hold what can be read
 abbrev pub HoldsReadable : Database → Type 0
-HoldsReadable = HoldsSome HasFiveTables
+HoldsReadable = HoldsReadableIn HasFiveTables
 
 -- while the connection is open, its tables hold what can be read
 abbrev pub CanBeRead : State → Type 0
@@ -41,8 +41,8 @@ pub record HoldsMeta (db : Database) : Type 0 where
   pub readable : (name value : List ℕ) → get names name ≡ Some value → IsUtf8 name × IsUtf8 value
 
 -- while the connection is open, its `meta` holds what can be read
-abbrev pub CanTellMeta : State → Type 0
-CanTellMeta s = IsTrue s.is_open → HoldsMeta s.now
+abbrev pub CanReadMeta : State → Type 0
+CanReadMeta s = IsTrue s.is_open → HoldsMeta s.now
 
 -- while the connection is open, its tables are declared so, whatever rows they have
 abbrev pub HasTablesIn : (Schema → Type 0) → State → Type 0

@@ -5,7 +5,7 @@ use Rattle.sqlite.specs.Clock.{timed}
 use Rattle.sqlite.specs.Effect.{Database, Reads}
 use Rattle.sqlite.specs.Listing.{understood, reads_listing, IsSourceOf}
 use Rattle.sqlite_resolve.specs.declared.compiled.Compiled.{Compiled}
-use Rattle.reg_tables.specs.declared.meta.MetaLine.{MetaLine}
+use Rattle.reg_tables.specs.declared.meta.RawMeta.{RawMeta}
 use Rattle.reg_tables.specs.Contents.{pair_form}
 use Rattle.reg_tables.specs.Listings.{parts_of, entry_parts, meta_entry}
 
@@ -24,7 +24,7 @@ abbrev pub ShowsMeta : Database → List Row → Type 0
 ShowsMeta db rows = Selects db (codes "SELECT rowid, name, value FROM meta") rows
 
 -- the lines are all rows of `meta`, each once and in order
-pub record ReadsMeta (db : Database) (lines : List MetaLine) : Type 0 where
+pub record ReadsMeta (db : Database) (lines : List RawMeta) : Type 0 where
   pub rows : List Row
   pub shows : ShowsMeta db rows
   pub read : map (parts_of pair_form) rows ≡ map (entry_parts pair_form) (map meta_entry lines)

@@ -7,34 +7,34 @@ use Rattle.sqlite.specs.declared.error.Error.{Error}
 use Rattle.sqlite.specs.declared.transaction.Transaction.{Transaction}
 use Rattle.sqlite_trees.specs.declared.store.Store.{Ghosts}
 use Rattle.reg_tables.specs.Layout.{no_schema, IsLayoutTwo}
-use Rattle.reg_tables.specs.Contents.{Contents, HoldsIn}
-use Rattle.reg_tables.specs.Frames.{state_in, StaysInside}
+use Rattle.reg_tables.specs.Contents.{Contents, HoldsContents}
+use Rattle.reg_tables.specs.Frames.{state_in, RunsInTransaction}
 
 -- ---- in layout 2
 
 -- this is so of what the tables hold
-abbrev pub WhereHeld : State → (Contents → Type 0) → Type 0
-WhereHeld s P = (schema : Schema) → IsLayoutTwo schema → (contents : Contents) → HoldsIn schema s.now contents → P contents
+abbrev pub ForHeldContents : State → (Contents → Type 0) → Type 0
+ForHeldContents s P = (schema : Schema) → IsLayoutTwo schema → (contents : Contents) → HoldsContents schema s.now contents → P contents
 
 -- where what the tables held was so, they now hold what the change makes of it, in the same schema
 abbrev pub ChangesIf : State → State → (Contents → Type 0) → (Contents → Contents) → Type 0
-ChangesIf old new Was change = (schema : Schema) → IsLayoutTwo schema → (contents : Contents) → HoldsIn schema old.now contents → Was contents → HoldsIn schema new.now (change contents)
+ChangesIf old new Was change = (schema : Schema) → IsLayoutTwo schema → (contents : Contents) → HoldsContents schema old.now contents → Was contents → HoldsContents schema new.now (change contents)
 
 -- the same, whatever they held
 abbrev pub Changes : State → State → (Contents → Contents) → Type 0
-Changes old new change = (schema : Schema) → IsLayoutTwo schema → (contents : Contents) → HoldsIn schema old.now contents → HoldsIn schema new.now (change contents)
+Changes old new change = (schema : Schema) → IsLayoutTwo schema → (contents : Contents) → HoldsContents schema old.now contents → HoldsContents schema new.now (change contents)
 
 -- A call inside a transaction. After an Ok the contents are as the change makes them, and an Err is a failure of this kind.
-pub record Alters {S X : Type 0} (IsFailure : State → State → Error → Type 0) (g : Ghosts S) (old new : Transaction S) (result : Result X Error) (change : Contents → Contents) : Type 0 where
-  pub frame : StaysInside g old new result
+pub record AppliesChange {S X : Type 0} (IsFailure : State → State → Error → Type 0) (g : Ghosts S) (old new : Transaction S) (result : Result X Error) (change : Contents → Contents) : Type 0 where
+  pub frame : RunsInTransaction g old new result
   pub changed : HasCleanDisk (state_in g new) → OnOk result (Changes (state_in g old) (state_in g new) change)
-  pub fault : HasCleanDisk (state_in g new) → IfErr result (λ e. WhereHeld (state_in g old) (λ contents. IsFailure (state_in g old) (state_in g new) e))
+  pub fault : HasCleanDisk (state_in g new) → IfErr result (λ e. ForHeldContents (state_in g old) (λ contents. IsFailure (state_in g old) (state_in g new) e))
 
 -- ---- in any database
 
 -- A call inside a transaction. If the database was as `From` says, it is as `To` says after an Ok, and an Err is a failure of this kind.
-pub record Turns {S X I : Type 0} (IsFailure : State → State → Error → Type 0) (g : Ghosts S) (old new : Transaction S) (result : Result X Error) (From To : I → Database → Type 0) : Type 0 where
-  pub frame : StaysInside g old new result
+pub record Transforms {S X I : Type 0} (IsFailure : State → State → Error → Type 0) (g : Ghosts S) (old new : Transaction S) (result : Result X Error) (From To : I → Database → Type 0) : Type 0 where
+  pub frame : RunsInTransaction g old new result
   pub made : HasCleanDisk (state_in g new) → OnOk result ((about : I) → From about (state_in g old).now → To about (state_in g new).now)
   pub fault : HasCleanDisk (state_in g new) → IfErr result (λ e. (about : I) → From about (state_in g old).now → IsFailure (state_in g old) (state_in g new) e)
 
@@ -44,4 +44,4 @@ IsEmpty _ db = db.schema ≡ no_schema
 
 -- the tables of this schema hold the contents
 abbrev pub Holding : Schema → Contents → Database → Type 0
-Holding schema contents db = HoldsIn schema db contents
+Holding schema contents db = HoldsContents schema db contents

@@ -2,12 +2,12 @@
 
 ghost use Rattle.std.specs.Prelude.{◌≡◌, ◌⊎◌, codes};
 ghost use Rattle.sqlite.specs.Schema.{Schema};
-ghost use Rattle.reg_tables.specs.Layout.{begun, layout_one, layout_one_unindexed, meta, GetsIndex, layout_two};
-ghost use Rattle.reg_tables.specs.Contents.{Contents, HoldsIn, Holds};
+ghost use Rattle.reg_tables.specs.Layout.{partial_layout_one, layout_one, layout_one_unindexed, meta, GetsIndex, layout_two};
+ghost use Rattle.reg_tables.specs.Contents.{Contents, HoldsContents, HoldsLayoutOne};
 ghost use Rattle.reg_tables.specs.Rooms.{HasRoom};
 ghost use Rattle.reg_tables.specs.FailedCalls.{IsWriteFault};
-ghost use Rattle.reg_tables.specs.Changes.{no_contents, new_contents_one, numbered_contents, contents_as, new_contents_two};
-ghost use Rattle.reg_tables.specs.Writing.{Turns, IsEmpty, Holding};
+ghost use Rattle.reg_tables.specs.Changes.{no_contents, new_contents_one, contents_before_level, contents_of_layout, new_contents_two};
+ghost use Rattle.reg_tables.specs.Writing.{Transforms, IsEmpty, Holding};
 
 use crate::meta::put_meta;
 use crate::statement::run;
@@ -15,8 +15,8 @@ use sqlite::{Alter, Error, Transaction};
 
 /// Makes `texts` and `versions`.
 fn make_schema_tables<S: Alter>(tx: &mut Transaction<'_, S>) -> Result<(), Error>
-    ensures { Turns IsWriteFault S.Store tx.old tx.new result IsEmpty
-        (λ _ db. HoldsIn (begun 2) db no_contents) }
+    ensures { Transforms IsWriteFault S.Store tx.old tx.new result IsEmpty
+        (λ _ db. HoldsContents (partial_layout_one 2) db no_contents) }
 {
     run(
         tx,
@@ -32,8 +32,8 @@ fn make_schema_tables<S: Alter>(tx: &mut Transaction<'_, S>) -> Result<(), Error
 
 /// Makes `levels`, `kept` and `meta`.
 fn make_other_tables<S: Alter>(tx: &mut Transaction<'_, S>) -> Result<(), Error>
-    ensures { Turns IsWriteFault S.Store tx.old tx.new result
-        (Holding (begun 2)) (Holding layout_one_unindexed) }
+    ensures { Transforms IsWriteFault S.Store tx.old tx.new result
+        (Holding (partial_layout_one 2)) (Holding layout_one_unindexed) }
 {
     run(
         tx,
@@ -62,17 +62,17 @@ fn make_other_tables<S: Alter>(tx: &mut Transaction<'_, S>) -> Result<(), Error>
 /// or the tables aren't the layout's. Nothing is committed, and the transaction is to be rolled
 /// back.
 pub fn index_versions<S: Alter>(tx: &mut Transaction<'_, S>) -> Result<(), Error>
-    ensures { Turns IsWriteFault S.Store tx.old tx.new result
-        (λ (about : Schema × Schema × Contents) db. GetsIndex about.0 about.1 × HoldsIn about.0 db about.2)
-        (λ about db. HoldsIn about.1 db about.2) }
+    ensures { Transforms IsWriteFault S.Store tx.old tx.new result
+        (λ (about : Schema × Schema × Contents) db. GetsIndex about.0 about.1 × HoldsContents about.0 db about.2)
+        (λ about db. HoldsContents about.1 db about.2) }
 {
     run(tx, "CREATE INDEX versions_of_id ON versions (id)", &[])
 }
 
 /// Makes the tables and the index, with no row.
 fn make_tables<S: Alter>(tx: &mut Transaction<'_, S>) -> Result<(), Error>
-    ensures { Turns IsWriteFault S.Store tx.old tx.new result IsEmpty
-        (λ _ db. Holds db no_contents) }
+    ensures { Transforms IsWriteFault S.Store tx.old tx.new result IsEmpty
+        (λ _ db. HoldsLayoutOne db no_contents) }
 {
     make_schema_tables(tx)?;
     make_other_tables(tx)?;
@@ -82,8 +82,8 @@ fn make_tables<S: Alter>(tx: &mut Transaction<'_, S>) -> Result<(), Error>
 /// Makes the tables of layout 1, and says the format and a layout's number.
 fn make_numbered<S: Alter>(tx: &mut Transaction<'_, S>, number: &str) -> Result<(), Error>
     requires known { (number.now ≡ codes "1") ⊎ (number.now ≡ codes "2") }
-    ensures { Turns IsWriteFault S.Store tx.old tx.new result IsEmpty
-        (λ _ db. Holds db (numbered_contents number.now) × HasRoom (db.trees meta.tree) 2) }
+    ensures { Transforms IsWriteFault S.Store tx.old tx.new result IsEmpty
+        (λ _ db. HoldsLayoutOne db (contents_before_level number.now) × HasRoom (db.trees meta.tree) 2) }
 {
     make_tables(tx)?;
     put_meta(tx, "format", "avroreg")?;
@@ -94,8 +94,8 @@ fn make_numbered<S: Alter>(tx: &mut Transaction<'_, S>, number: &str) -> Result<
 /// that of either.
 pub(crate) fn create_as<S: Alter>(tx: &mut Transaction<'_, S>, number: &str) -> Result<(), Error>
     requires known { (number.now ≡ codes "1") ⊎ (number.now ≡ codes "2") }
-    ensures { Turns IsWriteFault S.Store tx.old tx.new result IsEmpty
-        (λ _ db. Holds db (contents_as number.now) × HasRoom (db.trees meta.tree) 1) }
+    ensures { Transforms IsWriteFault S.Store tx.old tx.new result IsEmpty
+        (λ _ db. HoldsLayoutOne db (contents_of_layout number.now) × HasRoom (db.trees meta.tree) 1) }
 {
     make_numbered(tx, number)?;
     put_meta(tx, "global", "BACKWARD")
@@ -110,8 +110,8 @@ pub(crate) fn create_as<S: Alter>(tx: &mut Transaction<'_, S>, number: &str) -> 
 /// `TransactionState` where a failure has ended the transaction; another where there are tables.
 /// Nothing is committed, and the transaction is to be rolled back.
 pub fn create_layout_one<S: Alter>(tx: &mut Transaction<'_, S>) -> Result<(), Error>
-    ensures { Turns IsWriteFault S.Store tx.old tx.new result IsEmpty
-        (λ _ db. Holds db new_contents_one) }
+    ensures { Transforms IsWriteFault S.Store tx.old tx.new result IsEmpty
+        (λ _ db. HoldsLayoutOne db new_contents_one) }
 {
     create_as(tx, "1")
 }
@@ -125,7 +125,7 @@ pub fn create_layout_one<S: Alter>(tx: &mut Transaction<'_, S>) -> Result<(), Er
 /// `TransactionState` where a failure has ended the transaction; another where the tables aren't
 /// those of layout 1. Nothing is committed, and the transaction is to be rolled back.
 pub fn add_tables<S: Alter>(tx: &mut Transaction<'_, S>) -> Result<(), Error>
-    ensures { Turns IsWriteFault S.Store tx.old tx.new result (Holding layout_one) (Holding layout_two) }
+    ensures { Transforms IsWriteFault S.Store tx.old tx.new result (Holding layout_one) (Holding layout_two) }
 {
     run(
         tx,
@@ -154,8 +154,8 @@ pub fn add_tables<S: Alter>(tx: &mut Transaction<'_, S>) -> Result<(), Error>
 /// `TransactionState` where a failure has ended the transaction; another where there are tables.
 /// Nothing is committed, and the transaction is to be rolled back.
 pub fn create_layout_two<S: Alter>(tx: &mut Transaction<'_, S>) -> Result<(), Error>
-    ensures { Turns IsWriteFault S.Store tx.old tx.new result IsEmpty
-        (λ _ db. HoldsIn layout_two db new_contents_two) }
+    ensures { Transforms IsWriteFault S.Store tx.old tx.new result IsEmpty
+        (λ _ db. HoldsContents layout_two db new_contents_two) }
 {
     create_as(tx, "2")?;
     put_meta(tx, "mode", "READWRITE")?;

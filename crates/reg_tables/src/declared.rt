@@ -7,7 +7,8 @@ ghost use Rattle.reg_tables.specs.Inside.Forms.{schema_of};
 
 use crate::declared::listed_forms::are_declared;
 use crate::declared::schemas::{
-    FIRST, FIRST_UNINDEXED, SECOND, SECOND_INDEXED_LAST, SECOND_UNINDEXED, SchemaForm,
+    LAYOUT_ONE, LAYOUT_ONE_UNINDEXED, LAYOUT_TWO, LAYOUT_TWO_INDEXED_LAST, LAYOUT_TWO_UNINDEXED,
+    SchemaForm,
 };
 use sqlite::{Alter, Connection};
 use sqlite_schema::schema::Schema;
@@ -25,7 +26,7 @@ mod tables;
 pub fn has_layout_one<S: Alter>(conn: &Connection<S>) -> bool
     ensures { IsTrue result ↔ ((state S.Store conn.now).now.schema ≡ layout_one) }
 {
-    is_schema(conn.schema(), &FIRST)
+    is_schema(conn.schema(), &LAYOUT_ONE)
 }
 
 /// Whether the tables of the database are those of layout 1, and its one index beside SQLite's own
@@ -33,7 +34,7 @@ pub fn has_layout_one<S: Alter>(conn: &Connection<S>) -> bool
 pub fn is_unindexed_one<S: Alter>(conn: &Connection<S>) -> bool
     ensures { IsTrue result ↔ ((state S.Store conn.now).now.schema ≡ layout_one_unindexed) }
 {
-    is_schema(conn.schema(), &FIRST_UNINDEXED)
+    is_schema(conn.schema(), &LAYOUT_ONE_UNINDEXED)
 }
 
 /// Whether the tables of the database are those of layout 2, declared as `create_layout_two` declares
@@ -49,7 +50,7 @@ pub fn has_layout_two<S: Alter>(conn: &Connection<S>) -> bool
 pub fn is_unindexed_two<S: Alter>(conn: &Connection<S>) -> bool
     ensures { IsTrue result ↔ ((state S.Store conn.now).now.schema ≡ layout_two_unindexed) }
 {
-    is_schema(conn.schema(), &SECOND_UNINDEXED)
+    is_schema(conn.schema(), &LAYOUT_TWO_UNINDEXED)
 }
 
 /// Whether the database has no table, index or view, as `create` asks.
@@ -70,7 +71,7 @@ fn is_empty(schema: &Schema) -> bool
 fn is_layout_two(schema: &Schema) -> bool
     ensures { IsTrue result ↔ IsLayoutTwo schema.now }
 {
-    is_schema(schema, &SECOND) || is_schema(schema, &SECOND_INDEXED_LAST)
+    is_schema(schema, &LAYOUT_TWO) || is_schema(schema, &LAYOUT_TWO_INDEXED_LAST)
 }
 
 fn is_schema(schema: &Schema, form: &SchemaForm) -> bool

@@ -4,13 +4,13 @@
 ghost use Rattle.std.specs.Prelude.{◌≡◌, None, IsSome, OnOk, IfErr, option_map, string_bytes, ◌⊎◌, pos, IfOk};
 ghost use Rattle.std.specs.FinMap.{get};
 ghost use Rattle.sqlite.specs.State.{HasCleanDisk};
-ghost use Rattle.reg_tables.specs.Frames.{state_in, StaysInside, shown, StaysIdle};
+ghost use Rattle.reg_tables.specs.Frames.{state_in, RunsInTransaction, conn_state, ReadsInAutocommit};
 ghost use Rattle.reg_tables.specs.Layout.{IsLayoutTwo, HasEightTables};
 ghost use Rattle.reg_tables.specs.Changes.{with_evidence, with_against};
-ghost use Rattle.reg_tables.specs.Lookups.{Finds, Lists};
+ghost use Rattle.reg_tables.specs.Lookups.{Finds, ListsTable};
 ghost use Rattle.reg_tables.specs.FailedCalls.{IsInsertFault, IsFault, IsUnreadable};
 ghost use Rattle.reg_tables.specs.Contents.{TableName, evidence_form, against_form};
-ghost use Rattle.reg_tables.specs.Writing.{ChangesIf, WhereHeld};
+ghost use Rattle.reg_tables.specs.Writing.{ChangesIf, ForHeldContents};
 ghost use Rattle.sqlite.specs.declared.types.Value.{Value};
 ghost use Rattle.sqlite.specs.declared.types.Value.TheVariants.{Int};
 ghost use Rattle.sqlite.specs.Order.{column};
@@ -18,9 +18,9 @@ ghost use Rattle.reg_tables.specs.Listings.{RowParts, parts_of, entry_parts, evi
 ghost use Rattle.reg_tables.specs.Reads.{CanBeReadIn, HasTablesIn};
 ghost use Rattle.reg_tables.specs.Inside.ReadableRows.{IsReadableEvidence, IsReadableAgainst, IsReadableCount};
 
-use crate::idle::Idle;
+use crate::autocommit::AutocommitConnection;
 use crate::keyed::{FilledTable, KeyedTable, find, put};
-use crate::statement::{Line, first, list};
+use crate::statement::{FromRow, first, list};
 use sqlite::{Alter, Error, Row, Transaction, params};
 use std::alloc::Global;
 
@@ -72,7 +72,7 @@ impl FilledTable for Against {
 
 /// A row of `evidence`.
 #[derive(Debug, Drop)]
-pub struct EvidenceLine {
+pub struct RawEvidence {
     pub rowid: i64,
     pub subject: String,
     pub version: u32,
@@ -81,7 +81,7 @@ pub struct EvidenceLine {
 
 /// A row of `against`.
 #[derive(Debug, Drop)]
-pub struct AgainstLine {
+pub struct RawAgainst {
     pub rowid: i64,
     pub subject: String,
     pub version: u32,
@@ -90,7 +90,7 @@ pub struct AgainstLine {
 }
 
 /// A count.
-impl Line for u64 {
+impl FromRow for u64 {
     ghost Cells = { Value };
 
     ghost shown = { λ row. column row 0 };
@@ -104,7 +104,7 @@ impl Line for u64 {
     }
 }
 
-impl Line for EvidenceLine {
+impl FromRow for RawEvidence {
     ghost Cells = { RowParts };
 
     ghost shown = { parts_of evidence_form };
@@ -113,8 +113,8 @@ impl Line for EvidenceLine {
 
     ghost is_readable = { IsReadableEvidence };
 
-    fn read(row: &Row) -> Result<EvidenceLine, Error> {
-        Ok(EvidenceLine {
+    fn read(row: &Row) -> Result<RawEvidence, Error> {
+        Ok(RawEvidence {
             rowid: row.get(0)?,
             subject: row.get(1)?,
             version: row.get(2)?,
@@ -123,7 +123,7 @@ impl Line for EvidenceLine {
     }
 }
 
-impl Line for AgainstLine {
+impl FromRow for RawAgainst {
     ghost Cells = { RowParts };
 
     ghost shown = { parts_of against_form };
@@ -132,8 +132,8 @@ impl Line for AgainstLine {
 
     ghost is_readable = { IsReadableAgainst };
 
-    fn read(row: &Row) -> Result<AgainstLine, Error> {
-        Ok(AgainstLine {
+    fn read(row: &Row) -> Result<RawAgainst, Error> {
+        Ok(RawAgainst {
             rowid: row.get(0)?,
             subject: row.get(1)?,
             version: row.get(2)?,
@@ -159,10 +159,10 @@ pub fn put_evidence<S: Alter>(
     number: u32,
     level: &str,
 ) -> Result<(), Error>
-    ensures frame { StaysInside S.Store tx.old tx.new result }
+    ensures frame { RunsInTransaction S.Store tx.old tx.new result }
     ensures put { HasCleanDisk (state_in S.Store tx.new) → OnOk result (ChangesIf (state_in S.Store tx.old) (state_in S.Store tx.new)
         (λ contents. get contents.evidence (subject.now, number) ≡ None) (with_evidence (subject.now, number) level.now)) }
-    ensures fault { HasCleanDisk (state_in S.Store tx.new) → IfErr result (λ e. WhereHeld (state_in S.Store tx.old) (λ contents.
+    ensures fault { HasCleanDisk (state_in S.Store tx.new) → IfErr result (λ e. ForHeldContents (state_in S.Store tx.old) (λ contents.
         get contents.evidence (subject.now, number) ≡ None
         → IsSome (get contents.versions (subject.now, number))
         → IsInsertFault (state_in S.Store tx.old) (state_in S.Store tx.new) e)) }
@@ -183,10 +183,10 @@ pub fn put_against<S: Alter>(
     position: u32,
     id: u32,
 ) -> Result<(), Error>
-    ensures frame { StaysInside S.Store tx.old tx.new result }
+    ensures frame { RunsInTransaction S.Store tx.old tx.new result }
     ensures put { HasCleanDisk (state_in S.Store tx.new) → OnOk result (ChangesIf (state_in S.Store tx.old) (state_in S.Store tx.new)
         (λ contents. get contents.against ((subject.now, number), position) ≡ None) (with_against ((subject.now, number), position) id)) }
-    ensures fault { HasCleanDisk (state_in S.Store tx.new) → IfErr result (λ e. WhereHeld (state_in S.Store tx.old) (λ contents.
+    ensures fault { HasCleanDisk (state_in S.Store tx.new) → IfErr result (λ e. ForHeldContents (state_in S.Store tx.old) (λ contents.
         get contents.against ((subject.now, number), position) ≡ None
         → IsSome (get contents.versions (subject.now, number)) → IsSome (get contents.texts id)
         → IsInsertFault (state_in S.Store tx.old) (state_in S.Store tx.new) e)) }
@@ -201,7 +201,7 @@ pub fn put_against<S: Alter>(
 /// `OutOfMemory`, a fault of the disk, or `OperationInterrupted` at the limit on steps; where the
 /// tables can't be read, another error too. Nothing is changed.
 pub fn evidence_of<S: Alter>(
-    db: &mut Idle<S>,
+    db: &mut AutocommitConnection<S>,
     subject: &str,
     number: u32,
 ) -> Result<Option<String>, Error>
@@ -218,7 +218,7 @@ pub fn evidence_of<S: Alter>(
 /// `OutOfMemory`, a fault of the disk, or `OperationInterrupted` at the limit on steps; where the
 /// tables can't be read, another error too. Nothing is changed.
 pub fn against_at<S: Alter>(
-    db: &mut Idle<S>,
+    db: &mut AutocommitConnection<S>,
     subject: &str,
     number: u32,
     position: u32,
@@ -235,8 +235,11 @@ pub fn against_at<S: Alter>(
 ///
 /// `OutOfMemory`, a fault of the disk, or `OperationInterrupted` at the limit on steps; another
 /// where a row holds what the line can't. Nothing is changed.
-pub fn evidence_lines<S: Alter>(alloc: Global, db: &mut Idle<S>) -> Result<Vec<EvidenceLine>, Error>
-    ensures { Lists db.old db.new result HasEightTables (CanBeReadIn HasEightTables) ListsEvidence }
+pub fn raw_evidence<S: Alter>(
+    alloc: Global,
+    db: &mut AutocommitConnection<S>,
+) -> Result<Vec<RawEvidence>, Error>
+    ensures { ListsTable db.old db.new result HasEightTables (CanBeReadIn HasEightTables) ListsEvidence }
 {
     list(
         alloc,
@@ -254,11 +257,11 @@ pub fn evidence_lines<S: Alter>(alloc: Global, db: &mut Idle<S>) -> Result<Vec<E
 /// where a row holds what the line can't. Nothing is changed.
 pub fn against_of<S: Alter>(
     alloc: Global,
-    db: &mut Idle<S>,
+    db: &mut AutocommitConnection<S>,
     subject: &str,
     number: u32,
-) -> Result<Vec<AgainstLine>, Error>
-    ensures { Lists db.old db.new result HasEightTables (CanBeReadIn HasEightTables) (ListsAgainstOf (subject.now, number)) }
+) -> Result<Vec<RawAgainst>, Error>
+    ensures { ListsTable db.old db.new result HasEightTables (CanBeReadIn HasEightTables) (ListsAgainstOf (subject.now, number)) }
 {
     list(
         alloc,
@@ -274,17 +277,17 @@ pub fn against_of<S: Alter>(
 ///
 /// `OutOfMemory`, a fault of the disk, or `OperationInterrupted` at the limit on steps. Nothing is
 /// changed.
-pub fn against_count<S: Alter>(db: &mut Idle<S>) -> Result<u64, Error>
-    ensures frame { StaysIdle S.Store db.old.conn db.new.conn result }
-    ensures counted { HasCleanDisk (shown db.new) → IfOk result (λ count.
-        HasEightTables (shown db.old).now.schema
-        → HasAgainstRows (shown db.old).now count) }
-    ensures fault { HasCleanDisk (shown db.new) → IfErr result (λ e.
-        CanBeReadIn HasEightTables (shown db.old)
-        → IsFault (shown db.old) (shown db.new) e) }
-    ensures told { HasCleanDisk (shown db.new) → IfErr result (λ e.
-        HasTablesIn HasEightTables (shown db.old)
-        → IsFault (shown db.old) (shown db.new) e ⊎ IsUnreadable e) }
+pub fn against_count<S: Alter>(db: &mut AutocommitConnection<S>) -> Result<u64, Error>
+    ensures frame { ReadsInAutocommit S.Store db.old.conn db.new.conn result }
+    ensures counted { HasCleanDisk (conn_state db.new) → IfOk result (λ count.
+        HasEightTables (conn_state db.old).now.schema
+        → HasAgainstRows (conn_state db.old).now count) }
+    ensures fault { HasCleanDisk (conn_state db.new) → IfErr result (λ e.
+        CanBeReadIn HasEightTables (conn_state db.old)
+        → IsFault (conn_state db.old) (conn_state db.new) e) }
+    ensures fault_or_unreadable { HasCleanDisk (conn_state db.new) → IfErr result (λ e.
+        HasTablesIn HasEightTables (conn_state db.old)
+        → IsFault (conn_state db.old) (conn_state db.new) e ⊎ IsUnreadable e) }
 {
     let found: Option<u64> = first(db, "SELECT count(*) FROM against", &[])?;
     Ok(found.unwrap_or(0))

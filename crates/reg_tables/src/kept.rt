@@ -3,22 +3,22 @@
 ghost use Rattle.std.specs.Prelude.{◌≡◌, None, Some, OnOk, IfErr, MatchOption, [], ◌∷◌};
 ghost use Rattle.std.specs.FinMap.{get};
 ghost use Rattle.sqlite.specs.Order.{column};
-ghost use Rattle.reg_tables.specs.Frames.{state_in, StaysInside};
+ghost use Rattle.reg_tables.specs.Frames.{state_in, RunsInTransaction};
 ghost use Rattle.sqlite.specs.State.{HasCleanDisk};
-ghost use Rattle.reg_tables.specs.Contents.{KeptRow, kept_cells, IsReadableReply, TableName, kept_form};
-ghost use Rattle.reg_tables.specs.Lookups.{Finds, Lists};
+ghost use Rattle.reg_tables.specs.Contents.{KeptReplyView, kept_cells, IsReadableReply, TableName, kept_form};
+ghost use Rattle.reg_tables.specs.Lookups.{Finds, ListsTable};
 ghost use Rattle.reg_tables.specs.Changes.{with_kept};
-ghost use Rattle.reg_tables.specs.Writing.{WhereHeld, ChangesIf};
+ghost use Rattle.reg_tables.specs.Writing.{ForHeldContents, ChangesIf};
 ghost use Rattle.reg_tables.specs.FailedCalls.{IsInsertFault};
-ghost use Rattle.reg_tables.specs.KeptRows.{kept_row};
+ghost use Rattle.reg_tables.specs.KeptReplyViews.{kept_reply_view};
 ghost use Rattle.reg_tables.specs.Layout.{IsLayoutTwo, HasFiveTables};
 ghost use Rattle.reg_tables.specs.Listings.{RowParts, parts_of, entry_parts, kept_entry, ListsKept};
 ghost use Rattle.reg_tables.specs.Inside.ReadableRows.{IsReadableKept};
 ghost use Rattle.reg_tables.specs.Reads.{CanBeRead};
 
-use crate::idle::Idle;
+use crate::autocommit::AutocommitConnection;
 use crate::keyed::{FilledTable, KeyedTable, find, put};
-use crate::statement::{Line, list};
+use crate::statement::{FromRow, list};
 use sqlite::{Alter, Error, Row, Transaction, params};
 use std::alloc::Global;
 
@@ -31,12 +31,12 @@ pub struct KeptReply {
     pub body: String,
 }
 
-impl Line for KeptReply {
+impl FromRow for KeptReply {
     ghost shown = { λ row. column row 0 ∷ column row 1 ∷ column row 2 ∷ [] };
 
-    ghost cells = { λ reply. kept_cells (kept_row reply) };
+    ghost cells = { λ reply. kept_cells (kept_reply_view reply) };
 
-    ghost is_readable = { λ row. (reply : KeptRow) × (row ≡ kept_cells reply) × IsReadableReply reply };
+    ghost is_readable = { λ row. (reply : KeptReplyView) × (row ≡ kept_cells reply) × IsReadableReply reply };
 
     fn read(row: &Row) -> Result<KeptReply, Error> {
         Ok(KeptReply {
@@ -55,7 +55,7 @@ impl KeyedTable for Kept {
 
     ghost name = { TableName.Kept };
 
-    ghost value_of = { kept_row };
+    ghost value_of = { kept_reply_view };
 
     fn find_sql() -> &'static str {
         "SELECT command, status, body FROM kept WHERE key = ?1"
@@ -72,13 +72,13 @@ impl FilledTable for Kept {
 
 /// A row of `kept`.
 #[derive(Debug, Drop)]
-pub struct KeptLine {
+pub struct RawKept {
     pub rowid: i64,
     pub key: String,
     pub reply: KeptReply,
 }
 
-impl Line for KeptLine {
+impl FromRow for RawKept {
     ghost Cells = { RowParts };
 
     ghost shown = { parts_of kept_form };
@@ -87,8 +87,8 @@ impl Line for KeptLine {
 
     ghost is_readable = { IsReadableKept };
 
-    fn read(row: &Row) -> Result<KeptLine, Error> {
-        Ok(KeptLine {
+    fn read(row: &Row) -> Result<RawKept, Error> {
+        Ok(RawKept {
             rowid: row.get(0)?,
             key: row.get(1)?,
             reply: KeptReply {
@@ -116,12 +116,12 @@ pub fn keep_reply<S: Alter>(
     status: u32,
     body: &str,
 ) -> Result<(), Error>
-    ensures frame { StaysInside S.Store tx.old tx.new result }
+    ensures frame { RunsInTransaction S.Store tx.old tx.new result }
     ensures put { HasCleanDisk (state_in S.Store tx.new) → OnOk result (ChangesIf (state_in S.Store tx.old) (state_in S.Store tx.new)
         (λ contents. get contents.kept key.now ≡ None)
         (with_kept key.now (record { command = command.now; status = status; body = body.now }))) }
     ensures fault { HasCleanDisk (state_in S.Store tx.new) → IfErr result (λ e.
-        WhereHeld (state_in S.Store tx.old) (λ contents.
+        ForHeldContents (state_in S.Store tx.old) (λ contents.
         get contents.kept key.now ≡ None → IsInsertFault (state_in S.Store tx.old) (state_in S.Store tx.new) e)) }
 {
     put::<S, Kept>(tx, params![key, command, status, body])
@@ -133,10 +133,13 @@ pub fn keep_reply<S: Alter>(
 ///
 /// `OutOfMemory`, a fault of the disk, or `OperationInterrupted` at the limit on steps; where the
 /// tables can't be read, another error too. Nothing is changed.
-pub fn kept_reply<S: Alter>(db: &mut Idle<S>, key: &str) -> Result<Option<KeptReply>, Error>
+pub fn kept_reply<S: Alter>(
+    db: &mut AutocommitConnection<S>,
+    key: &str,
+) -> Result<Option<KeptReply>, Error>
     ensures { Finds TableName.Kept db.old db.new result (λ contents found.
         MatchOption found (get contents.kept key.now ≡ None)
-        (λ reply. get contents.kept key.now ≡ Some (kept_row reply))) }
+        (λ reply. get contents.kept key.now ≡ Some (kept_reply_view reply))) }
 {
     find::<S, Kept>(db, params![key])
 }
@@ -147,8 +150,11 @@ pub fn kept_reply<S: Alter>(db: &mut Idle<S>, key: &str) -> Result<Option<KeptRe
 ///
 /// `OutOfMemory`, a fault of the disk, or `OperationInterrupted` at the limit on steps; another
 /// where a row holds what the line can't. Nothing is changed.
-pub fn kept_lines<S: Alter>(alloc: Global, db: &mut Idle<S>) -> Result<Vec<KeptLine>, Error>
-    ensures { Lists db.old db.new result HasFiveTables CanBeRead ListsKept }
+pub fn raw_kept<S: Alter>(
+    alloc: Global,
+    db: &mut AutocommitConnection<S>,
+) -> Result<Vec<RawKept>, Error>
+    ensures { ListsTable db.old db.new result HasFiveTables CanBeRead ListsKept }
 {
     list(
         alloc,

@@ -5,8 +5,8 @@ ghost use Rattle.std.specs.FinMap.{get};
 ghost use Rattle.sqlite.specs.Order.{column};
 ghost use Rattle.sqlite.specs.State.{HasCleanDisk};
 ghost use Rattle.sqlite.specs.Values.{bound};
-ghost use Rattle.reg_tables.specs.Frames.{shown, state_in, StaysInside, StaysIdle};
-ghost use Rattle.reg_tables.specs.Contents.{text_cells, TableName, HasTable, KeyOf, ValueOf, form_of, map_of, table_in, Contents, HoldsIn, AreReadable};
+ghost use Rattle.reg_tables.specs.Frames.{conn_state, state_in, RunsInTransaction, ReadsInAutocommit};
+ghost use Rattle.reg_tables.specs.Contents.{text_cells, TableName, HasTable, KeyOf, ValueOf, form_of, map_of, table_in, Contents, HoldsContents, AreReadable};
 ghost use Rattle.reg_tables.specs.Rooms.{HasRoom, CanBeStoredIn};
 ghost use Rattle.sqlite.specs.Schema.{Schema};
 ghost use Rattle.reg_tables.specs.Reads.{CanBeReadIn};
@@ -14,14 +14,14 @@ ghost use Rattle.reg_tables.specs.FailedCalls.{IsFault, IsWriteFault, IsInsertFa
 ghost use Rattle.reg_tables.specs.Inside.Keyed.{refers_to, cells_of, with_entry, without_entry, IsFreeKey};
 ghost use Rattle.reg_tables.specs.Inside.KeyedLaws.{IsKeyed, PutsRow, DropsRow, FindsRow};
 
-use crate::idle::Idle;
-use crate::statement::{Line, first, run};
+use crate::autocommit::AutocommitConnection;
+use crate::statement::{FromRow, first, run};
 use sqlite::types::ValueRef;
 use sqlite::{Alter, Error, ErrorCode, Row, Transaction};
 
 /// A table that has one row for each key, and the line that its values are read as.
 pub(crate) trait KeyedTable {
-    type Found: Line;
+    type Found: FromRow;
 
     ghost name: { TableName };
 
@@ -55,7 +55,7 @@ pub(crate) trait ChangedTable: FilledTable {
         ensures drops { (schema : Schema) → Self.Written schema → DropsRow schema Self.name result.now };
 }
 
-impl Line for String {
+impl FromRow for String {
     ghost shown = { λ row. column row 0 ∷ [] };
 
     ghost cells = { λ text. text_cells (string_bytes text) };
@@ -72,27 +72,27 @@ pub(crate) fn put<S: Alter, T: FilledTable>(
     tx: &mut Transaction<'_, S>,
     values: &[ValueRef<'_>],
 ) -> Result<(), Error>
-    ensures frame { StaysInside S.Store tx.old tx.new result }
+    ensures frame { RunsInTransaction S.Store tx.old tx.new result }
     ensures put { HasCleanDisk (state_in S.Store tx.new) → OnOk result ((schema : Schema) → T.Written schema
         → (key : KeyOf T.name) (value : ValueOf T.name)
         → bound values.now ≡ cells_of T.name key value
-        → (contents : Contents) → HoldsIn schema (state_in S.Store tx.old).now contents → IsFreeKey T.name key contents
-        → HoldsIn schema (state_in S.Store tx.new).now (with_entry T.name key value contents)) }
+        → (contents : Contents) → HoldsContents schema (state_in S.Store tx.old).now contents → IsFreeKey T.name key contents
+        → HoldsContents schema (state_in S.Store tx.new).now (with_entry T.name key value contents)) }
     ensures fault { HasCleanDisk (state_in S.Store tx.new) → IfErr result (λ e. (schema : Schema) → T.Written schema
         → (key : KeyOf T.name) (value : ValueOf T.name)
         → bound values.now ≡ cells_of T.name key value
-        → (contents : Contents) → HoldsIn schema (state_in S.Store tx.old).now contents → IsFreeKey T.name key contents
+        → (contents : Contents) → HoldsContents schema (state_in S.Store tx.old).now contents → IsFreeKey T.name key contents
         → IsTrue (refers_to T.name contents key value)
         → IsInsertFault (state_in S.Store tx.old) (state_in S.Store tx.new) e) }
     ensures room { HasCleanDisk (state_in S.Store tx.new) → OnOk result ((schema : Schema) → T.Written schema
         → (key : KeyOf T.name) (value : ValueOf T.name)
         → bound values.now ≡ cells_of T.name key value
-        → (contents : Contents) → HoldsIn schema (state_in S.Store tx.old).now contents → IsFreeKey T.name key contents
+        → (contents : Contents) → HoldsContents schema (state_in S.Store tx.old).now contents → IsFreeKey T.name key contents
         → (n : ℕ) → HasRoom ((state_in S.Store tx.old).now.trees (table_in schema T.name).tree) (n + 1) → HasRoom ((state_in S.Store tx.new).now.trees (table_in schema T.name).tree) n) }
     ensures fits { HasCleanDisk (state_in S.Store tx.new) → IfErr result (λ e. (schema : Schema) → T.Written schema
         → (key : KeyOf T.name) (value : ValueOf T.name)
         → bound values.now ≡ cells_of T.name key value
-        → (contents : Contents) → HoldsIn schema (state_in S.Store tx.old).now contents → IsFreeKey T.name key contents
+        → (contents : Contents) → HoldsContents schema (state_in S.Store tx.old).now contents → IsFreeKey T.name key contents
         → IsTrue (refers_to T.name contents key value) → (n : ℕ) → HasRoom ((state_in S.Store tx.old).now.trees (table_in schema T.name).tree) (n + 1)
         → CanBeStoredIn schema (table_in schema T.name) (cells_of T.name key value)
         → IsWriteFault (state_in S.Store tx.old) (state_in S.Store tx.new) e) }
@@ -105,14 +105,14 @@ pub(crate) fn drop<S: Alter, T: ChangedTable>(
     tx: &mut Transaction<'_, S>,
     values: &[ValueRef<'_>],
 ) -> Result<(), Error>
-    ensures frame { StaysInside S.Store tx.old tx.new result }
+    ensures frame { RunsInTransaction S.Store tx.old tx.new result }
     ensures dropped { HasCleanDisk (state_in S.Store tx.new) → OnOk result ((schema : Schema) → T.Written schema
         → (key : KeyOf T.name) → bound values.now ≡ (form_of T.name).key_cells key
-        → (contents : Contents) → HoldsIn schema (state_in S.Store tx.old).now contents
-        → HoldsIn schema (state_in S.Store tx.new).now (without_entry T.name key contents)) }
+        → (contents : Contents) → HoldsContents schema (state_in S.Store tx.old).now contents
+        → HoldsContents schema (state_in S.Store tx.new).now (without_entry T.name key contents)) }
     ensures fault { HasCleanDisk (state_in S.Store tx.new) → IfErr result (λ e. (schema : Schema) → T.Written schema
         → (key : KeyOf T.name) → bound values.now ≡ (form_of T.name).key_cells key
-        → (contents : Contents) → HoldsIn schema (state_in S.Store tx.old).now contents
+        → (contents : Contents) → HoldsContents schema (state_in S.Store tx.old).now contents
         → IsWriteFault (state_in S.Store tx.old) (state_in S.Store tx.new) e) }
 {
     run(tx, T::drop_sql(), values)
@@ -124,16 +124,16 @@ pub(crate) fn set<S: Alter, T: ChangedTable>(
     key_values: &[ValueRef<'_>],
     values: &[ValueRef<'_>],
 ) -> Result<(), Error>
-    ensures frame { StaysInside S.Store tx.old tx.new result }
+    ensures frame { RunsInTransaction S.Store tx.old tx.new result }
     ensures set { HasCleanDisk (state_in S.Store tx.new) → OnOk result ((schema : Schema) → T.Written schema
         → (key : KeyOf T.name) (value : ValueOf T.name)
         → bound key_values.now ≡ (form_of T.name).key_cells key → bound values.now ≡ cells_of T.name key value
-        → (contents : Contents) → HoldsIn schema (state_in S.Store tx.old).now contents
-        → HoldsIn schema (state_in S.Store tx.new).now (with_entry T.name key value contents)) }
+        → (contents : Contents) → HoldsContents schema (state_in S.Store tx.old).now contents
+        → HoldsContents schema (state_in S.Store tx.new).now (with_entry T.name key value contents)) }
     ensures fault { HasCleanDisk (state_in S.Store tx.new) → IfErr result (λ e. (schema : Schema) → T.Written schema
         → (key : KeyOf T.name) (value : ValueOf T.name)
         → bound key_values.now ≡ (form_of T.name).key_cells key → bound values.now ≡ cells_of T.name key value
-        → (contents : Contents) → HoldsIn schema (state_in S.Store tx.old).now contents
+        → (contents : Contents) → HoldsContents schema (state_in S.Store tx.old).now contents
         → IsTrue (refers_to T.name (without_entry T.name key contents) key value)
         → IsInsertFault (state_in S.Store tx.old) (state_in S.Store tx.new) e) }
 {
@@ -143,18 +143,18 @@ pub(crate) fn set<S: Alter, T: ChangedTable>(
 
 /// The value of a key, if it has one.
 pub(crate) fn find<S: Alter, T: KeyedTable>(
-    db: &mut Idle<S>,
+    db: &mut AutocommitConnection<S>,
     values: &[ValueRef<'_>],
 ) -> Result<Option<T::Found>, Error>
-    ensures frame { StaysIdle S.Store db.old.conn db.new.conn result }
-    ensures found { HasCleanDisk (shown db.new) → IfOk result (λ found. (schema : Schema) → HasTable T.name schema
+    ensures frame { ReadsInAutocommit S.Store db.old.conn db.new.conn result }
+    ensures found { HasCleanDisk (conn_state db.new) → IfOk result (λ found. (schema : Schema) → HasTable T.name schema
         → (key : KeyOf T.name) → bound values.now ≡ (form_of T.name).key_cells key
-        → (contents : Contents) → HoldsIn schema (shown db.old).now contents
+        → (contents : Contents) → HoldsContents schema (conn_state db.old).now contents
         → MatchOption found (get (map_of T.name contents) key ≡ None)
         (λ line. get (map_of T.name contents) key ≡ Some (T.value_of line))) }
-    ensures fault { HasCleanDisk (shown db.new) → IfErr result (λ e. (key : KeyOf T.name)
-        → bound values.now ≡ (form_of T.name).key_cells key → CanBeReadIn (HasTable T.name) (shown db.old)
-        → IsFault (shown db.old) (shown db.new) e) }
+    ensures fault { HasCleanDisk (conn_state db.new) → IfErr result (λ e. (key : KeyOf T.name)
+        → bound values.now ≡ (form_of T.name).key_cells key → CanBeReadIn (HasTable T.name) (conn_state db.old)
+        → IsFault (conn_state db.old) (conn_state db.new) e) }
 {
     first(db, T::find_sql(), values)
 }

@@ -2,9 +2,9 @@
 
 ghost use Rattle.std.specs.Prelude.{◌≡◌, None, Some, MatchOption, string_bytes};
 ghost use Rattle.std.specs.FinMap.{get};
-ghost use Rattle.reg_tables.specs.Lookups.{Finds, Lists};
+ghost use Rattle.reg_tables.specs.Lookups.{Finds, ListsTable};
 ghost use Rattle.reg_tables.specs.Changes.{with_level, without_level};
-ghost use Rattle.reg_tables.specs.Writing.{Alters};
+ghost use Rattle.reg_tables.specs.Writing.{AppliesChange};
 ghost use Rattle.reg_tables.specs.FailedCalls.{IsWriteFault, IsInsertFault};
 ghost use Rattle.reg_tables.specs.Contents.{TableName, pair_form};
 ghost use Rattle.reg_tables.specs.Layout.{IsLayoutTwo, HasFiveTables};
@@ -12,9 +12,9 @@ ghost use Rattle.reg_tables.specs.Listings.{RowParts, parts_of, entry_parts, lev
 ghost use Rattle.reg_tables.specs.Inside.ReadableRows.{IsReadablePair};
 ghost use Rattle.reg_tables.specs.Reads.{CanBeRead};
 
-use crate::idle::Idle;
+use crate::autocommit::AutocommitConnection;
 use crate::keyed::{ChangedTable, FilledTable, KeyedTable, drop, find, set};
-use crate::statement::{Line, list};
+use crate::statement::{FromRow, list};
 use sqlite::{Alter, Error, Row, Transaction, params};
 use std::alloc::Global;
 
@@ -49,13 +49,13 @@ impl ChangedTable for Levels {
 
 /// A row of `levels`.
 #[derive(Debug, Drop)]
-pub struct LevelLine {
+pub struct RawLevel {
     pub rowid: i64,
     pub subject: String,
     pub level: String,
 }
 
-impl Line for LevelLine {
+impl FromRow for RawLevel {
     ghost Cells = { RowParts };
 
     ghost shown = { parts_of pair_form };
@@ -64,8 +64,8 @@ impl Line for LevelLine {
 
     ghost is_readable = { IsReadablePair };
 
-    fn read(row: &Row) -> Result<LevelLine, Error> {
-        Ok(LevelLine {
+    fn read(row: &Row) -> Result<RawLevel, Error> {
+        Ok(RawLevel {
             rowid: row.get(0)?,
             subject: row.get(1)?,
             level: row.get(2)?,
@@ -81,7 +81,7 @@ impl Line for LevelLine {
 /// `TransactionState` where a failure has ended the transaction; another where the tables aren't
 /// a layout's. Nothing is committed, and the transaction is to be rolled back.
 pub fn drop_level<S: Alter>(tx: &mut Transaction<'_, S>, subject: &str) -> Result<(), Error>
-    ensures { Alters IsWriteFault S.Store tx.old tx.new result (without_level subject.now) }
+    ensures { AppliesChange IsWriteFault S.Store tx.old tx.new result (without_level subject.now) }
 {
     drop::<S, Levels>(tx, params![subject])
 }
@@ -100,7 +100,7 @@ pub fn set_level<S: Alter>(
     subject: &str,
     level: &str,
 ) -> Result<(), Error>
-    ensures { Alters IsInsertFault S.Store tx.old tx.new result (with_level subject.now level.now) }
+    ensures { AppliesChange IsInsertFault S.Store tx.old tx.new result (with_level subject.now level.now) }
 {
     set::<S, Levels>(tx, params![subject], params![subject, level])
 }
@@ -111,7 +111,10 @@ pub fn set_level<S: Alter>(
 ///
 /// `OutOfMemory`, a fault of the disk, or `OperationInterrupted` at the limit on steps; where the
 /// tables can't be read, another error too. Nothing is changed.
-pub fn own_level<S: Alter>(db: &mut Idle<S>, subject: &str) -> Result<Option<String>, Error>
+pub fn own_level<S: Alter>(
+    db: &mut AutocommitConnection<S>,
+    subject: &str,
+) -> Result<Option<String>, Error>
     ensures { Finds TableName.Levels db.old db.new result (λ contents found.
         MatchOption found (get contents.levels subject.now ≡ None)
         (λ level. get contents.levels subject.now ≡ Some (string_bytes level))) }
@@ -125,8 +128,11 @@ pub fn own_level<S: Alter>(db: &mut Idle<S>, subject: &str) -> Result<Option<Str
 ///
 /// `OutOfMemory`, a fault of the disk, or `OperationInterrupted` at the limit on steps; another
 /// where a row holds what the line can't. Nothing is changed.
-pub fn level_lines<S: Alter>(alloc: Global, db: &mut Idle<S>) -> Result<Vec<LevelLine>, Error>
-    ensures { Lists db.old db.new result HasFiveTables CanBeRead ListsLevels }
+pub fn raw_levels<S: Alter>(
+    alloc: Global,
+    db: &mut AutocommitConnection<S>,
+) -> Result<Vec<RawLevel>, Error>
+    ensures { ListsTable db.old db.new result HasFiveTables CanBeRead ListsLevels }
 {
     list(alloc, db, "SELECT rowid, subject, level FROM levels", &[])
 }

@@ -3,7 +3,7 @@
 //!
 //! A call that changes the tables takes a transaction. On `Ok` the contents are changed as its
 //! clause says, and whatever it answers nothing is committed: that is the caller's commit.
-//! A call that only reads takes a connection outside a transaction (`Idle`). What a call says of the
+//! A call that only reads takes a connection outside a transaction (`AutocommitConnection`). What a call says of the
 //! contents holds where the disk has returned what was written to it (`HasCleanDisk`). Errors are
 //! `sqlite`'s, and a clause `fault` says which of them are left where the tables are as it asks:
 //! codes of `SqliteFailure`, where a fault of the disk is `SystemIoFailure`, `DatabaseCorrupt`,
@@ -11,44 +11,42 @@
 
 #![tactic(auto)]
 
+mod autocommit;
 mod creation;
 mod declared;
 mod evidence;
-mod idle;
 mod kept;
 mod keyed;
 mod levels;
 mod listed;
 mod meta;
 mod modes;
+mod raw_texts;
 mod statement;
-mod text_lines;
 mod texts;
 mod versions;
 mod with_id;
 
+pub use autocommit::AutocommitConnection;
 pub use creation::{add_tables, create_layout_one, create_layout_two, index_versions};
 pub use declared::{
     has_layout_one, has_layout_two, has_no_tables, is_unindexed_one, is_unindexed_two,
 };
 pub use evidence::{
-    AgainstLine, EvidenceLine, against_at, against_count, against_of, evidence_lines, evidence_of,
-    put_against, put_evidence,
+    RawAgainst, RawEvidence, against_at, against_count, against_of, evidence_of, put_against,
+    put_evidence, raw_evidence,
 };
-pub use idle::Idle;
-pub use kept::{KeptLine, KeptReply, keep_reply, kept_lines, kept_reply};
-pub use levels::{LevelLine, drop_level, level_lines, own_level, set_level};
+pub use kept::{KeptReply, RawKept, keep_reply, kept_reply, raw_kept};
+pub use levels::{RawLevel, drop_level, own_level, raw_levels, set_level};
 pub use listed::{
-    ListedVersion, SubjectVersion, a_version_of_id, all_versions, first_version_behind,
+    ListedVersion, SubjectVersion, all_versions, any_version_of_id, first_version_after,
     last_live_version_of, last_version_of, next_version_of, versions_of, versions_of_id,
 };
-pub use meta::{
-    MetaLine, global_level, meta_lines, number_layout_two, set_global, set_global_mode,
-};
-pub use modes::{ModeLine, drop_mode, mode_lines, own_mode, set_mode};
-pub use text_lines::{TextLine, text_ids, texts_between};
+pub use meta::{RawMeta, global_level, mark_layout_two, raw_meta, set_global, set_global_mode};
+pub use modes::{RawMode, drop_mode, own_mode, raw_modes, set_mode};
+pub use raw_texts::{RawText, text_ids, texts_between};
 pub use texts::{id_of, last_id, put_text, text_of};
 pub use versions::{
-    VersionEntry, VersionLine, drop_version, mark_deleted, put_version, version_lines, version_of,
+    RawVersion, VersionEntry, drop_version, mark_deleted, put_version, raw_versions, version_of,
 };
-pub use with_id::{MOST, last_version_with_id, some_versions_of_id};
+pub use with_id::{VERSIONS_LIMIT, last_version_with_id, some_versions_of_id};

@@ -5,12 +5,12 @@ ghost use Rattle.std.specs.Ordering.{is_gt, nat_cmp};
 ghost use Rattle.std.specs.List.{last_or};
 ghost use Rattle.std.specs.FinMap.{entries, get};
 ghost use Rattle.sqlite.specs.Order.{column};
-ghost use Rattle.reg_tables.specs.Contents.{VersionRow, TableName, text_cmp};
+ghost use Rattle.reg_tables.specs.Contents.{VersionEntryView, TableName, text_cmp};
 ghost use Rattle.reg_tables.specs.Lookups.{Finds};
-ghost use Rattle.reg_tables.specs.Entries.{numbered, numbered_cells, subject_versions, IsReadableNumbered, keyed, keyed_cells, id_versions, IsReadableKeyed};
+ghost use Rattle.reg_tables.specs.Entries.{subject_version_view, subject_version_cells, subject_versions, IsReadableSubjectVersion, listed_version_view, listed_version_cells, id_versions, IsReadableListedVersion};
 
-use crate::idle::Idle;
-use crate::statement::{Line, first, list};
+use crate::autocommit::AutocommitConnection;
+use crate::statement::{FromRow, first, list};
 use crate::versions::flag_in;
 use sqlite::{Alter, Error, Row, params};
 use std::alloc::Global;
@@ -32,12 +32,12 @@ pub struct ListedVersion {
     pub deleted: bool,
 }
 
-impl Line for SubjectVersion {
+impl FromRow for SubjectVersion {
     ghost shown = { λ row. column row 0 ∷ column row 1 ∷ column row 2 ∷ [] };
 
-    ghost cells = { λ line. numbered_cells (numbered line) };
+    ghost cells = { λ line. subject_version_cells (subject_version_view line) };
 
-    ghost is_readable = { IsReadableNumbered };
+    ghost is_readable = { IsReadableSubjectVersion };
 
     fn read(row: &Row) -> Result<SubjectVersion, Error> {
         Ok(SubjectVersion {
@@ -48,12 +48,12 @@ impl Line for SubjectVersion {
     }
 }
 
-impl Line for ListedVersion {
+impl FromRow for ListedVersion {
     ghost shown = { λ row. column row 0 ∷ column row 1 ∷ column row 2 ∷ column row 3 ∷ [] };
 
-    ghost cells = { λ line. keyed_cells (keyed line) };
+    ghost cells = { λ line. listed_version_cells (listed_version_view line) };
 
-    ghost is_readable = { IsReadableKeyed };
+    ghost is_readable = { IsReadableListedVersion };
 
     fn read(row: &Row) -> Result<ListedVersion, Error> {
         Ok(ListedVersion {
@@ -73,11 +73,11 @@ impl Line for ListedVersion {
 /// tables can't be read, another error too. Nothing is changed.
 pub fn versions_of<S: Alter>(
     alloc: Global,
-    db: &mut Idle<S>,
+    db: &mut AutocommitConnection<S>,
     subject: &str,
 ) -> Result<Vec<SubjectVersion>, Error>
     ensures { Finds TableName.Versions db.old db.new result (λ contents lines.
-        map numbered lines.items ≡ subject_versions subject.now contents) }
+        map subject_version_view lines.items ≡ subject_versions subject.now contents) }
 {
     list(
         alloc,
@@ -94,11 +94,11 @@ pub fn versions_of<S: Alter>(
 /// `OutOfMemory`, a fault of the disk, or `OperationInterrupted` at the limit on steps; where the
 /// tables can't be read, another error too. Nothing is changed.
 pub fn last_version_of<S: Alter>(
-    db: &mut Idle<S>,
+    db: &mut AutocommitConnection<S>,
     subject: &str,
 ) -> Result<Option<SubjectVersion>, Error>
     ensures { Finds TableName.Versions db.old db.new result (λ contents found.
-        option_map numbered found ≡ last_or None (subject_versions subject.now contents)) }
+        option_map subject_version_view found ≡ last_or None (subject_versions subject.now contents)) }
 {
     first(
         db,
@@ -115,11 +115,11 @@ pub fn last_version_of<S: Alter>(
 /// `OutOfMemory`, a fault of the disk, or `OperationInterrupted` at the limit on steps; where the
 /// tables can't be read, another error too. Nothing is changed.
 pub fn last_live_version_of<S: Alter>(
-    db: &mut Idle<S>,
+    db: &mut AutocommitConnection<S>,
     subject: &str,
 ) -> Result<Option<SubjectVersion>, Error>
     ensures { Finds TableName.Versions db.old db.new result (λ contents found.
-        option_map numbered found
+        option_map subject_version_view found
         ≡ last_or None (filter (λ version. not version.1.deleted) (subject_versions subject.now contents))) }
 {
     first(
@@ -136,12 +136,12 @@ pub fn last_live_version_of<S: Alter>(
 /// `OutOfMemory`, a fault of the disk, or `OperationInterrupted` at the limit on steps; where the
 /// tables can't be read, another error too. Nothing is changed.
 pub fn next_version_of<S: Alter>(
-    db: &mut Idle<S>,
+    db: &mut AutocommitConnection<S>,
     subject: &str,
     number: u32,
 ) -> Result<Option<SubjectVersion>, Error>
     ensures { Finds TableName.Versions db.old db.new result (λ contents found.
-        option_map numbered found
+        option_map subject_version_view found
         ≡ find (λ version. is_gt (nat_cmp version.0 number)) (subject_versions subject.now contents)) }
 {
     first(
@@ -157,12 +157,12 @@ pub fn next_version_of<S: Alter>(
 ///
 /// `OutOfMemory`, a fault of the disk, or `OperationInterrupted` at the limit on steps; where the
 /// tables can't be read, another error too. Nothing is changed.
-pub fn first_version_behind<S: Alter>(
-    db: &mut Idle<S>,
+pub fn first_version_after<S: Alter>(
+    db: &mut AutocommitConnection<S>,
     subject: &str,
 ) -> Result<Option<ListedVersion>, Error>
     ensures { Finds TableName.Versions db.old db.new result (λ contents found.
-        option_map keyed found
+        option_map listed_version_view found
         ≡ find (λ entry. is_gt (text_cmp entry.0.0 subject.now)) (entries contents.versions)) }
 {
     first(
@@ -180,11 +180,11 @@ pub fn first_version_behind<S: Alter>(
 /// tables can't be read, another error too. Nothing is changed.
 pub fn versions_of_id<S: Alter>(
     alloc: Global,
-    db: &mut Idle<S>,
+    db: &mut AutocommitConnection<S>,
     id: u32,
 ) -> Result<Vec<ListedVersion>, Error>
     ensures { Finds TableName.Versions db.old db.new result (λ contents lines.
-        map keyed lines.items ≡ id_versions id contents) }
+        map listed_version_view lines.items ≡ id_versions id contents) }
 {
     list(
         alloc,
@@ -200,11 +200,14 @@ pub fn versions_of_id<S: Alter>(
 ///
 /// `OutOfMemory`, a fault of the disk, or `OperationInterrupted` at the limit on steps; where the
 /// tables can't be read, another error too. Nothing is changed.
-pub fn a_version_of_id<S: Alter>(db: &mut Idle<S>, id: u32) -> Result<Option<ListedVersion>, Error>
+pub fn any_version_of_id<S: Alter>(
+    db: &mut AutocommitConnection<S>,
+    id: u32,
+) -> Result<Option<ListedVersion>, Error>
     ensures { Finds TableName.Versions db.old db.new result (λ contents found.
-        MatchOption found ((key : List ℕ × ℕ) (version : VersionRow)
+        MatchOption found ((key : List ℕ × ℕ) (version : VersionEntryView)
         → get contents.versions key ≡ Some version → version.id ≢ id)
-        (λ line. (get contents.versions (keyed line).0 ≡ Some (keyed line).1) × (line.id ≡ id))) }
+        (λ line. (get contents.versions (listed_version_view line).0 ≡ Some (listed_version_view line).1) × (line.id ≡ id))) }
 {
     first(
         db,
@@ -219,9 +222,12 @@ pub fn a_version_of_id<S: Alter>(db: &mut Idle<S>, id: u32) -> Result<Option<Lis
 ///
 /// `OutOfMemory`, a fault of the disk, or `OperationInterrupted` at the limit on steps; where the
 /// tables can't be read, another error too. Nothing is changed.
-pub fn all_versions<S: Alter>(alloc: Global, db: &mut Idle<S>) -> Result<Vec<ListedVersion>, Error>
+pub fn all_versions<S: Alter>(
+    alloc: Global,
+    db: &mut AutocommitConnection<S>,
+) -> Result<Vec<ListedVersion>, Error>
     ensures { Finds TableName.Versions db.old db.new result (λ contents lines.
-        map keyed lines.items ≡ entries contents.versions) }
+        map listed_version_view lines.items ≡ entries contents.versions) }
 {
     list(
         alloc,

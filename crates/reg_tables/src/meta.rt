@@ -2,24 +2,24 @@
 
 ghost use Rattle.std.specs.Prelude.{◌≡◌, ◌+◌, ℕ, [], ◌∷◌, None, Some, IfErr, MatchOption, codes, string_bytes, ◌⊎◌, IfOk};
 ghost use Rattle.std.specs.FinMap.{get};
-ghost use Rattle.reg_tables.specs.Frames.{shown};
+ghost use Rattle.reg_tables.specs.Frames.{conn_state};
 ghost use Rattle.sqlite.specs.State.{HasCleanDisk};
 ghost use Rattle.sqlite.specs.declared.types.Value.TheVariants.{Text};
 ghost use Rattle.reg_tables.specs.Layout.{meta, TakesMeta, HasFiveTables};
-ghost use Rattle.reg_tables.specs.Lookups.{Finds, Lists};
+ghost use Rattle.reg_tables.specs.Lookups.{Finds, ListsTable};
 ghost use Rattle.reg_tables.specs.Rooms.{HasRoom, CanBeStored};
-ghost use Rattle.reg_tables.specs.Contents.{Contents, Holds, TableName, pair_form};
-ghost use Rattle.reg_tables.specs.Changes.{with_meta, with_global, with_global_mode, numbered_layout_two};
-ghost use Rattle.reg_tables.specs.Writing.{Alters, Turns};
+ghost use Rattle.reg_tables.specs.Contents.{Contents, HoldsLayoutOne, TableName, pair_form};
+ghost use Rattle.reg_tables.specs.Changes.{with_meta, with_global, with_global_mode, marked_layout_two};
+ghost use Rattle.reg_tables.specs.Writing.{AppliesChange, Transforms};
 ghost use Rattle.reg_tables.specs.FailedCalls.{IsWriteFault, IsInsertFault, IsFault, IsRefused, IsUnreadable};
 ghost use Rattle.reg_tables.specs.Listings.{RowParts, parts_of, entry_parts, meta_entry, ListsMeta};
 ghost use Rattle.reg_tables.specs.Inside.ReadableRows.{IsReadablePair};
-ghost use Rattle.reg_tables.specs.Reads.{CanTellMeta};
+ghost use Rattle.reg_tables.specs.Reads.{CanReadMeta};
 ghost use Rattle.reg_tables.specs.Selects.{ReadsMeta};
 
-use crate::idle::Idle;
+use crate::autocommit::AutocommitConnection;
 use crate::keyed::{ChangedTable, FilledTable, KeyedTable, find, put, set};
-use crate::statement::{Line, list};
+use crate::statement::{FromRow, list};
 use sqlite::{Alter, Error, Row, Transaction, params};
 use std::alloc::Global;
 
@@ -54,13 +54,13 @@ impl ChangedTable for Meta {
 
 /// A row of `meta`.
 #[derive(Debug, Drop)]
-pub struct MetaLine {
+pub struct RawMeta {
     pub rowid: i64,
     pub name: String,
     pub value: String,
 }
 
-impl Line for MetaLine {
+impl FromRow for RawMeta {
     ghost Cells = { RowParts };
 
     ghost shown = { parts_of pair_form };
@@ -69,8 +69,8 @@ impl Line for MetaLine {
 
     ghost is_readable = { IsReadablePair };
 
-    fn read(row: &Row) -> Result<MetaLine, Error> {
-        Ok(MetaLine {
+    fn read(row: &Row) -> Result<RawMeta, Error> {
+        Ok(RawMeta {
             rowid: row.get(0)?,
             name: row.get(1)?,
             value: row.get(2)?,
@@ -84,17 +84,17 @@ pub(crate) fn put_meta<S: Alter>(
     name: &str,
     value: &str,
 ) -> Result<(), Error>
-    ensures { Turns IsWriteFault S.Store tx.old tx.new result
-        (λ (about : Contents × ℕ) db. Holds db about.0 × (get about.0.meta name.now ≡ None)
+    ensures { Transforms IsWriteFault S.Store tx.old tx.new result
+        (λ (about : Contents × ℕ) db. HoldsLayoutOne db about.0 × (get about.0.meta name.now ≡ None)
         × HasRoom (db.trees meta.tree) (about.1 + 1) × CanBeStored meta (Text name.now ∷ Text value.now ∷ []))
-        (λ about db. Holds db (with_meta name.now value.now about.0) × HasRoom (db.trees meta.tree) about.1) }
+        (λ about db. HoldsLayoutOne db (with_meta name.now value.now about.0) × HasRoom (db.trees meta.tree) about.1) }
 {
     put::<S, Meta>(tx, params![name, value])
 }
 
 /// Says a value under a name, in place of the one that it may have.
 fn set_meta<S: Alter>(tx: &mut Transaction<'_, S>, name: &str, value: &str) -> Result<(), Error>
-    ensures { Alters IsInsertFault S.Store tx.old tx.new result (with_meta name.now value.now) }
+    ensures { AppliesChange IsInsertFault S.Store tx.old tx.new result (with_meta name.now value.now) }
 {
     set::<S, Meta>(tx, params![name], params![name, value])
 }
@@ -109,7 +109,7 @@ fn set_meta<S: Alter>(tx: &mut Transaction<'_, S>, name: &str, value: &str) -> R
 /// row; another where the tables aren't a layout's. Nothing is committed, and the transaction is
 /// to be rolled back.
 pub fn set_global<S: Alter>(tx: &mut Transaction<'_, S>, level: &str) -> Result<(), Error>
-    ensures { Alters IsInsertFault S.Store tx.old tx.new result (with_global level.now) }
+    ensures { AppliesChange IsInsertFault S.Store tx.old tx.new result (with_global level.now) }
 {
     set_meta(tx, "global", level)
 }
@@ -120,7 +120,7 @@ pub fn set_global<S: Alter>(tx: &mut Transaction<'_, S>, level: &str) -> Result<
 ///
 /// As `set_global`.
 pub fn set_global_mode<S: Alter>(tx: &mut Transaction<'_, S>, mode: &str) -> Result<(), Error>
-    ensures { Alters IsInsertFault S.Store tx.old tx.new result (with_global_mode mode.now) }
+    ensures { AppliesChange IsInsertFault S.Store tx.old tx.new result (with_global_mode mode.now) }
 {
     set_meta(tx, "mode", mode)
 }
@@ -131,8 +131,8 @@ pub fn set_global_mode<S: Alter>(tx: &mut Transaction<'_, S>, mode: &str) -> Res
 /// # Errors
 ///
 /// As `set_global`.
-pub fn number_layout_two<S: Alter>(tx: &mut Transaction<'_, S>) -> Result<(), Error>
-    ensures { Alters IsInsertFault S.Store tx.old tx.new result numbered_layout_two }
+pub fn mark_layout_two<S: Alter>(tx: &mut Transaction<'_, S>) -> Result<(), Error>
+    ensures { AppliesChange IsInsertFault S.Store tx.old tx.new result marked_layout_two }
 {
     set_meta(tx, "layout", "2")?;
     set_global_mode(tx, "READWRITE")
@@ -144,7 +144,7 @@ pub fn number_layout_two<S: Alter>(tx: &mut Transaction<'_, S>) -> Result<(), Er
 ///
 /// `OutOfMemory`, a fault of the disk, or `OperationInterrupted` at the limit on steps; where the
 /// tables can't be read, another error too. Nothing is changed.
-pub fn global_level<S: Alter>(db: &mut Idle<S>) -> Result<Option<String>, Error>
+pub fn global_level<S: Alter>(db: &mut AutocommitConnection<S>) -> Result<Option<String>, Error>
     ensures { Finds TableName.Meta db.old db.new result (λ contents found.
         MatchOption found (get contents.meta (codes "global") ≡ None)
         (λ level. get contents.meta (codes "global") ≡ Some (string_bytes level))) }
@@ -159,12 +159,15 @@ pub fn global_level<S: Alter>(db: &mut Idle<S>) -> Result<Option<String>, Error>
 ///
 /// `OutOfMemory`, a disk fault, or `OperationInterrupted` at the limit on steps; another error if
 /// SQLite rejects the statement or a row doesn't fit the line. Nothing is changed.
-pub fn meta_lines<S: Alter>(alloc: Global, db: &mut Idle<S>) -> Result<Vec<MetaLine>, Error>
-    ensures lists { Lists db.old db.new result HasFiveTables CanTellMeta ListsMeta }
-    ensures reads { HasCleanDisk (shown db.new)
-        → IfOk result (λ lines. ReadsMeta (shown db.old).now lines.items) }
-    ensures fails { HasCleanDisk (shown db.new) → IfErr result (λ e.
-        IsFault (shown db.old) (shown db.new) e ⊎ (IsRefused e ⊎ IsUnreadable e)) }
+pub fn raw_meta<S: Alter>(
+    alloc: Global,
+    db: &mut AutocommitConnection<S>,
+) -> Result<Vec<RawMeta>, Error>
+    ensures lists { ListsTable db.old db.new result HasFiveTables CanReadMeta ListsMeta }
+    ensures reads { HasCleanDisk (conn_state db.new)
+        → IfOk result (λ lines. ReadsMeta (conn_state db.old).now lines.items) }
+    ensures fails { HasCleanDisk (conn_state db.new) → IfErr result (λ e.
+        IsFault (conn_state db.old) (conn_state db.new) e ⊎ (IsRefused e ⊎ IsUnreadable e)) }
 {
     list(alloc, db, "SELECT rowid, name, value FROM meta", &[])
 }

@@ -4,19 +4,19 @@ ghost use Rattle.std.specs.Prelude.{◌≡◌, ◌⊎◌, ⊤, ℕ, List, None, 
 ghost use Rattle.std.specs.FinMap.{get};
 ghost use Rattle.sqlite.specs.Schema.{Schema};
 ghost use Rattle.reg_tables.specs.Contents.{pair_form, TableName};
-ghost use Rattle.reg_tables.specs.Lookups.{Lists};
+ghost use Rattle.reg_tables.specs.Lookups.{ListsTable};
 ghost use Rattle.reg_tables.specs.Listings.{RowParts, parts_of, entry_parts, mode_entry, ListsModes};
 ghost use Rattle.reg_tables.specs.Layout.{IsLayoutTwo, HasEightTables};
 ghost use Rattle.reg_tables.specs.Reads.{CanBeReadIn};
-ghost use Rattle.reg_tables.specs.Writing.{Alters};
+ghost use Rattle.reg_tables.specs.Writing.{AppliesChange};
 ghost use Rattle.reg_tables.specs.Changes.{with_mode, without_mode};
 ghost use Rattle.reg_tables.specs.FailedCalls.{IsWriteFault, IsInsertFault};
 ghost use Rattle.reg_tables.specs.Inside.ReadableRows.{IsReadablePair};
 ghost use Rattle.reg_tables.specs.Lookups.{Finds};
 
-use crate::idle::Idle;
+use crate::autocommit::AutocommitConnection;
 use crate::keyed::{ChangedTable, FilledTable, KeyedTable, drop, find, set};
-use crate::statement::{Line, list};
+use crate::statement::{FromRow, list};
 use sqlite::{Alter, Error, Row, Transaction, params};
 use std::alloc::Global;
 
@@ -51,13 +51,13 @@ impl ChangedTable for Modes {
 
 /// A row of `modes`.
 #[derive(Debug, Drop)]
-pub struct ModeLine {
+pub struct RawMode {
     pub rowid: i64,
     pub subject: String,
     pub mode: String,
 }
 
-impl Line for ModeLine {
+impl FromRow for RawMode {
     ghost Cells = { RowParts };
 
     ghost shown = { parts_of pair_form };
@@ -66,8 +66,8 @@ impl Line for ModeLine {
 
     ghost is_readable = { IsReadablePair };
 
-    fn read(row: &Row) -> Result<ModeLine, Error> {
-        Ok(ModeLine {
+    fn read(row: &Row) -> Result<RawMode, Error> {
+        Ok(RawMode {
             rowid: row.get(0)?,
             subject: row.get(1)?,
             mode: row.get(2)?,
@@ -83,7 +83,7 @@ impl Line for ModeLine {
 /// `TransactionState` where a failure has ended the transaction; another where the tables aren't
 /// the layout's. Nothing is committed, and the transaction is to be rolled back.
 pub fn drop_mode<S: Alter>(tx: &mut Transaction<'_, S>, subject: &str) -> Result<(), Error>
-    ensures { Alters IsWriteFault S.Store tx.old tx.new result (without_mode subject.now) }
+    ensures { AppliesChange IsWriteFault S.Store tx.old tx.new result (without_mode subject.now) }
 {
     drop::<S, Modes>(tx, params![subject])
 }
@@ -102,7 +102,7 @@ pub fn set_mode<S: Alter>(
     subject: &str,
     mode: &str,
 ) -> Result<(), Error>
-    ensures { Alters IsInsertFault S.Store tx.old tx.new result (with_mode subject.now mode.now) }
+    ensures { AppliesChange IsInsertFault S.Store tx.old tx.new result (with_mode subject.now mode.now) }
 {
     set::<S, Modes>(tx, params![subject], params![subject, mode])
 }
@@ -113,7 +113,10 @@ pub fn set_mode<S: Alter>(
 ///
 /// `OutOfMemory`, a fault of the disk, or `OperationInterrupted` at the limit on steps; where the
 /// tables can't be read, another error too. Nothing is changed.
-pub fn own_mode<S: Alter>(db: &mut Idle<S>, subject: &str) -> Result<Option<String>, Error>
+pub fn own_mode<S: Alter>(
+    db: &mut AutocommitConnection<S>,
+    subject: &str,
+) -> Result<Option<String>, Error>
     ensures { Finds TableName.Modes db.old db.new result (λ contents found.
         MatchOption found (get contents.modes subject.now ≡ None)
         (λ mode. get contents.modes subject.now ≡ Some (string_bytes mode))) }
@@ -127,8 +130,11 @@ pub fn own_mode<S: Alter>(db: &mut Idle<S>, subject: &str) -> Result<Option<Stri
 ///
 /// `OutOfMemory`, a fault of the disk, or `OperationInterrupted` at the limit on steps; another
 /// where a row holds what the line can't. Nothing is changed.
-pub fn mode_lines<S: Alter>(alloc: Global, db: &mut Idle<S>) -> Result<Vec<ModeLine>, Error>
-    ensures { Lists db.old db.new result HasEightTables (CanBeReadIn HasEightTables) ListsModes }
+pub fn raw_modes<S: Alter>(
+    alloc: Global,
+    db: &mut AutocommitConnection<S>,
+) -> Result<Vec<RawMode>, Error>
+    ensures { ListsTable db.old db.new result HasEightTables (CanBeReadIn HasEightTables) ListsModes }
 {
     list(alloc, db, "SELECT rowid, subject, mode FROM modes", &[])
 }

@@ -4,12 +4,12 @@
 ghost use Rattle.std.specs.Prelude.{◌≡◌, ◌⊎◌, ◌≤◌, ℕ, Ok, Err, IfErr, OnOk, IfOk, List, map, slice_get, option_map, All, false};
 ghost use Rattle.sqlite.specs.Order.{Row as SqlRow};
 ghost use Rattle.sqlite.specs.Held.{Held, state};
-ghost use Rattle.reg_tables.specs.Frames.{once_begun, shown, state_in, StaysInside, StaysIdle};
+ghost use Rattle.reg_tables.specs.Frames.{after_begin, conn_state, state_in, RunsInTransaction, ReadsInAutocommit};
 ghost use Rattle.sqlite.specs.State.{HasCleanDisk, ExecutesInside, Shown, FailsToQuery, IsTooLate};
 ghost use Rattle.sqlite.specs.Values.{bound};
 ghost use Rattle.reg_tables.specs.Inside.FailedLists.{IsReadingError, FailsToList};
 
-use crate::idle::Idle;
+use crate::autocommit::AutocommitConnection;
 use sqlite::types::ValueRef;
 use sqlite::{Alter, Error, ErrorCode, Row, Transaction};
 use std::alloc::Global;
@@ -20,7 +20,7 @@ pub(crate) fn run<S: Alter>(
     sql: &str,
     values: &[ValueRef<'_>],
 ) -> Result<(), Error>
-    ensures frame { StaysInside S.Store tx.old tx.new result }
+    ensures frame { RunsInTransaction S.Store tx.old tx.new result }
     ensures runs { HasCleanDisk (state_in S.Store tx.new) → OnOk result ((count : ℕ)
         × ExecutesInside 0 sql.now (bound values.now) (state_in S.Store tx.old)
         (state_in S.Store tx.new) (Ok count)) }
@@ -36,19 +36,19 @@ pub(crate) fn run<S: Alter>(
 
 /// The rows that a query shows. Whatever the text is, nothing is committed.
 pub(crate) fn ask<S: Alter>(
-    db: &mut Idle<S>,
+    db: &mut AutocommitConnection<S>,
     sql: &str,
     values: &[ValueRef<'_>],
 ) -> Result<Vec<Row>, Error>
-    ensures frame { StaysIdle S.Store db.old.conn db.new.conn result }
-    ensures shown { HasCleanDisk (shown db.new) → IfOk result (λ rows. (last : Held S)
-        × Shown sql.now (bound values.now) (once_begun S.Store db.old.conn)
+    ensures frame { ReadsInAutocommit S.Store db.old.conn db.new.conn result }
+    ensures shown { HasCleanDisk (conn_state db.new) → IfOk result (λ rows. (last : Held S)
+        × Shown sql.now (bound values.now) (after_begin S.Store db.old.conn)
         (state S.Store last) rows.items) }
-    ensures failed { HasCleanDisk (shown db.new) → IfErr result (λ e. (last : Held S)
-        × ((state S.Store last).faults ≤ (shown db.new).faults)
-        × (FailsToQuery sql.now (bound values.now) (once_begun S.Store db.old.conn)
+    ensures failed { HasCleanDisk (conn_state db.new) → IfErr result (λ e. (last : Held S)
+        × ((state S.Store last).faults ≤ (conn_state db.new).faults)
+        × (FailsToQuery sql.now (bound values.now) (after_begin S.Store db.old.conn)
         (state S.Store last) e
-        ⊎ IsTooLate sql.now (bound values.now) (once_begun S.Store db.old.conn)
+        ⊎ IsTooLate sql.now (bound values.now) (after_begin S.Store db.old.conn)
         (state S.Store last) e)) }
 {
     let mut tx = db.conn.transaction();
@@ -58,7 +58,7 @@ pub(crate) fn ask<S: Alter>(
 }
 
 /// A line of a list, as it is read from a row that a query shows.
-pub(crate) trait Line: Sized {
+pub(crate) trait FromRow: Sized {
     // The cells that are read: a row, or its parts.
     ghost Cells: { Type 0 } = { SqlRow };
 
@@ -77,7 +77,7 @@ pub(crate) trait Line: Sized {
 }
 
 /// The lines of the rows. Each row is let go once it is read, so no text is held twice.
-fn lines_in<L: Line + Drop>(alloc: Global, rows: Vec<Row>) -> Result<Vec<L>, Error>
+fn lines_in<L: FromRow + Drop>(alloc: Global, rows: Vec<Row>) -> Result<Vec<L>, Error>
     ensures ok { IfOk result (λ lines. map L.shown rows.items ≡ map L.cells lines.items) }
     ensures err { IfErr result (λ e. (All L.is_readable rows.items
         → e ≡ Error.SqliteFailure ErrorCode.OutOfMemory) × IsReadingError e) }
@@ -90,39 +90,39 @@ fn lines_in<L: Line + Drop>(alloc: Global, rows: Vec<Row>) -> Result<Vec<L>, Err
 }
 
 /// The lines of the rows that a query shows.
-pub(crate) fn list<S: Alter, L: Line + Drop>(
+pub(crate) fn list<S: Alter, L: FromRow + Drop>(
     alloc: Global,
-    db: &mut Idle<S>,
+    db: &mut AutocommitConnection<S>,
     sql: &str,
     values: &[ValueRef<'_>],
 ) -> Result<Vec<L>, Error>
-    ensures frame { StaysIdle S.Store db.old.conn db.new.conn result }
-    ensures read { HasCleanDisk (shown db.new) → IfOk result (λ lines. (last : Held S)
+    ensures frame { ReadsInAutocommit S.Store db.old.conn db.new.conn result }
+    ensures read { HasCleanDisk (conn_state db.new) → IfOk result (λ lines. (last : Held S)
         × (found : List SqlRow)
-        × Shown sql.now (bound values.now) (once_begun S.Store db.old.conn) (state S.Store last) found
+        × Shown sql.now (bound values.now) (after_begin S.Store db.old.conn) (state S.Store last) found
         × (map L.shown found ≡ map L.cells lines.items)) }
-    ensures failed { HasCleanDisk (shown db.new) → IfErr result (λ e. (last : Held S)
-        × FailsToList L.is_readable sql.now (bound values.now) (once_begun S.Store db.old.conn)
-        (state S.Store last) (shown db.new) e) }
+    ensures failed { HasCleanDisk (conn_state db.new) → IfErr result (λ e. (last : Held S)
+        × FailsToList L.is_readable sql.now (bound values.now) (after_begin S.Store db.old.conn)
+        (state S.Store last) (conn_state db.new) e) }
 {
     let rows = ask(db, sql, values)?;
     lines_in(alloc, rows)
 }
 
 /// The line of the first row that a query shows, if it shows one.
-pub(crate) fn first<S: Alter, L: Line>(
-    db: &mut Idle<S>,
+pub(crate) fn first<S: Alter, L: FromRow>(
+    db: &mut AutocommitConnection<S>,
     sql: &str,
     values: &[ValueRef<'_>],
 ) -> Result<Option<L>, Error>
-    ensures frame { StaysIdle S.Store db.old.conn db.new.conn result }
-    ensures read { HasCleanDisk (shown db.new) → IfOk result (λ line. (last : Held S)
+    ensures frame { ReadsInAutocommit S.Store db.old.conn db.new.conn result }
+    ensures read { HasCleanDisk (conn_state db.new) → IfOk result (λ line. (last : Held S)
         × (found : List SqlRow)
-        × Shown sql.now (bound values.now) (once_begun S.Store db.old.conn) (state S.Store last) found
+        × Shown sql.now (bound values.now) (after_begin S.Store db.old.conn) (state S.Store last) found
         × (option_map L.shown (slice_get found 0) ≡ option_map L.cells line)) }
-    ensures failed { HasCleanDisk (shown db.new) → IfErr result (λ e. (last : Held S)
-        × FailsToList L.is_readable sql.now (bound values.now) (once_begun S.Store db.old.conn)
-        (state S.Store last) (shown db.new) e) }
+    ensures failed { HasCleanDisk (conn_state db.new) → IfErr result (λ e. (last : Held S)
+        × FailsToList L.is_readable sql.now (bound values.now) (after_begin S.Store db.old.conn)
+        (state S.Store last) (conn_state db.new) e) }
 {
     let rows = ask(db, sql, values)?;
     match rows.first() {

@@ -2,15 +2,15 @@
 
 ghost use Rattle.std.specs.Prelude.{⊤, List, ◌≡◌, ◌≢◌, ◌≤◌, ◌<◌, ◌^◌, ℕ, None, Some, IsSome, OnOk, IfOk, IfErr, MatchOption, string_bytes};
 ghost use Rattle.std.specs.FinMap.{get};
-ghost use Rattle.reg_tables.specs.Frames.{state_in, StaysInside};
+ghost use Rattle.reg_tables.specs.Frames.{state_in, RunsInTransaction};
 ghost use Rattle.sqlite.specs.State.{HasCleanDisk};
 ghost use Rattle.reg_tables.specs.Contents.{number_cells, TableName};
 ghost use Rattle.reg_tables.specs.Lookups.{Finds};
 ghost use Rattle.reg_tables.specs.Changes.{with_text};
-ghost use Rattle.reg_tables.specs.Writing.{WhereHeld, ChangesIf};
+ghost use Rattle.reg_tables.specs.Writing.{ForHeldContents, ChangesIf};
 ghost use Rattle.reg_tables.specs.FailedCalls.{IsPutFault};
 
-use crate::idle::Idle;
+use crate::autocommit::AutocommitConnection;
 use crate::keyed::{KeyedTable, find};
 use crate::statement::{ask, run};
 use sqlite::{Alter, Error, ErrorCode, Row, Transaction, params};
@@ -39,11 +39,11 @@ impl KeyedTable for Texts {
 /// large; another where the id or the text is taken, or the tables aren't a layout's. Nothing is
 /// committed, and the transaction is to be rolled back.
 pub fn put_text<S: Alter>(tx: &mut Transaction<'_, S>, id: u32, text: &str) -> Result<(), Error>
-    ensures frame { StaysInside S.Store tx.old tx.new result }
+    ensures frame { RunsInTransaction S.Store tx.old tx.new result }
     ensures put { HasCleanDisk (state_in S.Store tx.new) → OnOk result (ChangesIf (state_in S.Store tx.old) (state_in S.Store tx.new)
         (λ contents. get contents.texts id ≡ None) (with_text id text.now)) }
     ensures fault { HasCleanDisk (state_in S.Store tx.new) → IfErr result (λ e.
-        WhereHeld (state_in S.Store tx.old) (λ contents. get contents.texts id ≡ None
+        ForHeldContents (state_in S.Store tx.old) (λ contents. get contents.texts id ≡ None
         → ((other : ℕ) → get contents.texts other ≢ Some text.now)
         → IsPutFault (state_in S.Store tx.old) (state_in S.Store tx.new) e)) }
 {
@@ -60,7 +60,7 @@ pub fn put_text<S: Alter>(tx: &mut Transaction<'_, S>, id: u32, text: &str) -> R
 ///
 /// `OutOfMemory`, a fault of the disk, or `OperationInterrupted` at the limit on steps; where the
 /// tables can't be read, another error too. Nothing is changed.
-pub fn text_of<S: Alter>(db: &mut Idle<S>, id: u32) -> Result<Option<String>, Error>
+pub fn text_of<S: Alter>(db: &mut AutocommitConnection<S>, id: u32) -> Result<Option<String>, Error>
     ensures { Finds TableName.Texts db.old db.new result (λ contents found.
         MatchOption found (get contents.texts id ≡ None)
         (λ text. get contents.texts id ≡ Some (string_bytes text))) }
@@ -83,7 +83,7 @@ fn number_in(row: &Row) -> Result<u32, Error>
 ///
 /// `OutOfMemory`, a fault of the disk, or `OperationInterrupted` at the limit on steps; where the
 /// tables can't be read, another error too. Nothing is changed.
-pub fn id_of<S: Alter>(db: &mut Idle<S>, text: &str) -> Result<Option<u32>, Error>
+pub fn id_of<S: Alter>(db: &mut AutocommitConnection<S>, text: &str) -> Result<Option<u32>, Error>
     ensures { Finds TableName.Texts db.old db.new result (λ contents found.
         MatchOption found ((id : ℕ) → get contents.texts id ≢ Some text.now)
         (λ id. get contents.texts id ≡ Some text.now)) }
@@ -101,7 +101,7 @@ pub fn id_of<S: Alter>(db: &mut Idle<S>, text: &str) -> Result<Option<u32>, Erro
 ///
 /// `OutOfMemory`, a fault of the disk, or `OperationInterrupted` at the limit on steps; where the
 /// tables can't be read, another error too. Nothing is changed.
-pub fn last_id<S: Alter>(db: &mut Idle<S>) -> Result<Option<u32>, Error>
+pub fn last_id<S: Alter>(db: &mut AutocommitConnection<S>) -> Result<Option<u32>, Error>
     ensures { Finds TableName.Texts db.old db.new result (λ contents found.
         MatchOption found ((id : ℕ) → get contents.texts id ≡ None)
         (λ id. IsSome (get contents.texts id)

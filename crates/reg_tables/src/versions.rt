@@ -3,23 +3,23 @@
 ghost use Rattle.std.specs.Prelude.{[], ◌∷◌, ◌≡◌, ◌<◌, ◌^◌, None, Some, IsSome, OnOk, IfErr, MatchOption, Bool, length, IfOk, false};
 ghost use Rattle.std.specs.FinMap.{get};
 ghost use Rattle.sqlite.specs.Order.{column};
-ghost use Rattle.reg_tables.specs.Frames.{state_in, StaysInside};
+ghost use Rattle.reg_tables.specs.Frames.{state_in, RunsInTransaction};
 ghost use Rattle.sqlite.specs.State.{HasCleanDisk};
-ghost use Rattle.reg_tables.specs.Contents.{VersionRow, version_cells, TableName, flag_cell, version_form};
-ghost use Rattle.reg_tables.specs.Lookups.{Finds, Lists};
+ghost use Rattle.reg_tables.specs.Contents.{VersionEntryView, version_cells, TableName, flag_cell, version_form};
+ghost use Rattle.reg_tables.specs.Lookups.{Finds, ListsTable};
 ghost use Rattle.reg_tables.specs.Changes.{without_version, with_version, with_deleted};
-ghost use Rattle.reg_tables.specs.Writing.{Alters, WhereHeld, ChangesIf};
+ghost use Rattle.reg_tables.specs.Writing.{AppliesChange, ForHeldContents, ChangesIf};
 ghost use Rattle.reg_tables.specs.FailedCalls.{IsWriteFault, IsInsertFault};
-ghost use Rattle.reg_tables.specs.Entries.{version_row};
+ghost use Rattle.reg_tables.specs.Entries.{version_entry_view};
 ghost use Rattle.reg_tables.specs.Layout.{IsLayoutTwo, HasFiveTables};
 ghost use Rattle.reg_tables.specs.Listings.{RowParts, parts_of, entry_parts, version_entry, ListsVersions};
 ghost use Rattle.reg_tables.specs.Inside.ReadableRows.{IsReadableVersion};
 ghost use Rattle.reg_tables.specs.Reads.{CanBeRead};
 ghost use Rattle.reg_tables.specs.Inside.FailedLists.{IsReadingError};
 
-use crate::idle::Idle;
+use crate::autocommit::AutocommitConnection;
 use crate::keyed::{FilledTable, KeyedTable, find, put};
-use crate::statement::{Line, list, run};
+use crate::statement::{FromRow, list, run};
 use sqlite::{Alter, Error, ErrorCode, Row, Transaction, params};
 use std::alloc::Global;
 
@@ -30,12 +30,12 @@ pub struct VersionEntry {
     pub deleted: bool,
 }
 
-impl Line for VersionEntry {
+impl FromRow for VersionEntry {
     ghost shown = { λ row. column row 0 ∷ column row 1 ∷ [] };
 
-    ghost cells = { λ entry. version_cells (version_row entry) };
+    ghost cells = { λ entry. version_cells (version_entry_view entry) };
 
-    ghost is_readable = { λ row. (version : VersionRow) × (row ≡ version_cells version) × (version.id < 2 ^ 32) };
+    ghost is_readable = { λ row. (version : VersionEntryView) × (row ≡ version_cells version) × (version.id < 2 ^ 32) };
 
     fn read(row: &Row) -> Result<VersionEntry, Error> {
         Ok(VersionEntry {
@@ -53,7 +53,7 @@ impl KeyedTable for Versions {
 
     ghost name = { TableName.Versions };
 
-    ghost value_of = { version_row };
+    ghost value_of = { version_entry_view };
 
     fn find_sql() -> &'static str {
         "SELECT id, deleted FROM versions WHERE subject = ?1 AND version = ?2"
@@ -70,7 +70,7 @@ impl FilledTable for Versions {
 
 /// A row of `versions`.
 #[derive(Debug, Drop)]
-pub struct VersionLine {
+pub struct RawVersion {
     pub rowid: i64,
     pub subject: String,
     pub version: u32,
@@ -78,7 +78,7 @@ pub struct VersionLine {
     pub deleted: bool,
 }
 
-impl Line for VersionLine {
+impl FromRow for RawVersion {
     ghost Cells = { RowParts };
 
     ghost shown = { parts_of version_form };
@@ -87,8 +87,8 @@ impl Line for VersionLine {
 
     ghost is_readable = { IsReadableVersion };
 
-    fn read(row: &Row) -> Result<VersionLine, Error> {
-        Ok(VersionLine {
+    fn read(row: &Row) -> Result<RawVersion, Error> {
+        Ok(RawVersion {
             rowid: row.get(0)?,
             subject: row.get(1)?,
             version: row.get(2)?,
@@ -130,12 +130,12 @@ pub fn put_version<S: Alter>(
     id: u32,
     deleted: bool,
 ) -> Result<(), Error>
-    ensures frame { StaysInside S.Store tx.old tx.new result }
+    ensures frame { RunsInTransaction S.Store tx.old tx.new result }
     ensures put { HasCleanDisk (state_in S.Store tx.new) → OnOk result (ChangesIf (state_in S.Store tx.old) (state_in S.Store tx.new)
         (λ contents. get contents.versions (subject.now, number) ≡ None)
         (with_version (subject.now, number) (record { id = id; deleted = deleted }))) }
     ensures fault { HasCleanDisk (state_in S.Store tx.new) → IfErr result (λ e.
-        WhereHeld (state_in S.Store tx.old) (λ contents.
+        ForHeldContents (state_in S.Store tx.old) (λ contents.
         get contents.versions (subject.now, number) ≡ None → IsSome (get contents.texts id)
         → IsInsertFault (state_in S.Store tx.old) (state_in S.Store tx.new) e)) }
 {
@@ -154,7 +154,7 @@ pub fn drop_version<S: Alter>(
     subject: &str,
     number: u32,
 ) -> Result<(), Error>
-    ensures { Alters IsWriteFault S.Store tx.old tx.new result (without_version (subject.now, number)) }
+    ensures { AppliesChange IsWriteFault S.Store tx.old tx.new result (without_version (subject.now, number)) }
 {
     run(
         tx,
@@ -177,7 +177,7 @@ pub fn mark_deleted<S: Alter>(
     subject: &str,
     number: u32,
 ) -> Result<(), Error>
-    ensures { Alters IsInsertFault S.Store tx.old tx.new result (with_deleted (subject.now, number)) }
+    ensures { AppliesChange IsInsertFault S.Store tx.old tx.new result (with_deleted (subject.now, number)) }
 {
     run(
         tx,
@@ -193,13 +193,13 @@ pub fn mark_deleted<S: Alter>(
 /// `OutOfMemory`, a fault of the disk, or `OperationInterrupted` at the limit on steps; where the
 /// tables can't be read, another error too. Nothing is changed.
 pub fn version_of<S: Alter>(
-    db: &mut Idle<S>,
+    db: &mut AutocommitConnection<S>,
     subject: &str,
     number: u32,
 ) -> Result<Option<VersionEntry>, Error>
     ensures { Finds TableName.Versions db.old db.new result (λ contents found.
         MatchOption found (get contents.versions (subject.now, number) ≡ None)
-        (λ entry. get contents.versions (subject.now, number) ≡ Some (version_row entry))) }
+        (λ entry. get contents.versions (subject.now, number) ≡ Some (version_entry_view entry))) }
 {
     find::<S, Versions>(db, params![subject, number])
 }
@@ -210,8 +210,11 @@ pub fn version_of<S: Alter>(
 ///
 /// `OutOfMemory`, a fault of the disk, or `OperationInterrupted` at the limit on steps; another
 /// where a row holds what the line can't. Nothing is changed.
-pub fn version_lines<S: Alter>(alloc: Global, db: &mut Idle<S>) -> Result<Vec<VersionLine>, Error>
-    ensures { Lists db.old db.new result HasFiveTables CanBeRead ListsVersions }
+pub fn raw_versions<S: Alter>(
+    alloc: Global,
+    db: &mut AutocommitConnection<S>,
+) -> Result<Vec<RawVersion>, Error>
+    ensures { ListsTable db.old db.new result HasFiveTables CanBeRead ListsVersions }
 {
     list(
         alloc,

@@ -4,18 +4,18 @@ ghost use Rattle.std.specs.Prelude.{◌≡◌, ◌==◌, ◌&&◌, ◌||◌, Non
 ghost use Rattle.std.specs.List.{last_or};
 ghost use Rattle.reg_tables.specs.Contents.{TableName};
 ghost use Rattle.reg_tables.specs.Lookups.{Finds};
-ghost use Rattle.reg_tables.specs.Entries.{AreOfId, keyed, most, numbered, subject_versions};
+ghost use Rattle.reg_tables.specs.Entries.{AreVersionsOfId, listed_version_view, versions_limit, subject_version_view, subject_versions};
 
-use crate::idle::Idle;
+use crate::autocommit::AutocommitConnection;
 use crate::listed::{ListedVersion, SubjectVersion};
 use crate::statement::{first, list};
 use sqlite::{Alter, Error, params};
 use std::alloc::Global;
 
 /// So many versions of an id are told at most.
-pub const MOST: usize = 33;
+pub const VERSIONS_LIMIT: usize = 33;
 
-/// Versions of an id, in any order: all that it has where they are fewer than `MOST`. So many are
+/// Versions of an id, in any order: all that it has where they are fewer than `VERSIONS_LIMIT`. So many are
 /// found in a bounded number of steps, by the index.
 ///
 /// # Errors
@@ -24,11 +24,11 @@ pub const MOST: usize = 33;
 /// tables can't be read, another error too. Nothing is changed.
 pub fn some_versions_of_id<S: Alter>(
     alloc: Global,
-    db: &mut Idle<S>,
+    db: &mut AutocommitConnection<S>,
     id: u32,
 ) -> Result<Vec<ListedVersion>, Error>
     ensures { Finds TableName.Versions db.old db.new result (λ contents lines.
-        AreOfId id contents (map keyed lines.items)) }
+        AreVersionsOfId id contents (map listed_version_view lines.items)) }
 {
     list(
         alloc,
@@ -47,13 +47,13 @@ pub fn some_versions_of_id<S: Alter>(
 /// `OutOfMemory`, a fault of the disk, or `OperationInterrupted` at the limit on steps; where the
 /// tables can't be read, another error too. Nothing is changed.
 pub fn last_version_with_id<S: Alter>(
-    db: &mut Idle<S>,
+    db: &mut AutocommitConnection<S>,
     subject: &str,
     id: u32,
     deleted: bool,
 ) -> Result<Option<SubjectVersion>, Error>
     ensures { Finds TableName.Versions db.old db.new result (λ contents found.
-        option_map numbered found
+        option_map subject_version_view found
         ≡ last_or None (filter (λ version. (deleted || not version.1.deleted) && (version.1.id == id))
         (subject_versions subject.now contents))) }
 {

@@ -10,7 +10,7 @@ use std::test::Fail;
 /// What is asked: a command, with texts in the place of the subject, the version, the schema and so on that it names. A
 /// schema is supported, and a version that is deleted is marked.
 #[derive(Clone, Copy)]
-pub enum Ask {
+pub enum Cmd {
     SetGlobal(&'static str),
     SetLevel(&'static str, &'static str),
     Register(&'static str, &'static str),
@@ -40,7 +40,7 @@ pub enum Ask {
 }
 
 /// A retry key, what is asked, and the status and the body of the answer.
-pub type Row = (Option<&'static str>, Ask, u16, &'static str);
+pub type Row = (Option<&'static str>, Cmd, u16, &'static str);
 
 fn text_of(alloc: Global, text: &str) -> Result<Text, OutOfMemory> {
     Ok(Text::from(String::from_str(alloc, text)?))
@@ -51,86 +51,86 @@ fn subject_of(alloc: Global, text: &str) -> Result<Subject, OutOfMemory> {
     Subject::new(String::from_str(alloc, text)?).ok_or(OutOfMemory)
 }
 
-fn command_of(alloc: Global, ask: Ask) -> Result<Command, OutOfMemory> {
+fn command_of(alloc: Global, ask: Cmd) -> Result<Command, OutOfMemory> {
     Ok(match ask {
-        Ask::SetGlobal(level) => Command::SetGlobal {
+        Cmd::SetGlobal(level) => Command::SetGlobal {
             level: text_of(alloc, level)?,
         },
-        Ask::SetLevel(subject, level) => Command::SetLevel {
+        Cmd::SetLevel(subject, level) => Command::SetLevel {
             subject: subject_of(alloc, subject)?,
             level: text_of(alloc, level)?,
         },
-        Ask::SetGlobalMode(mode) => Command::SetGlobalMode {
+        Cmd::SetGlobalMode(mode) => Command::SetGlobalMode {
             mode: text_of(alloc, mode)?,
         },
-        Ask::SetMode(subject, mode) => Command::SetMode {
+        Cmd::SetMode(subject, mode) => Command::SetMode {
             subject: subject_of(alloc, subject)?,
             mode: text_of(alloc, mode)?,
         },
-        Ask::Register(subject, text) => Command::Register {
+        Cmd::Register(subject, text) => Command::Register {
             subject: subject_of(alloc, subject)?,
             text: text_of(alloc, text)?,
             supported: true,
         },
-        Ask::DeleteVersion(subject, version) => Command::DeleteVersion {
+        Cmd::DeleteVersion(subject, version) => Command::DeleteVersion {
             subject: subject_of(alloc, subject)?,
             version: text_of(alloc, version)?,
             permanent: false,
         },
-        Ask::DeleteSubject(subject, permanent) => Command::DeleteSubject {
+        Cmd::DeleteSubject(subject, permanent) => Command::DeleteSubject {
             subject: subject_of(alloc, subject)?,
             permanent,
         },
-        Ask::Global => Command::Global,
-        Ask::LevelOf(subject, default_to_global) => Command::LevelOf {
+        Cmd::Global => Command::Global,
+        Cmd::LevelOf(subject, default_to_global) => Command::LevelOf {
             subject: subject_of(alloc, subject)?,
             default_to_global,
         },
-        Ask::GlobalMode => Command::GlobalMode,
-        Ask::ModeOf(subject, default_to_global) => Command::ModeOf {
+        Cmd::GlobalMode => Command::GlobalMode,
+        Cmd::ModeOf(subject, default_to_global) => Command::ModeOf {
             subject: subject_of(alloc, subject)?,
             default_to_global,
         },
-        Ask::Subjects => Command::Subjects { deleted: false },
-        Ask::Versions(subject, deleted) => Command::Versions {
+        Cmd::Subjects => Command::Subjects { deleted: false },
+        Cmd::Versions(subject, deleted) => Command::Versions {
             subject: subject_of(alloc, subject)?,
             deleted,
         },
-        Ask::ById(id) => Command::ById {
+        Cmd::ById(id) => Command::ById {
             id: text_of(alloc, id)?,
         },
-        Ask::VersionsOfId(id) => Command::VersionsOfId {
+        Cmd::VersionsOfId(id) => Command::VersionsOfId {
             id: text_of(alloc, id)?,
             deleted: false,
         },
-        Ask::Version(subject, version) => Command::Version {
+        Cmd::Version(subject, version) => Command::Version {
             subject: subject_of(alloc, subject)?,
             version: text_of(alloc, version)?,
             deleted: false,
         },
-        Ask::Text(subject, version) => Command::Text {
+        Cmd::Text(subject, version) => Command::Text {
             subject: subject_of(alloc, subject)?,
             version: text_of(alloc, version)?,
             deleted: false,
         },
-        Ask::Lookup(subject, text) => Command::Lookup {
+        Cmd::Lookup(subject, text) => Command::Lookup {
             subject: subject_of(alloc, subject)?,
             text: text_of(alloc, text)?,
             supported: true,
             deleted: false,
         },
-        Ask::Check(subject, version, text) => Command::Check {
+        Cmd::Check(subject, version, text) => Command::Check {
             subject: subject_of(alloc, subject)?,
             version: text_of(alloc, version)?,
             text: text_of(alloc, text)?,
             supported: true,
         },
-        Ask::CheckAll(subject, text) => Command::CheckAll {
+        Cmd::CheckAll(subject, text) => Command::CheckAll {
             subject: subject_of(alloc, subject)?,
             text: text_of(alloc, text)?,
             supported: true,
         },
-        Ask::Types => Command::Types,
+        Cmd::Types => Command::Types,
     })
 }
 
@@ -165,7 +165,7 @@ pub fn answer<S: Alter + Drop>(service: &mut Service<S>, delivery: &Delivery) ->
 /// # Errors
 ///
 /// `OutOfMemory` where memory for the replies is refused.
-pub fn answers_in_turn<S: Alter + Drop>(
+pub fn answer_each<S: Alter + Drop>(
     alloc: Global,
     service: &mut Service<S>,
     list: &[Delivery],
@@ -194,7 +194,7 @@ pub fn answers<S: Alter + Drop>(
 /// # Errors
 ///
 /// A failed test, where it is another one.
-pub fn is_answer(reply: &Reply, row: &Row) -> Result<(), Fail> {
+pub fn check_reply(reply: &Reply, row: &Row) -> Result<(), Fail> {
     if reply.status() == row.2 && reply.body() == row.3 {
         return Ok(());
     }
@@ -216,9 +216,9 @@ pub fn answered(replies: &[Reply], rows: &[Row]) -> Result<usize, Fail> {
     let count = replies.iter().position(is_fault).unwrap_or(rows.len());
     for (at, (reply, row)) in replies.iter().zip(rows).enumerate() {
         if at < count {
-            is_answer(reply, row)?;
+            check_reply(reply, row)?;
         } else {
-            is_answer(reply, &(row.0, row.1, 500, FAULT))?;
+            check_reply(reply, &(row.0, row.1, 500, FAULT))?;
         }
     }
     Ok(count)

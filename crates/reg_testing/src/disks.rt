@@ -19,7 +19,7 @@ pub fn empty_disk(alloc: Global) -> Files<Fuse<Memory>> {
 }
 
 /// What is done with a database, whatever that stands on.
-pub trait OnDatabase {
+pub trait DatabaseTask {
     /// Does it, and gives the connection back.
     ///
     /// # Errors
@@ -60,7 +60,7 @@ fn let_go<D: Disk + Drop>(connection: Connection<FileStore<D>>) -> (Files<D>, bo
 
 /// Does it with the database in the files. This alone names the store over files beside a task, since a check takes long
 /// for each function that does.
-fn on_files<D: Disk + Drop, T: OnDatabase>(
+fn on_files<D: Disk + Drop, T: DatabaseTask>(
     alloc: Global,
     files: Files<D>,
     task: &mut T,
@@ -76,7 +76,7 @@ fn on_files<D: Disk + Drop, T: OnDatabase>(
 /// # Errors
 ///
 /// A failed test, as the task says.
-pub fn on_disk<T: OnDatabase>(
+pub fn on_disk<T: DatabaseTask>(
     alloc: Global,
     files: Files<Fuse<Memory>>,
     task: &mut T,

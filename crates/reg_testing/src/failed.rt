@@ -24,7 +24,10 @@ fn walks_fail<S: Alter + Drop>(store: &mut Store<S>) -> bool {
 }
 
 /// Holds each call on a store that has failed to that.
-pub fn fails_for_good<S: Alter + Drop>(alloc: Global, store: &mut Store<S>) -> Result<(), Fail> {
+pub fn check_stays_failed<S: Alter + Drop>(
+    alloc: Global,
+    store: &mut Store<S>,
+) -> Result<(), Fail> {
     let mut changes = Vec::new(alloc);
     changes.push(Change::SetGlobal { level: Level::Full })?;
     if reads_fail(store)?

@@ -15,12 +15,13 @@ mod writes;
 
 pub use databases::contents;
 pub use deliveries::{
-    Ask, Row, answer, answered, answers, answers_in_turn, deliveries_of, is_answer,
+    Cmd, Row, answer, answer_each, answered, answers, check_reply, deliveries_of,
 };
-pub use disks::{OnDatabase, copy, empty_disk, on_disk};
+pub use disks::{DatabaseTask, copy, empty_disk, on_disk};
 pub use messages::{FULL_KEPT, FULL_SET, GET, IS_BACKWARD, IS_FULL, SET_FULL, joined};
 pub use stores::{
-    OnService, connection_of, created, first_registry, in_memory, kept_in_memory, opened, refused,
+    ServiceTask, connection_of, created, in_memory, kept_in_memory, layout1_registry, opened,
+    refused,
 };
 pub use streams::{Failing, Pieces};
 pub use writes::WRITES;

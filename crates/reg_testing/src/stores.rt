@@ -1,8 +1,8 @@
 //! Services over new registries and over those that a database has, and why a database can't be opened.
 
 use crate::databases::kept;
-use crate::disks::{OnDatabase, empty_disk, on_disk};
-use crate::failed::fails_for_good;
+use crate::disks::{DatabaseTask, empty_disk, on_disk};
+use crate::failed::check_stays_failed;
 use reg_service::Service;
 use reg_store::{Store, StoreError, create_first};
 use sqlite::{Alter, Connection, Files, MemStore};
@@ -76,18 +76,18 @@ pub fn connection_of<S: Alter + Drop>(
 ) -> Result<Connection<S>, Fail> {
     let mut store = service.into_store();
     if store.failed() {
-        fails_for_good(alloc, &mut store)?;
+        check_stays_failed(alloc, &mut store)?;
     }
     Ok(store.into_connection())
 }
 
 /// Makes a registry of layout 1 in an empty database, and executes statements.
 #[derive(Drop)]
-struct CreateFirst<'a> {
+struct CreateLayout1<'a> {
     statements: &'a str,
 }
 
-impl<'a> OnDatabase for CreateFirst<'a> {
+impl<'a> DatabaseTask for CreateLayout1<'a> {
     fn work<S: Alter + Drop>(
         &mut self,
         _: Global,
@@ -108,8 +108,8 @@ impl<'a> OnDatabase for CreateFirst<'a> {
 /// # Errors
 ///
 /// A failed test, where no registry can be made.
-pub fn first_registry(alloc: Global, statements: &str) -> Result<Files<Fuse<Memory>>, Fail> {
-    let (files, closed) = on_disk(alloc, empty_disk(alloc), &mut CreateFirst { statements })?;
+pub fn layout1_registry(alloc: Global, statements: &str) -> Result<Files<Fuse<Memory>>, Fail> {
+    let (files, closed) = on_disk(alloc, empty_disk(alloc), &mut CreateLayout1 { statements })?;
     if !closed {
         return Err("no registry was made".into());
     }
@@ -125,7 +125,7 @@ fn new_service(alloc: Global) -> Result<Service<MemStore>, Fail> {
 }
 
 /// What is done with a service, whatever its database stands on.
-pub trait OnService {
+pub trait ServiceTask {
     /// Does it.
     ///
     /// # Errors
@@ -143,7 +143,7 @@ pub trait OnService {
 /// # Errors
 ///
 /// A failed test, as the task says, or if an allocation fails.
-pub fn in_memory<T: OnService>(alloc: Global, task: &mut T) -> Result<(), Fail> {
+pub fn in_memory<T: ServiceTask>(alloc: Global, task: &mut T) -> Result<(), Fail> {
     task.work(alloc, &mut new_service(alloc)?)
 }
 
@@ -152,7 +152,7 @@ pub fn in_memory<T: OnService>(alloc: Global, task: &mut T) -> Result<(), Fail> 
 /// # Errors
 ///
 /// A failed test, as the task says, or where memory is refused.
-pub fn kept_in_memory<T: OnService>(alloc: Global, task: &mut T) -> Result<String, Fail> {
+pub fn kept_in_memory<T: ServiceTask>(alloc: Global, task: &mut T) -> Result<String, Fail> {
     let mut service = new_service(alloc)?;
     task.work(alloc, &mut service)?;
     kept(alloc, &mut service.into_store().into_connection())

@@ -12,19 +12,19 @@ use Rattle.serde_json.specs.Written.{outline, blank, WritesValue}
 use Rattle.avro_nodes.specs.declared.node.Order.{Order}
 use Rattle.avro_nodes.specs.declared.node.Order.TheVariants.{Ascending, Descending, Ignore}
 use Rattle.avro_nodes.specs.Names.{has_dot}
-use Rattle.avro_nodes.specs.Identity.{Spelt, texts}
+use Rattle.avro_nodes.specs.Identity.{Counted, texts}
 
 -- an attribute, by its name, where it is written
-abbrev pub Part : Type 0
-Part = List ℕ × Option Data
+abbrev pub Attribute : Type 0
+Attribute = List ℕ × Option Data
 
-abbrev pub put_part : Part → Members → Members
-put_part (k, None) others = others
-put_part (k, Some d) others = put k d others
+abbrev pub put_attribute : Attribute → Members → Members
+put_attribute (k, None) others = others
+put_attribute (k, Some d) others = put k d others
 
-abbrev pub put_parts : List Part → Members → Members
-put_parts [] others = others
-put_parts (p ∷ ps) others = put_part p (put_parts ps others)
+abbrev pub put_attributes : List Attribute → Members → Members
+put_attributes [] others = others
+put_attributes (p ∷ ps) others = put_attribute p (put_attributes ps others)
 
 -- the members before the name, and then the others given
 abbrev pub before_then : List ℕ → Members → Members → Members
@@ -32,15 +32,15 @@ before_then k no_members more = more
 before_then k (member l e ms) more = match_ordering (slice_cmp nat_cmp k l) more more (member l e (before_then k ms more))
 
 -- the members from the first one on that doesn't stand before the name, but for one of that name
-abbrev pub behind : List ℕ → Members → Members
-behind k no_members = no_members
-behind k (member l e ms) = match_ordering (slice_cmp nat_cmp k l) (member l e ms) ms (behind k ms)
+abbrev pub rest_after : List ℕ → Members → Members
+rest_after k no_members = no_members
+rest_after k (member l e ms) = match_ordering (slice_cmp nat_cmp k l) (member l e ms) ms (rest_after k ms)
 
 -- the attributes, each after the others that stand before it
-abbrev pub merged : List Part → Members → Members
+abbrev pub merged : List Attribute → Members → Members
 merged [] others = others
 merged ((k, None) ∷ ps) others = merged ps others
-merged ((k, Some d) ∷ ps) others = before_then k others (member k d (merged ps (behind k others)))
+merged ((k, Some d) ∷ ps) others = before_then k others (member k d (merged ps (rest_after k others)))
 
 -- ---- what is written of a member
 
@@ -54,34 +54,34 @@ AreJsonOf (json.member k j js) no_members = ⊥
 AreJsonOf (json.member k j js) (member l d ms) = (k ≡ l) × IsJsonOf j d × AreJsonOf js ms
 
 -- the tokens are followed by those of the members, up to the closing bracket
-abbrev pub Ends : Members → List Token → List Token → Type 0
-Ends ms old new = (js : json.Members) × (new ≡ old ++ tree.members_tokens js) × AreJsonOf js ms
+abbrev pub EndsObject : Members → List Token → List Token → Type 0
+EndsObject ms old new = (js : json.Members) × (new ≡ old ++ tree.members_tokens js) × AreJsonOf js ms
 
 -- whatever ends the object after the member ends it from here
 abbrev pub WritesMember : List ℕ → Data → List Token → List Token → Type 0
-WritesMember k d old new = (ms : Members) (end : List Token) → Ends ms new end → Ends (member k d ms) old end
+WritesMember k d old new = (ms : Members) (end : List Token) → EndsObject ms new end → EndsObject (member k d ms) old end
 
 -- what stands before the name is written, and one of that name is passed over
-abbrev pub WritesBefore : List ℕ → Members → Members → List Token → List Token → Type 0
-WritesBefore k others left old new = (left ≡ behind k others) × ((ms : Members) (end : List Token) → Ends ms new end → Ends (before_then k others ms) old end)
+abbrev pub WritesOthersBefore : List ℕ → Members → Members → List Token → List Token → Type 0
+WritesOthersBefore k others left old new = (left ≡ rest_after k others) × ((ms : Members) (end : List Token) → EndsObject ms new end → EndsObject (before_then k others ms) old end)
 
 -- After the attribute it is left to write those that follow, among the others that are left: whatever ends the object from there ends
 -- it from here.
-abbrev pub WritesPart : Part → Members → Members → List Token → List Token → Type 0
-WritesPart p others left old new = (ps : List Part) (end : List Token) → Ends (merged ps left) new end → Ends (merged (p ∷ ps) others) old end
+abbrev pub WritesAttribute : Attribute → Members → Members → List Token → List Token → Type 0
+WritesAttribute p others left old new = (ps : List Attribute) (end : List Token) → EndsObject (merged ps left) new end → EndsObject (merged (p ∷ ps) others) old end
 
 -- the same of an attribute of which the value is still to be written
 abbrev pub WritesName : List ℕ → Members → Members → List Token → List Token → Type 0
-WritesName k others left old named = (d : Data) (new : List Token) → WritesValue d named new → WritesPart (k, Some d) others left old new
+WritesName k others left old named = (d : Data) (new : List Token) → WritesValue d named new → WritesAttribute (k, Some d) others left old new
 
 -- each name is behind the one before it
-abbrev pub AllBehind : List ℕ → Members → Type 0
-AllBehind k no_members = ⊤
-AllBehind k (member l d ms) = (slice_cmp nat_cmp k l ≡ Less) × AllBehind k ms
+abbrev pub AllAfter : List ℕ → Members → Type 0
+AllAfter k no_members = ⊤
+AllAfter k (member l d ms) = (slice_cmp nat_cmp k l ≡ Less) × AllAfter k ms
 
 abbrev pub AreOrdered : Members → Type 0
 AreOrdered no_members = ⊤
-AreOrdered (member k d ms) = AllBehind k ms × AreOrdered ms
+AreOrdered (member k d ms) = AllAfter k ms × AreOrdered ms
 
 -- ---- the attributes that aren't always written
 
@@ -101,22 +101,22 @@ null_namespace (c ∷ enclosing) name = if has_dot name then None else Some (str
 -- ---- types, of which a part is still to be written
 
 -- the value is still to be written, and the members that are left after it
-abbrev pub Awaits : (Data → Data) → Members → List Token → List Token → Type 0
-Awaits whole left old named = (d : Data) (new end : List Token) → WritesValue d named new → Ends left new end → WritesValue (whole d) old end
+abbrev pub AwaitsValue : (Data → Data) → Members → List Token → List Token → Type 0
+AwaitsValue whole left old named = (d : Data) (new end : List Token) → WritesValue d named new → EndsObject left new end → WritesValue (whole d) old end
 
 -- what follows the items of an array
-abbrev pub array_end : List Part
+abbrev pub array_end : List Attribute
 array_end = (codes "type", Some (string (codes "array"))) ∷ []
 
 -- what follows the fields of a record
-abbrev pub record_end : List ℕ → List ℕ → List Part
+abbrev pub record_end : List ℕ → List ℕ → List Attribute
 record_end enclosing name = (codes "name", Some (string name)) ∷ (codes "namespace", null_namespace enclosing name) ∷ (codes "type", Some (string (codes "record"))) ∷ []
 
 -- ---- places
 
 -- the value is written, and so many places with it
-abbrev pub WritesSpelt : Spelt Data → List Token → List Token → ℕ → Type 0
-WritesSpelt s old new written = WritesValue s.0 old new × (written ≡ s.1)
+abbrev pub WritesCounted : Counted Data → List Token → List Token → ℕ → Type 0
+WritesCounted s old new written = WritesValue s.0 old new × (written ≡ s.1)
 
-abbrev pub spelt_array : Spelt Items → Spelt Data
-spelt_array s = (array s.0, s.1)
+abbrev pub counted_array : Counted Items → Counted Data
+counted_array s = (array s.0, s.1)

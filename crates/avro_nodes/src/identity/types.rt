@@ -7,13 +7,13 @@ ghost use Rattle.serde_json.specs.View.{members_view};
 ghost use Rattle.serde_json.specs.Written.{WritesValue};
 ghost use Rattle.avro_nodes.specs.Nodes.{texts_view, named_view, field_view};
 ghost use Rattle.avro_nodes.specs.Identity.{kind_text, primitive_value, array_value, map_value, enum_value, fixed_value, record_value, field_value};
-ghost use Rattle.avro_nodes.specs.Inside.Objects.{merged, Ends, Awaits, array_end, record_end};
+ghost use Rattle.avro_nodes.specs.Inside.Objects.{merged, EndsObject, AwaitsValue, array_end, record_end};
 
 use crate::attributes::{
     write_aliases, write_default, write_fallback, write_name, write_namespace, write_order,
     write_text, write_texts,
 };
-use crate::compact::Compact;
+use crate::compact::CompactWriter;
 use crate::node::{Extra, Field, Kind, Named};
 use crate::value::{Others, others_of, write_rest};
 use std::alloc::AllocError;
@@ -38,7 +38,7 @@ fn kind_text(kind: Kind) -> &'static str
 /// # Errors
 ///
 /// `AllocError` where memory is refused. A part of it may be written then.
-pub fn write_primitive(out: &mut Compact, kind: Kind, extra: &Extra) -> Result<(), AllocError>
+pub fn write_primitive(out: &mut CompactWriter, kind: Kind, extra: &Extra) -> Result<(), AllocError>
     ensures { OnOk result (WritesValue (primitive_value kind (members_view extra.now.entries))
         out.old out.new) }
 {
@@ -57,7 +57,7 @@ pub fn write_primitive(out: &mut Compact, kind: Kind, extra: &Extra) -> Result<(
 ///
 /// `AllocError` where memory is refused. A part of it may be written then.
 pub fn write_enum(
-    out: &mut Compact,
+    out: &mut CompactWriter,
     enclosing: &str,
     named: &Named,
     symbols: &[String],
@@ -87,7 +87,7 @@ pub fn write_enum(
 ///
 /// `AllocError` where memory is refused. A part of it may be written then.
 pub fn write_fixed(
-    out: &mut Compact,
+    out: &mut CompactWriter,
     enclosing: &str,
     named: &Named,
     size: u32,
@@ -113,8 +113,8 @@ pub fn write_fixed(
 /// # Errors
 ///
 /// `AllocError` where memory is refused. A part of it may be written then.
-pub fn begin_array<'a>(out: &mut Compact, extra: &'a Extra) -> Result<Others<'a>, AllocError>
-    ensures { IfOk result (λ others. Awaits
+pub fn begin_array<'a>(out: &mut CompactWriter, extra: &'a Extra) -> Result<Others<'a>, AllocError>
+    ensures { IfOk result (λ others. AwaitsValue
         (λ items. array_value items (members_view extra.now.entries))
         (merged array_end (members_view others)) out.old out.new) }
 {
@@ -129,8 +129,8 @@ pub fn begin_array<'a>(out: &mut Compact, extra: &'a Extra) -> Result<Others<'a>
 /// # Errors
 ///
 /// `AllocError` where memory is refused. A part of it may be written then.
-pub fn end_array(out: &mut Compact, mut others: Others<'_>) -> Result<(), AllocError>
-    ensures { OnOk result (Ends (merged array_end (members_view others.entry)) out.old out.new) }
+pub fn end_array(out: &mut CompactWriter, mut others: Others<'_>) -> Result<(), AllocError>
+    ensures { OnOk result (EndsObject (merged array_end (members_view others.entry)) out.old out.new) }
 {
     write_text(out, &mut others, "type", "array")?;
     write_rest(out, others)
@@ -141,8 +141,8 @@ pub fn end_array(out: &mut Compact, mut others: Others<'_>) -> Result<(), AllocE
 /// # Errors
 ///
 /// `AllocError` where memory is refused. A part of it may be written then.
-pub fn begin_map<'a>(out: &mut Compact, extra: &'a Extra) -> Result<Others<'a>, AllocError>
-    ensures { IfOk result (λ others. Awaits
+pub fn begin_map<'a>(out: &mut CompactWriter, extra: &'a Extra) -> Result<Others<'a>, AllocError>
+    ensures { IfOk result (λ others. AwaitsValue
         (λ values. map_value values (members_view extra.now.entries))
         (members_view others) out.old out.new) }
 {
@@ -159,13 +159,13 @@ pub fn begin_map<'a>(out: &mut Compact, extra: &'a Extra) -> Result<Others<'a>, 
 ///
 /// `AllocError` where memory is refused. A part of it may be written then.
 pub fn begin_record<'a>(
-    out: &mut Compact,
+    out: &mut CompactWriter,
     named: &Named,
     extra: &'a Extra,
 ) -> Result<Others<'a>, AllocError>
     ensures { IfOk result (λ others. (enclosing : List ℕ) (fields : Items) (new end : List Token)
         → WritesValue (array fields) out.new new
-        → Ends (merged (record_end enclosing (string_bytes named.now.name)) (members_view others)) new end
+        → EndsObject (merged (record_end enclosing (string_bytes named.now.name)) (members_view others)) new end
         → WritesValue (record_value enclosing (named_view named.now) fields
         (members_view extra.now.entries)) out.old end) }
 {
@@ -182,12 +182,12 @@ pub fn begin_record<'a>(
 ///
 /// `AllocError` where memory is refused. A part of it may be written then.
 pub fn end_record(
-    out: &mut Compact,
+    out: &mut CompactWriter,
     mut others: Others<'_>,
     enclosing: &str,
     name: &str,
 ) -> Result<(), AllocError>
-    ensures { OnOk result (Ends (merged (record_end enclosing.now name.now)
+    ensures { OnOk result (EndsObject (merged (record_end enclosing.now name.now)
         (members_view others.entry)) out.old out.new) }
 {
     write_text(out, &mut others, "name", name)?;
@@ -201,8 +201,8 @@ pub fn end_record(
 /// # Errors
 ///
 /// `AllocError` where memory is refused. A part of it may be written then.
-pub fn begin_field<'a>(out: &mut Compact, field: &'a Field) -> Result<Others<'a>, AllocError>
-    ensures { IfOk result (λ others. Awaits (field_value (field_view field.now))
+pub fn begin_field<'a>(out: &mut CompactWriter, field: &'a Field) -> Result<Others<'a>, AllocError>
+    ensures { IfOk result (λ others. AwaitsValue (field_value (field_view field.now))
         (members_view others) out.old out.new) }
 {
     let mut others = others_of(&field.extra);

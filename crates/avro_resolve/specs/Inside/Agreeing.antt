@@ -5,7 +5,7 @@ use Rattle.avro_nodes.specs.Nodes.{FieldView, NamedView, NodeView, primitive, ar
 use Rattle.avro_schema.specs.declared.index.NamedRanks.{NamedRanks}
 use Rattle.avro_schema.specs.declared.index.Ranks.{Ranks}
 use Rattle.avro_schema.specs.declared.index.Ranks.TheVariants.{Unnamed, Fixed, Enum, Rec}
-use Rattle.avro_schema.specs.Index.{AreRisingRanks}
+use Rattle.avro_schema.specs.Index.{AreSortedRanks}
 use Rattle.avro_resolve.specs.Resolution.{NameMatch, Promotes}
 
 -- The nodes agree in their kinds, names and sizes, as far as a pair of them asks for that (Avro 1.11 specification, Schema Resolution). Of a
@@ -22,14 +22,14 @@ IsAlike (rec n _ _) (rec m _ _) = NameMatch n m
 IsAlike _ _ = ⊥
 
 -- an enum has a default or each of these symbols
-abbrev pub MayCome : List (List ℕ) → NodeView → Type 0
-MayCome symbols (primitive kind _) = Unit {0}
-MayCome symbols (array place _) = Unit {0}
-MayCome symbols (mapping place _) = Unit {0}
-MayCome symbols (union places) = Unit {0}
-MayCome symbols (enumeration named known fallback _) = IsSome fallback ⊎ All (Contains known) symbols
-MayCome symbols (fixed named size _) = Unit {0}
-MayCome symbols (rec named fields _) = Unit {0}
+abbrev pub AcceptsSymbols : List (List ℕ) → NodeView → Type 0
+AcceptsSymbols symbols (primitive kind _) = Unit {0}
+AcceptsSymbols symbols (array place _) = Unit {0}
+AcceptsSymbols symbols (mapping place _) = Unit {0}
+AcceptsSymbols symbols (union places) = Unit {0}
+AcceptsSymbols symbols (enumeration named known fallback _) = IsSome fallback ⊎ All (Contains known) symbols
+AcceptsSymbols symbols (fixed named size _) = Unit {0}
+AcceptsSymbols symbols (rec named fields _) = Unit {0}
 
 -- of two enums, the second has a default or each symbol of the first
 abbrev pub SymbolsFit : NodeView → NodeView → Type 0
@@ -37,7 +37,7 @@ SymbolsFit (primitive kind _) b = Unit {0}
 SymbolsFit (array place _) b = Unit {0}
 SymbolsFit (mapping place _) b = Unit {0}
 SymbolsFit (union places) b = Unit {0}
-SymbolsFit (enumeration named symbols fallback _) b = MayCome symbols b
+SymbolsFit (enumeration named symbols fallback _) b = AcceptsSymbols symbols b
 SymbolsFit (fixed named size _) b = Unit {0}
 SymbolsFit (rec named fields _) b = Unit {0}
 
@@ -63,8 +63,8 @@ named_ranks (Enum named symbols) = Some named
 named_ranks (Rec named fields) = Some named
 
 -- the test says whether the names of two nodes, where both have names, match
-abbrev pub TellsMatch : Bool → NodeView → NodeView → Type 0
-TellsMatch matched a b = MatchOption (named_of a) (Unit {0}) (λ n. MatchOption (named_of b) (Unit {0}) (λ m. IsTrue matched ↔ NameMatch n m))
+abbrev pub DecidesNameMatch : Bool → NodeView → NodeView → Type 0
+DecidesNameMatch matched a b = MatchOption (named_of a) (Unit {0}) (λ n. MatchOption (named_of b) (Unit {0}) (λ m. IsTrue matched ↔ NameMatch n m))
 
 -- the symbols of an enum, and none of another node
 abbrev pub symbols_of : NodeView → List (List ℕ)
@@ -84,17 +84,17 @@ symbol_ranks (Enum named symbols) = symbols.items
 symbol_ranks (Rec named fields) = []
 
 -- the ranks of the symbols among a reader's names, or none where these haven't one of them
-abbrev pub AreSymbolsMet : List (List ℕ) → List (List ℕ) → Option (Vec ℕ Global) → Type 0
-AreSymbolsMet names symbols found = MatchOption found (All (Contains names) symbols → ⊥) (λ v. AreRisingRanks names symbols v.items)
+abbrev pub AreSymbolsMapped : List (List ℕ) → List (List ℕ) → Option (Vec ℕ Global) → Type 0
+AreSymbolsMapped names symbols found = MatchOption found (All (Contains names) symbols → ⊥) (λ v. AreSortedRanks names symbols v.items)
 
 -- the symbols of these indexes, and no others, have a number in the boxes of their ranks: their index and one
-pub record AreNumbered (boxes symbols : List ℕ) (low high : ℕ) : Type 0 where
-  pub only : (rank k : ℕ) → get_or boxes rank 0 ≡ k + 1 → (low ≤ k) × (k < high) × (get_or symbols k 0 ≡ rank)
-  pub each : (k : ℕ) → low ≤ k → k < high → get_or boxes (get_or symbols k 0) 0 ≡ k + 1
+pub record AreNumbered (slots symbols : List ℕ) (low high : ℕ) : Type 0 where
+  pub only : (rank k : ℕ) → get_or slots rank 0 ≡ k + 1 → (low ≤ k) × (k < high) × (get_or symbols k 0 ≡ rank)
+  pub each : (k : ℕ) → low ≤ k → k < high → get_or slots (get_or symbols k 0) 0 ≡ k + 1
 
 -- no number stands in the boxes
-abbrev pub AreBlank : List ℕ → Type 0
-AreBlank boxes = (rank k : ℕ) → get_or boxes rank 0 ≡ k + 1 → ⊥
+abbrev pub AreCleared : List ℕ → Type 0
+AreCleared slots = (rank k : ℕ) → get_or slots rank 0 ≡ k + 1 → ⊥
 
 -- the fields of a node, where it has such
 abbrev pub fields_of : NodeView → List FieldView

@@ -6,8 +6,8 @@ use Rattle.avro_resolve.specs.declared.sides.Side.{Side}
 use Rattle.avro_resolve.specs.declared.sides.Sides.{Sides}
 use Rattle.avro_resolve.specs.Resolution.{source}
 use Rattle.avro_resolve.specs.Inside.Agreeing.{fields_of}
-use Rattle.avro_resolve.specs.Inside.Places.{IsWhole}
-use Rattle.avro_resolve.specs.Inside.Meeting.{AreMet, IsKnown}
+use Rattle.avro_resolve.specs.Inside.Places.{IsSelfContained}
+use Rattle.avro_resolve.specs.Inside.RankMaps.{AreMapped, IsKnown}
 
 -- the nodes of the schema
 abbrev pub nodes_of : Side → List NodeView
@@ -19,7 +19,7 @@ names_of side = texts_view side.index.now.names.items
 
 -- each named place is a node's, the index is that of the nodes, a place and one fit 16 bits, and each field is the one that its name finds
 pub record IsSide (side : Side) : Type 0 where
-  pub whole : IsWhole (nodes_of side)
+  pub whole : IsSelfContained (nodes_of side)
   pub index : IsIndex (nodes_of side) side.index.now
   pub few : length side.schema.now < 65536
   pub own : (i : ℕ) (a : NodeView) → slice_get (nodes_of side) i ≡ Some a → All (λ f. source (fields_of a) f ≡ Some f) (fields_of a)
@@ -35,5 +35,5 @@ columns sides = nodes_of sides.reader
 pub record IsSides (sides : Sides) : Type 0 where
   pub writer : IsSide sides.writer
   pub reader : IsSide sides.reader
-  pub met : AreMet (names_of sides.writer) (names_of sides.reader) sides.met.ranks.items
-  pub known : IsKnown sides.met.ranks.items sides.met.known.items
+  pub rank_map : AreMapped (names_of sides.writer) (names_of sides.reader) sides.rank_map.ranks.items
+  pub known : IsKnown sides.rank_map.ranks.items sides.rank_map.known.items

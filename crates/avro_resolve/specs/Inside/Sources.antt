@@ -6,7 +6,7 @@ use Rattle.std.specs.declared.alloc.Global.{Global}
 use Rattle.avro_nodes.specs.Nodes.{FieldView, NodeView}
 use Rattle.avro_schema.specs.Index.{IsFieldRanked}
 use Rattle.avro_resolve.specs.declared.readable.Aliased.{Aliased}
-use Rattle.avro_resolve.specs.declared.readable.Wanted.{Wanted}
+use Rattle.avro_resolve.specs.declared.readable.ReaderField.{ReaderField}
 use Rattle.avro_resolve.specs.declared.sides.Side.{Side}
 use Rattle.avro_resolve.specs.Asking.{source_place}
 use Rattle.avro_resolve.specs.Inside.Agreeing.{fields_of}
@@ -14,30 +14,30 @@ use Rattle.avro_resolve.specs.Inside.Lists.{list_at}
 use Rattle.avro_resolve.specs.Inside.Sides.{names_of, nodes_of}
 
 -- a place and one, or 0 for none
-abbrev pub code : Option ℕ → ℕ
-code None = 0
-code (Some place) = place + 1
+abbrev pub source_code : Option ℕ → ℕ
+source_code None = 0
+source_code (Some place) = place + 1
 
 -- the field that is meant
 abbrev pub field_at : List NodeView → Aliased → Option FieldView
 field_at nodes aliased = option_and_then (λ a. slice_get (fields_of a) aliased.index) (slice_get nodes aliased.place)
 
 -- it tells the source of the field, if there is such a field
-abbrev pub IsEntry : List NodeView → List FieldView → Aliased → ℕ → Type 0
-IsEntry nodes fields aliased entry = (f : FieldView) → field_at nodes aliased ≡ Some f → entry ≡ code (source_place fields f)
+abbrev pub IsSourceCode : List NodeView → List FieldView → Aliased → ℕ → Type 0
+IsSourceCode nodes fields aliased entry = (f : FieldView) → field_at nodes aliased ≡ Some f → entry ≡ source_code (source_place fields f)
 
 -- it tells the place of the field's type, whether the field has a default, and the ranks of its names
-abbrev pub Describes : List (List ℕ) → Wanted → FieldView → Type 0
+abbrev pub Describes : List (List ℕ) → ReaderField → FieldView → Type 0
 Describes names wanted f = (wanted.place ≡ f.place) × (IsTrue wanted.has_default ↔ IsSome f.value) × IsFieldRanked names f wanted.names.now
 
 -- it tells that of some field, if it tells anything, and of the field that is meant, if there is such a field
-pub record IsWanted (side : Side) (aliased : Aliased) (wanted : Option Wanted) : Type 0 where
+pub record IsReaderField (side : Side) (aliased : Aliased) (wanted : Option ReaderField) : Type 0 where
   pub some : IfSome wanted (λ w. (f : FieldView) × Describes (names_of side) w f)
-  pub told : (f : FieldView) → field_at (nodes_of side) aliased ≡ Some f → IsSomeAnd wanted (λ w. Describes (names_of side) w f)
+  pub known : (f : FieldView) → field_at (nodes_of side) aliased ≡ Some f → IsSomeAnd wanted (λ w. Describes (names_of side) w f)
 
 -- those of all listed fields, for each of the writer's nodes
 abbrev pub AreSources : List NodeView → List NodeView → List Aliased → List (Vec ℕ Global) → Type 0
-AreSources w r aliased sources = AllZip (λ a (row : Vec ℕ Global). AllZip (IsEntry r (fields_of a)) aliased row.items) w sources
+AreSources w r aliased sources = AllZip (λ a (row : Vec ℕ Global). AllZip (IsSourceCode r (fields_of a)) aliased row.items) w sources
 
 -- what is told for a writer's place and the field of a number
 abbrev pub code_at : List (Vec ℕ Global) → ℕ → ℕ → ℕ

@@ -7,10 +7,10 @@ use Rattle.serde_json.specs.View.{view}
 use Rattle.avro_nodes.specs.declared.node.Order.{Order}
 use Rattle.avro_nodes.specs.Limits.{max_nesting}
 use Rattle.avro_nodes.specs.Nodes.{NamedView, texts_view, enumeration, fixed}
-use Rattle.avro_schema.specs.declared.labels.Label.{Label}
+use Rattle.avro_schema.specs.declared.field_attributes.FieldAttributes.{FieldAttributes}
 use Rattle.avro_schema.specs.Names.{Known, is_simple, allowed, full_name, alias_in, defined}
 use Rattle.avro_nodes.specs.Names.{namespace_of, last_part}
-use Rattle.avro_schema.specs.Words.{kind_of}
+use Rattle.avro_schema.specs.Keywords.{kind_of}
 use Rattle.avro_schema.specs.Attributes.{◌>>=◌, without_all, text_in, array_in, text_if_any, texts_in, texts_if_any, size_of, fallback_in, order_in}
 use Rattle.avro_schema.specs.Inside.Distinct.{all_differ}
 use Rattle.avro_schema.specs.Inside.ValueReaders.{Part, room_at}
@@ -44,8 +44,8 @@ new_name space ms known = do
   if_new known full
 
 -- the keys of a definition's names
-abbrev pub naming : List (List ℕ)
-naming = codes "name" ∷ codes "namespace" ∷ codes "aliases" ∷ []
+abbrev pub name_keys : List (List ℕ)
+name_keys = codes "name" ∷ codes "namespace" ∷ codes "aliases" ∷ []
 
 -- the names of a new definition
 unfoldable pub named_in : List ℕ → Members → Known → Option NamedView
@@ -65,31 +65,31 @@ unfoldable pub enum_at : List ℕ → Members → Known → ℕ → Option (Part
 enum_at space ms known first = do
   place ← room_at first
   named ← named_in space ms known
-  symbols ← symbols_in (without_all naming ms)
-  fallback ← fallback_in symbols (get_member (codes "default") (without_all (codes "symbols" ∷ []) (without_all naming ms)))
-  extra ← bounded (without_all (codes "symbols" ∷ codes "default" ∷ []) (without_all naming ms))
+  symbols ← symbols_in (without_all name_keys ms)
+  fallback ← fallback_in symbols (get_member (codes "default") (without_all (codes "symbols" ∷ []) (without_all name_keys ms)))
+  extra ← bounded (without_all (codes "symbols" ∷ codes "default" ∷ []) (without_all name_keys ms))
   Some (record { it = place; nodes = enumeration named symbols fallback extra ∷ []; known = defined known named.name place })
 
 unfoldable pub fixed_at : List ℕ → Members → Known → ℕ → Option (Part ℕ)
 fixed_at space ms known first = do
   place ← room_at first
   named ← named_in space ms known
-  size ← size_of (get_member (codes "size") (without_all naming ms))
-  extra ← bounded (without_all (codes "size" ∷ []) (without_all naming ms))
+  size ← size_of (get_member (codes "size") (without_all name_keys ms))
+  extra ← bounded (without_all (codes "size" ∷ []) (without_all name_keys ms))
   Some (record { it = place; nodes = fixed named size extra ∷ []; known = defined known named.name place })
 
 -- what a field says beside its type
-pub record LabelView : Type 0 where
+pub record FieldAttributesView : Type 0 where
   pub name : List ℕ
   pub aliases : List (List ℕ)
   pub order : Order
   pub value : Option Data
 
-abbrev pub label_view : Label → LabelView
-label_view l = record { name = string_bytes l.name; aliases = texts_view l.aliases.items; order = l.order; value = option_map view l.value }
+abbrev pub field_attributes_view : FieldAttributes → FieldAttributesView
+field_attributes_view l = record { name = string_bytes l.name; aliases = texts_view l.aliases.items; order = l.order; value = option_map view l.value }
 
-unfoldable pub label_in : Members → Option LabelView
-label_in ms = do
+unfoldable pub field_attributes_in : Members → Option FieldAttributesView
+field_attributes_in ms = do
   text ← text_in (codes "name") ms
   name ← allowed is_simple text
   aliases ← texts_if_any (allowed is_simple) (get_member (codes "aliases") (without_all (codes "name" ∷ []) ms))
@@ -98,5 +98,5 @@ label_in ms = do
   Some (record { name = name; aliases = aliases; order = order; value = value })
 
 -- the keys of these
-abbrev pub labelling : List (List ℕ)
-labelling = codes "name" ∷ codes "aliases" ∷ codes "order" ∷ codes "default" ∷ []
+abbrev pub field_attribute_keys : List (List ℕ)
+field_attribute_keys = codes "name" ∷ codes "aliases" ∷ codes "order" ∷ codes "default" ∷ []

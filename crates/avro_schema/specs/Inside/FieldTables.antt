@@ -15,28 +15,28 @@ abbrev pub named_in : FieldTable → List ℕ → Option ℕ
 named_in t name = get_by (λ k. slice_cmp nat_cmp name k.now) t.by_name
 
 -- whether the field at the index is always asked for
-abbrev pub is_always : List ℕ → ℕ → Bool
-is_always always i = list_any (λ j. j == i) always
+abbrev pub is_required : List ℕ → ℕ → Bool
+is_required required i = list_any (λ j. j == i) required
 
 -- the field at the index is always asked for, or has a default and is found by its name
-abbrev pub IsFound : List ℕ → (List ℕ → Option ℕ) → ℕ → FieldView → Type 0
-IsFound always named i f = (is_always always i ≡ true) ⊎ ((is_some f.value ≡ true) × (named f.name ≡ Some i))
+abbrev pub IsCovered : List ℕ → (List ℕ → Option ℕ) → ℕ → FieldView → Type 0
+IsCovered required named i f = (is_required required i ≡ true) ⊎ ((is_some f.value ≡ true) × (named f.name ≡ Some i))
 
 -- so is each of the first n fields
 unfoldable pub CoversFirst : ℕ → List ℕ → (List ℕ → Option ℕ) → List FieldView → Type 0
-CoversFirst n always named fields = (i : ℕ) (f : FieldView) → i < n → slice_get fields i ≡ Some f → IsFound always named i f
+CoversFirst n required named fields = (i : ℕ) (f : FieldView) → i < n → slice_get fields i ≡ Some f → IsCovered required named i f
 
 -- so is each field of the table
-abbrev pub IsTable : FieldTable → List FieldView → Type 0
-IsTable t fields = CoversFirst (length fields) t.always.items (named_in t) fields
+abbrev pub IsFieldTable : FieldTable → List FieldView → Type 0
+IsFieldTable t fields = CoversFirst (length fields) t.required.items (named_in t) fields
 
 -- the table is that of the fields, where the node is a record
-unfoldable pub IsTableOf : FieldTable → NodeView → Type 0
-IsTableOf t node = (named : NamedView) (fields : List FieldView) (extra : Members) → node ≡ rec named fields extra → IsTable t fields
+unfoldable pub IsFieldTableOf : FieldTable → NodeView → Type 0
+IsFieldTableOf t node = (named : NamedView) (fields : List FieldView) (extra : Members) → node ≡ rec named fields extra → IsFieldTable t fields
 
 -- each table is that of the node at its place
-unfoldable pub AreTables : List NodeView → List (Option FieldTable) → Type 0
-AreTables nodes tables = (place : ℕ) (t : FieldTable) (node : NodeView) → slice_get tables place ≡ Some (Some t) → slice_get nodes place ≡ Some node → IsTableOf t node
+unfoldable pub AreFieldTables : List NodeView → List (Option FieldTable) → Type 0
+AreFieldTables nodes tables = (place : ℕ) (t : FieldTable) (node : NodeView) → slice_get tables place ≡ Some (Some t) → slice_get nodes place ≡ Some node → IsFieldTableOf t node
 
 -- whether the field at an index fits, if there is one
 abbrev pub fits_if_any : Fitting → Members → Option FieldView → Bool

@@ -10,14 +10,14 @@ use Rattle.avro_nodes.specs.declared.node.Kind.TheVariants.{Null, Boolean, Int, 
 use Rattle.avro_nodes.specs.Nodes.{FieldView, NodeView, primitive, array, mapping, union, enumeration, fixed, rec}
 use Rattle.avro_schema.specs.Defaults.{is_int, is_bytes}
 
-abbrev pub whole_fits : (ℤ → Bool) → Option ℤ → Bool
-whole_fits test None = false
-whole_fits test (Some z) = test z
+abbrev pub integer_fits : (ℤ → Bool) → Option ℤ → Bool
+integer_fits test None = false
+integer_fits test (Some z) = test z
 
 abbrev pub number_fits : Kind → Option ℤ → Bool
 number_fits Null o = false
 number_fits Boolean o = false
-number_fits Int o = whole_fits is_int o
+number_fits Int o = integer_fits is_int o
 number_fits Long o = is_some o
 number_fits Float o = is_some o
 number_fits Double o = is_some o
@@ -134,21 +134,21 @@ node_fits one v (Some (fixed named size extra)) = fixed_fits v size
 node_fits one v (Some (rec named fields extra)) = record_fits one v fields
 
 -- a type, or the first branch of a union
-abbrev pub entered : List NodeView → Option NodeView → Option NodeView
-entered nodes None = None
-entered nodes (Some (primitive kind extra)) = Some (primitive kind extra)
-entered nodes (Some (array place extra)) = Some (array place extra)
-entered nodes (Some (mapping place extra)) = Some (mapping place extra)
-entered nodes (Some (union [])) = None
-entered nodes (Some (union (first ∷ others))) = slice_get nodes first
-entered nodes (Some (enumeration named symbols fallback extra)) = Some (enumeration named symbols fallback extra)
-entered nodes (Some (fixed named size extra)) = Some (fixed named size extra)
-entered nodes (Some (rec named fields extra)) = Some (rec named fields extra)
+abbrev pub default_type : List NodeView → Option NodeView → Option NodeView
+default_type nodes None = None
+default_type nodes (Some (primitive kind extra)) = Some (primitive kind extra)
+default_type nodes (Some (array place extra)) = Some (array place extra)
+default_type nodes (Some (mapping place extra)) = Some (mapping place extra)
+default_type nodes (Some (union [])) = None
+default_type nodes (Some (union (first ∷ others))) = slice_get nodes first
+default_type nodes (Some (enumeration named symbols fallback extra)) = Some (enumeration named symbols fallback extra)
+default_type nodes (Some (fixed named size extra)) = Some (fixed named size extra)
+default_type nodes (Some (rec named fields extra)) = Some (rec named fields extra)
 
 -- for values that nest less deep than the number
 unfoldable pub fits : ℕ → List NodeView → Fitting
 fits zero nodes v place = false
-fits (suc n) nodes v place = node_fits (fits n nodes) v (entered nodes (slice_get nodes place))
+fits (suc n) nodes v place = node_fits (fits n nodes) v (default_type nodes (slice_get nodes place))
 
 -- a default, if there is one, fits its field
 abbrev pub value_fits : List NodeView → Option Data → ℕ → Bool

@@ -3,14 +3,14 @@ use Rattle.std.specs.Prelude.{◌≡◌, ℕ, List, [], ◌∷◌, Option, Some,
 use Rattle.std.specs.BTreeMap.{BTreeMap, get_by_text}
 use Rattle.std.specs.declared.alloc.Global.{Global}
 use Rattle.avro_nodes.specs.Names.{namespace_of, last_part}
-use Rattle.avro_schema.specs.declared.places.Places.{Places}
-use Rattle.avro_schema.specs.declared.places.Space.{Space}
+use Rattle.avro_schema.specs.declared.name_table.NameTable.{NameTable}
+use Rattle.avro_schema.specs.declared.name_table.Namespace.{Namespace}
 use Rattle.avro_schema.specs.Names.{Known}
 
 -- a full name without its namespace, which is given first
-abbrev pub without_space : List ℕ → List ℕ → List ℕ
-without_space [] full = full
-without_space (c ∷ space) full = last_part full
+abbrev pub without_namespace : List ℕ → List ℕ → List ℕ
+without_namespace [] full = full
+without_namespace (c ∷ space) full = last_part full
 
 -- the place of a name in a table, if there is one
 abbrev pub in_table : Option (BTreeMap (String Global) ℕ) → List ℕ → Option ℕ
@@ -23,21 +23,21 @@ place_at tables None name = None
 place_at tables (Some n) name = in_table (slice_get tables n) name
 
 -- the number of a namespace
-abbrev pub number_in : Places → List ℕ → Option ℕ
+abbrev pub number_in : NameTable → List ℕ → Option ℕ
 number_in known space = get_by_text known.numbers space
 
 -- the place of a name in a namespace
-abbrev pub place_in : Places → List ℕ → List ℕ → Option ℕ
+abbrev pub place_in : NameTable → List ℕ → List ℕ → Option ℕ
 place_in known space name = place_at known.tables.items (number_in known space) name
 
 -- the tables of names as a function of full names
-abbrev pub known_in : Places → Known
-known_in known = λ full. place_in known (namespace_of full) (without_space (namespace_of full) full)
+abbrev pub known_in : NameTable → Known
+known_in known = λ full. place_in known (namespace_of full) (without_namespace (namespace_of full) full)
 
 -- the number is the one that the namespace has
-abbrev pub HasNumber : Places → Space → Type 0
+abbrev pub HasNumber : NameTable → Namespace → Type 0
 HasNumber known space = number_in known space.text.now ≡ Some space.number
 
 -- each namespace has the number that it had
-unfoldable pub KeepsNumbers : Places → Places → Type 0
+unfoldable pub KeepsNumbers : NameTable → NameTable → Type 0
 KeepsNumbers old new = (space : List ℕ) (n : ℕ) → number_in old space ≡ Some n → number_in new space ≡ Some n

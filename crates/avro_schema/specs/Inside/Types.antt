@@ -7,18 +7,18 @@ use Rattle.serde_json.specs.Data as json
 use Rattle.serde_json.specs.Find.{get_member, as_object}
 use Rattle.avro_nodes.specs.declared.node.Kind.{Kind}
 use Rattle.avro_nodes.specs.Nodes.{FieldView, NodeView, primitive, array, mapping, union, rec}
-use Rattle.avro_schema.specs.declared.words.Word.{Word}
-use Rattle.avro_schema.specs.declared.words.Word.TheVariants as word
-use Rattle.avro_schema.specs.declared.words.Container.{Container}
-use Rattle.avro_schema.specs.declared.words.Container.TheVariants.{Items as of_items, Values as of_values}
+use Rattle.avro_schema.specs.declared.keywords.TypeName.{TypeName}
+use Rattle.avro_schema.specs.declared.keywords.TypeName.TheVariants as type_name
+use Rattle.avro_schema.specs.declared.keywords.Container.{Container}
+use Rattle.avro_schema.specs.declared.keywords.Container.TheVariants.{Items as of_items, Values as of_values}
 use Rattle.avro_schema.specs.Inside.KindNumbers.{branch_number}
 use Rattle.avro_schema.specs.Names.{Known, resolved, defined}
 use Rattle.avro_nodes.specs.Names.{namespace_of}
-use Rattle.avro_schema.specs.Words.{kind_of, word_of}
+use Rattle.avro_schema.specs.Keywords.{kind_of, type_name_of}
 use Rattle.avro_schema.specs.Attributes.{◌>>=◌, without_all, text_in, array_in}
 use Rattle.avro_schema.specs.Inside.Distinct.{all_differ}
-use Rattle.avro_schema.specs.Inside.Declarations.{naming, named_in, enum_at, fixed_at, LabelView, label_in, labelling, bounded}
-use Rattle.avro_schema.specs.Inside.ValueReaders.{Part, Reader, Types, parts_of, room_at}
+use Rattle.avro_schema.specs.Inside.Declarations.{name_keys, named_in, enum_at, fixed_at, FieldAttributesView, field_attributes_in, field_attribute_keys, bounded}
+use Rattle.avro_schema.specs.Inside.ValueReaders.{Part, PartReader, TypeReader, parts_of, room_at}
 
 -- a reference makes no node
 unfoldable pub reference_to : List ℕ → List ℕ → Known → Option (Part ℕ)
@@ -40,32 +40,32 @@ name_at space name known first = kind_or_reference (kind_of name) space name kno
 
 -- ---- arrays and maps
 
-abbrev pub key_of : Container → List ℕ
-key_of of_items = codes "items"
-key_of of_values = codes "values"
+abbrev pub member_name : Container → List ℕ
+member_name of_items = codes "items"
+member_name of_values = codes "values"
 
 abbrev pub container_node : Container → ℕ → Members → NodeView
 container_node of_items place extra = array place extra
 container_node of_values place extra = mapping place extra
 
-unfoldable pub container_at : Container → Reader ℕ → Members → Known → ℕ → Option (Part ℕ)
+unfoldable pub container_at : Container → PartReader ℕ → Members → Known → ℕ → Option (Part ℕ)
 container_at container one ms known first = do
   place ← room_at first
-  inner ← get_member (key_of container) ms
-  extra ← bounded (without_all (key_of container ∷ []) ms)
+  inner ← get_member (member_name container) ms
+  extra ← bounded (without_all (member_name container ∷ []) ms)
   p ← one inner known (first + 1)
   Some (record { it = place; nodes = container_node container p.it extra ∷ p.nodes; known = p.known })
 
 -- ---- unions
 
 -- a branch: its place and the number of its kind
-unfoldable pub branch_of : Reader ℕ → Reader (ℕ × ℕ)
+unfoldable pub branch_of : PartReader ℕ → PartReader (ℕ × ℕ)
 branch_of one d known first = do
   p ← one d known first
   number ← branch_number p.it p.nodes
   Some (record { it = (p.it, number); nodes = p.nodes; known = p.known })
 
-unfoldable pub union_at : Reader ℕ → Items → Known → ℕ → Option (Part ℕ)
+unfoldable pub union_at : PartReader ℕ → Items → Known → ℕ → Option (Part ℕ)
 union_at one ds known first = do
   place ← room_at first
   ps ← parts_of (branch_of one) ds known (first + 1)
@@ -73,46 +73,46 @@ union_at one ds known first = do
 
 -- ---- records
 
-abbrev pub field_at : LabelView → ℕ → Members → FieldView
+abbrev pub field_at : FieldAttributesView → ℕ → Members → FieldView
 field_at label place extra = record { name = label.name; place = place; aliases = label.aliases; order = label.order; value = label.value; extra = extra }
 
-unfoldable pub field_of : Reader ℕ → Reader FieldView
+unfoldable pub field_of : PartReader ℕ → PartReader FieldView
 field_of one d known first = do
   ms ← as_object d
-  label ← label_in ms
-  inner ← get_member (codes "type") (without_all labelling ms)
-  extra ← bounded (without_all (codes "type" ∷ []) (without_all labelling ms))
+  label ← field_attributes_in ms
+  inner ← get_member (codes "type") (without_all field_attribute_keys ms)
+  extra ← bounded (without_all (codes "type" ∷ []) (without_all field_attribute_keys ms))
   p ← one inner known first
   Some (record { it = field_at label p.it extra; nodes = p.nodes; known = p.known })
 
-unfoldable pub record_at : Types → List ℕ → Members → Known → ℕ → Option (Part ℕ)
+unfoldable pub record_at : TypeReader → List ℕ → Members → Known → ℕ → Option (Part ℕ)
 record_at types space ms known first = do
   place ← room_at first
   named ← named_in space ms known
-  items ← array_in (codes "fields") (without_all naming ms)
-  extra ← bounded (without_all (codes "fields" ∷ []) (without_all naming ms))
+  items ← array_in (codes "fields") (without_all name_keys ms)
+  extra ← bounded (without_all (codes "fields" ∷ []) (without_all name_keys ms))
   ps ← parts_of (field_of (types (namespace_of named.name))) items (defined known named.name place) (first + 1)
   if all_differ bytes_eq (map (λ f. f.name) ps.it) then Some (record { it = place; nodes = rec named ps.it extra ∷ ps.nodes; known = ps.known }) else None
 
 -- ---- types
 
 -- an object, by what its `type` says, with its other members
-abbrev pub by_word : Word → List ℕ → Types → List ℕ → Members → Known → ℕ → Option (Part ℕ)
-by_word (word.Primitive kind) name types space ms known first = primitive_at kind ms known first
-by_word word.Array name types space ms known first = container_at of_items (types space) ms known first
-by_word word.Map name types space ms known first = container_at of_values (types space) ms known first
-by_word word.Fixed name types space ms known first = fixed_at space ms known first
-by_word word.Enum name types space ms known first = enum_at space ms known first
-by_word word.Record name types space ms known first = record_at types space ms known first
-by_word word.Reference name types space ms known first = bounded ms >>= λ _. reference_to space name known
+abbrev pub by_type_name : TypeName → List ℕ → TypeReader → List ℕ → Members → Known → ℕ → Option (Part ℕ)
+by_type_name (type_name.Primitive kind) name types space ms known first = primitive_at kind ms known first
+by_type_name type_name.Array name types space ms known first = container_at of_items (types space) ms known first
+by_type_name type_name.Map name types space ms known first = container_at of_values (types space) ms known first
+by_type_name type_name.Fixed name types space ms known first = fixed_at space ms known first
+by_type_name type_name.Enum name types space ms known first = enum_at space ms known first
+by_type_name type_name.Record name types space ms known first = record_at types space ms known first
+by_type_name type_name.Reference name types space ms known first = bounded ms >>= λ _. reference_to space name known
 
-unfoldable pub object_at : Types → List ℕ → Members → Known → ℕ → Option (Part ℕ)
+unfoldable pub object_at : TypeReader → List ℕ → Members → Known → ℕ → Option (Part ℕ)
 object_at types space ms known first = do
   name ← text_in (codes "type") ms
-  by_word (word_of name) name types space (without_all (codes "type" ∷ []) ms) known first
+  by_type_name (type_name_of name) name types space (without_all (codes "type" ∷ []) ms) known first
 
 -- a type by its form; the first is the reader of the types inside
-abbrev pub form_at : Types → List ℕ → Reader ℕ
+abbrev pub form_at : TypeReader → List ℕ → PartReader ℕ
 form_at types space (string s) known first = name_at space s known first
 form_at types space (json.array ds) known first = union_at (types space) ds known first
 form_at types space (json.object ms) known first = object_at types space ms known first
@@ -121,6 +121,6 @@ form_at types space (json.boolean b) known first = None
 form_at types space (json.number n) known first = None
 
 -- a type, nested no deeper than the number
-unfoldable pub type_at : ℕ → Types
+unfoldable pub type_at : ℕ → TypeReader
 type_at zero space d known first = None
 type_at (suc n) space d known first = form_at (type_at n) space d known first

@@ -13,15 +13,15 @@ pub record Part (A : Type 0) : Type 0 where
   pub known : Known
 
 -- of a value, at the names known before it and the place of its first node
-abbrev pub Reader : Type 0 → Type 0
-Reader A = Data → Known → ℕ → Option (Part A)
+abbrev pub PartReader : Type 0 → Type 0
+PartReader A = Data → Known → ℕ → Option (Part A)
 
 -- the reader of a type, in a namespace
-abbrev pub Types : Type 0
-Types = List ℕ → Reader ℕ
+abbrev pub TypeReader : Type 0
+TypeReader = List ℕ → PartReader ℕ
 
 -- one after the other: each knows the names of those before it, and its nodes follow theirs
-unfoldable pub parts_of : {A : Type 0} → Reader A → Items → Known → ℕ → Option (Part (List A))
+unfoldable pub parts_of : {A : Type 0} → PartReader A → Items → Known → ℕ → Option (Part (List A))
 parts_of one no_items known first = Some (record { it = []; nodes = []; known = known })
 parts_of one (item d ds) known first = do
   p ← one d known first

@@ -6,10 +6,10 @@ use Rattle.serde_json.specs.Data as json
 use Rattle.serde_json.specs.Find.{get_member, as_str, as_object}
 use Rattle.avro_nodes.specs.Names.{has_dot, namespace_of}
 use Rattle.avro_nodes.specs.Nodes.{NamedView, NodeView, primitive, array, mapping, union, enumeration, fixed, rec}
-use Rattle.avro_schema.specs.declared.words.Word.{Word}
-use Rattle.avro_schema.specs.declared.words.Word.TheVariants as word
-use Rattle.avro_schema.specs.Names.{joined}
-use Rattle.avro_schema.specs.Words.{word_of}
+use Rattle.avro_schema.specs.declared.keywords.TypeName.{TypeName}
+use Rattle.avro_schema.specs.declared.keywords.TypeName.TheVariants as type_name
+use Rattle.avro_schema.specs.Names.{qualified}
+use Rattle.avro_schema.specs.Keywords.{type_name_of}
 use Rattle.avro_schema.specs.Attributes.{text_in, array_in}
 
 abbrev pub texts_size : List (List ℕ) → ℕ
@@ -44,22 +44,22 @@ items_weight one no_items = 0
 items_weight one (item d ds) = one d + items_weight one ds
 
 -- the full name that a name has in a namespace; with a dot it is one
-unfoldable pub full_in : List ℕ → List ℕ → List ℕ
-full_in space name = if has_dot name then name else joined space name
+unfoldable pub full_name_in : List ℕ → List ℕ → List ℕ
+full_name_in space name = if has_dot name then name else qualified space name
 
 abbrev pub alias_weight : List ℕ → Data → ℕ
-alias_weight space d = if_any (λ alias. length (full_in space alias)) (as_str d)
+alias_weight space d = if_any (λ alias. length (full_name_in space alias)) (as_str d)
 
 -- the namespace of a definition of this name, inside an enclosing one
-unfoldable pub space_in : List ℕ → List ℕ → Members → List ℕ
-space_in enclosing name ms = if has_dot name then namespace_of name else unwrap_or (text_in (codes "namespace") ms) enclosing
+unfoldable pub namespace_in : List ℕ → List ℕ → Members → List ℕ
+namespace_in enclosing name ms = if has_dot name then namespace_of name else unwrap_or (text_in (codes "namespace") ms) enclosing
 
 -- the name and the aliases of a definition in the namespace
 unfoldable pub names_weight : List ℕ → List ℕ → Members → ℕ
-names_weight space name ms = length (full_in space name) + if_any (items_weight (alias_weight space)) (array_in (codes "aliases") ms)
+names_weight space name ms = length (full_name_in space name) + if_any (items_weight (alias_weight space)) (array_in (codes "aliases") ms)
 
 unfoldable pub definition_weight : List ℕ → Members → ℕ
-definition_weight space ms = if_any (λ name. names_weight (space_in space name ms) name ms) (text_in (codes "name") ms)
+definition_weight space ms = if_any (λ name. names_weight (namespace_in space name ms) name ms) (text_in (codes "name") ms)
 
 -- a type, in a namespace
 abbrev pub Weigher : Type 0
@@ -70,21 +70,21 @@ field_weight one d = if_any one (option_and_then (get_member (codes "type")) (as
 
 unfoldable pub record_weight : Weigher → List ℕ → Members → ℕ
 record_weight types space ms =
-    if_any (λ name. names_weight (space_in space name ms) name ms + if_any (items_weight (field_weight (types (space_in space name ms)))) (array_in (codes "fields") ms))
+    if_any (λ name. names_weight (namespace_in space name ms) name ms + if_any (items_weight (field_weight (types (namespace_in space name ms)))) (array_in (codes "fields") ms))
     (text_in (codes "name") ms)
 
 -- an object, by what its `type` says
-abbrev pub by_word : Word → Weigher → List ℕ → Members → ℕ
-by_word (word.Primitive kind) types space ms = 0
-by_word word.Array types space ms = if_any (types space) (get_member (codes "items") ms)
-by_word word.Map types space ms = if_any (types space) (get_member (codes "values") ms)
-by_word word.Fixed types space ms = definition_weight space ms
-by_word word.Enum types space ms = definition_weight space ms
-by_word word.Record types space ms = record_weight types space ms
-by_word word.Reference types space ms = 0
+abbrev pub by_type_name : TypeName → Weigher → List ℕ → Members → ℕ
+by_type_name (type_name.Primitive kind) types space ms = 0
+by_type_name type_name.Array types space ms = if_any (types space) (get_member (codes "items") ms)
+by_type_name type_name.Map types space ms = if_any (types space) (get_member (codes "values") ms)
+by_type_name type_name.Fixed types space ms = definition_weight space ms
+by_type_name type_name.Enum types space ms = definition_weight space ms
+by_type_name type_name.Record types space ms = record_weight types space ms
+by_type_name type_name.Reference types space ms = 0
 
 unfoldable pub object_weight : Weigher → List ℕ → Members → ℕ
-object_weight types space ms = if_any (λ name. by_word (word_of name) types space ms) (text_in (codes "type") ms)
+object_weight types space ms = if_any (λ name. by_type_name (type_name_of name) types space ms) (text_in (codes "type") ms)
 
 abbrev pub form_weight : Weigher → Weigher
 form_weight types space (json.array ds) = items_weight (types space) ds

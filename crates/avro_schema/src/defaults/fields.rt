@@ -3,7 +3,7 @@
 ghost use Rattle.std.specs.Prelude.{◌≡◌, map};
 ghost use Rattle.avro_nodes.specs.Nodes.{field_view, node_view, nodes_view};
 ghost use Rattle.avro_schema.specs.Inside.Fitting.{field_defaults_fit, node_default_fits};
-ghost use Rattle.avro_schema.specs.Inside.FieldTables.{AreTables};
+ghost use Rattle.avro_schema.specs.Inside.FieldTables.{AreFieldTables};
 
 use crate::defaults::fits;
 use crate::tables::FieldTable;
@@ -11,7 +11,7 @@ use avro_nodes::{Field, MAX_NESTING, Node};
 
 /// Whether each default of the fields fits its field.
 fn field_defaults_fit(fields: &[Field], nodes: &[Node], tables: &[Option<FieldTable>]) -> bool
-    requires tables { AreTables (nodes_view nodes.now) tables.now }
+    requires tables { AreFieldTables (nodes_view nodes.now) tables.now }
     ensures { result ≡ field_defaults_fit (nodes_view nodes.now) (map field_view fields.now) }
 {
     for field in fields {
@@ -26,7 +26,7 @@ fn field_defaults_fit(fields: &[Field], nodes: &[Node], tables: &[Option<FieldTa
 
 /// Whether each default of a record fits its field. Other types have none.
 pub fn node_default_fits(node: &Node, nodes: &[Node], tables: &[Option<FieldTable>]) -> bool
-    requires tables { AreTables (nodes_view nodes.now) tables.now }
+    requires tables { AreFieldTables (nodes_view nodes.now) tables.now }
     ensures { result ≡ node_default_fits (nodes_view nodes.now) (node_view node.now) }
 {
     match node {

@@ -3,9 +3,9 @@
 ghost use Rattle.std.specs.Prelude.{◌≡◌};
 ghost use Rattle.avro_nodes.specs.Nodes.{nodes_view};
 ghost use Rattle.avro_schema.specs.Inside.KindNumbers.{primitive_number, branch_number};
-ghost use Rattle.avro_schema.specs.Inside.Types.{key_of};
+ghost use Rattle.avro_schema.specs.Inside.Types.{member_name};
 
-use crate::words::Container;
+use crate::keywords::Container;
 use avro_nodes::{Kind, Node};
 
 /// A number for each primitive type.
@@ -45,8 +45,8 @@ pub fn branch_number(place: u32, added: &[Node]) -> Option<u64>
 }
 
 /// The attribute that holds what an array or a map is of.
-pub fn key_of(container: Container) -> &'static str
-    ensures { result.now ≡ key_of container }
+pub fn member_name(container: Container) -> &'static str
+    ensures { result.now ≡ member_name container }
 {
     match container {
         Container::Items => "items",

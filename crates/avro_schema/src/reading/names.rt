@@ -4,14 +4,14 @@ ghost use Rattle.std.specs.Prelude.{length};
 ghost use Rattle.avro_nodes.specs.Nodes.{nodes_view};
 ghost use Rattle.avro_schema.specs.Inside.Borrowed.{members_data};
 ghost use Rattle.avro_schema.specs.Inside.Types.{reference_to, primitive_at, name_at};
-ghost use Rattle.avro_schema.specs.Inside.ReaderAnswers.{Reads};
+ghost use Rattle.avro_schema.specs.Inside.ReaderResults.{ReadsPart};
 ghost use Rattle.avro_schema.specs.Inside.NameTables.{known_in, HasNumber};
 
 use crate::borrowed::Attributes;
 use crate::definitions::{next_place, other_attributes};
 use crate::error::SchemaError;
-use crate::places::{Places, Space};
-use crate::words::kind_of;
+use crate::keywords::kind_of;
+use crate::name_table::{NameTable, Namespace};
 use avro_nodes::{Extra, Kind, Node};
 use std::alloc::Global;
 
@@ -27,9 +27,9 @@ pub fn primitive_at(
     kind: Kind,
     attributes: Attributes<'_>,
     nodes: &mut Vec<Node>,
-    known: &Places,
+    known: &NameTable,
 ) -> Result<u32, SchemaError>
-    ensures { Reads (λ p. p) result
+    ensures { ReadsPart (λ p. p) result
         (primitive_at kind (members_data attributes.entry) (known_in known.now) (length nodes.old.items))
         (nodes_view nodes.old.items) (nodes_view nodes.new.items) (known_in known.now) }
 {
@@ -47,12 +47,12 @@ pub fn primitive_at(
 #[tactic(auto, unfolding(crate::specs::Inside::Types::reference_to))]
 pub fn reference_to(
     name: &str,
-    space: &Space,
+    space: &Namespace,
     nodes: &Vec<Node>,
-    known: &Places,
+    known: &NameTable,
 ) -> Result<u32, SchemaError>
     requires { HasNumber known.now space.now }
-    ensures { Reads (λ p. p) result (reference_to space.now.text.now name.now (known_in known.now))
+    ensures { ReadsPart (λ p. p) result (reference_to space.now.text.now name.now (known_in known.now))
         (nodes_view nodes.now.items) (nodes_view nodes.now.items) (known_in known.now) }
 {
     match known.resolve(space, name) {
@@ -70,12 +70,12 @@ pub fn reference_to(
 pub fn name_at(
     alloc: Global,
     name: &str,
-    space: &Space,
+    space: &Namespace,
     nodes: &mut Vec<Node>,
-    known: &Places,
+    known: &NameTable,
 ) -> Result<u32, SchemaError>
     requires { HasNumber known.now space.now }
-    ensures { Reads (λ p. p) result
+    ensures { ReadsPart (λ p. p) result
         (name_at space.now.text.now name.now (known_in known.now) (length nodes.old.items))
         (nodes_view nodes.old.items) (nodes_view nodes.new.items) (known_in known.now) }
 {

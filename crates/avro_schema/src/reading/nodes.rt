@@ -4,10 +4,10 @@ ghost use Rattle.std.specs.Prelude.{◌≡◌, ◌<◌, length, slice_set};
 ghost use Rattle.serde_json.specs.View.{members_view};
 ghost use Rattle.avro_nodes.specs.Nodes.{field_view, node_view, nodes_view};
 ghost use Rattle.avro_schema.specs.Inside.Types.{container_node, field_at};
-ghost use Rattle.avro_schema.specs.Inside.Declarations.{label_view};
+ghost use Rattle.avro_schema.specs.Inside.Declarations.{field_attributes_view};
 
-use crate::labels::Label;
-use crate::words::Container;
+use crate::field_attributes::FieldAttributes;
+use crate::keywords::Container;
 use avro_nodes::{Extra, Field, Node};
 use std::alloc::Global;
 
@@ -44,10 +44,10 @@ pub fn fill_blank(nodes: &mut Vec<Node>, place: u32, node: Node)
 }
 
 /// A field, of the type at a place.
-pub fn field_from(label: Label, place: u32, extra: Extra) -> Field
-    ensures { field_view result ≡ field_at (label_view label) place (members_view extra.entries) }
+pub fn field_from(label: FieldAttributes, place: u32, extra: Extra) -> Field
+    ensures { field_view result ≡ field_at (field_attributes_view label) place (members_view extra.entries) }
 {
-    let Label {
+    let FieldAttributes {
         name,
         aliases,
         order,

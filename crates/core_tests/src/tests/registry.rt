@@ -3,9 +3,9 @@
 
 use avro_schema::Schema;
 use reg_core::{
-    Change, Command, Decision, Level, Mode, Row, Subject, Text, View, decide, decide_with,
+    Change, Command, Decision, Level, Mode, Row, Subject, Text, View, decide, decide_with_cache,
 };
-use schema_memory::Memory;
+use schema_cache::SchemaCache;
 use std::alloc::Global;
 use std::collections::BTreeMap;
 use std::process::Abort;
@@ -73,14 +73,14 @@ fn decided(alloc: Global, view: &View) -> Result<Decision, Fail> {
 }
 
 /// The same with a memory of schemas.
-fn decided_with(alloc: Global, view: &View, memory: &mut Memory) -> Result<Decision, Fail> {
+fn decided_with(alloc: Global, view: &View, cache: &mut SchemaCache) -> Result<Decision, Fail> {
     let schema = Schema::read(alloc, "\"int\"")?;
     let command = register(alloc)?;
-    Ok(decide_with(alloc, view, &command, Some(&schema), Some(memory))?)
+    Ok(decide_with_cache(alloc, view, &command, Some(&schema), Some(cache))?)
 }
 
 /// Holds a decision to the status, the body, and the number of the version that is added last, or 0.
-fn is_due(rt: &impl Abort, decision: &Decision, status: u16, body: &str, last: u32) {
+fn check_decision(rt: &impl Abort, decision: &Decision, status: u16, body: &str, last: u32) {
     let added = match decision.changes.last() {
         Some(Change::AddRow { row, .. }) => row.version(),
         _ => 0,
@@ -96,20 +96,20 @@ fn numbers_run_out(rt: HostRuntime) -> Result<(), Fail> {
         let mut view = view(rt.alloc(), number, deleted)?;
         view.known = known;
         view.count = count;
-        is_due(&rt, &decided(rt.alloc(), &view)?, status, body, last);
+        check_decision(&rt, &decided(rt.alloc(), &view)?, status, body, last);
     }
     Ok(())
 }
 
 /// The schema of a version is remembered once it was compared.
 #[test]
-fn what_is_compared_is_remembered(rt: HostRuntime) -> Result<(), Fail> {
+fn compared_schemas_are_cached(rt: HostRuntime) -> Result<(), Fail> {
     let view = view(rt.alloc(), 1, false)?;
-    let mut memory = Memory::new();
+    let mut cache = SchemaCache::new();
     for _ in 0..2 {
-        let decision = decided_with(rt.alloc(), &view, &mut memory)?;
-        is_due(&rt, &decision, 409, INCOMPATIBLE, 0);
-        assert_eq!(rt; memory.sizes(), (1, 8));
+        let decision = decided_with(rt.alloc(), &view, &mut cache)?;
+        check_decision(&rt, &decision, 409, INCOMPATIBLE, 0);
+        assert_eq!(rt; cache.sizes(), (1, 8));
     }
     Ok(())
 }

@@ -1,7 +1,7 @@
 //! What a part of a message waits for.
 
 use httparse::spans::EMPTY_HEADER_SPAN;
-use reg_messages::{Look, look_at};
+use reg_messages::{ParseOutcome, parse_front};
 use std::test::Fail;
 
 /// A message that sets a level.
@@ -10,14 +10,14 @@ const SET_FULL: &str =
 
 /// A part needs a byte more, and where it has the whole head, its body.
 #[test]
-fn a_part_with_its_head_needs_its_body(rt: HostRuntime) -> Result<(), Fail> {
+fn part_of_a_request_reports_the_bytes_it_needs(rt: HostRuntime) -> Result<(), Fail> {
     let whole = SET_FULL.len();
     let head = whole.saturating_sub(24);
     for at in 0..whole {
         let part = SET_FULL.as_bytes().get(..at).ok_or("no part")?;
         let mut headers = vec![in rt.alloc(); EMPTY_HEADER_SPAN; 4]?;
-        let needs = match look_at(part, headers.as_mut_slice()) {
-            Look::Part(needs) => needs,
+        let needs = match parse_front(part, headers.as_mut_slice()) {
+            ParseOutcome::Part(needs) => needs,
             _ => 0,
         };
         if at == 0 {

@@ -3,9 +3,9 @@
 
 use avro_resolve::{Verdict, resolves, resolves_itself, resolves_plain};
 use avro_schema::Schema;
-use avro_testing::{Text, random_text, text_of};
-use reg_core::{Level, admits, goes_with};
-use schema_memory::Memory;
+use avro_testing::{Template, expand, random_text};
+use reg_core::{Level, admits, is_compatible_with};
+use schema_cache::SchemaCache;
 use std::alloc::Global;
 use std::process::Abort;
 use std::test::Fail;
@@ -129,12 +129,12 @@ fn schemas_of(alloc: Global, texts: &str) -> Result<Vec<Schema>, Fail> {
 }
 
 /// Whether a new schema goes with an earlier one, as an audit asks it.
-fn goes(alloc: Global, level: Level, earlier: &str, new: &Schema) -> Result<bool, Fail> {
-    Ok(goes_with(alloc, level, 1, earlier, new, &mut Memory::new())?)
+fn is_compatible(alloc: Global, level: Level, earlier: &str, new: &Schema) -> Result<bool, Fail> {
+    Ok(is_compatible_with(alloc, level, 1, earlier, new, &mut SchemaCache::new())?)
 }
 
 /// Holds what a level answers to what is due. Where one schema is before the last, that goes with it or doesn't.
-fn is_admitted(
+fn check_admission(
     rt: &impl Abort,
     alloc: Global,
     level: Level,
@@ -147,7 +147,7 @@ fn is_admitted(
     if let Some((earlier, _)) = texts.split_once(" => ")
         && schemas.len() == 1
     {
-        assert_eq!(rt; goes(alloc, level, earlier, &new)?, yes, "{texts}");
+        assert_eq!(rt; is_compatible(alloc, level, earlier, &new)?, yes, "{texts}");
     }
     Ok(())
 }
@@ -158,7 +158,7 @@ fn levels_admit(rt: HostRuntime) -> Result<(), Fail> {
         let (want, rest) = row.split_once(' ').ok_or("a row without an answer")?;
         let (level, texts) = rest.split_once(' ').ok_or("a row without a level")?;
         let level = Level::parse(level).ok_or("a row with another level")?;
-        is_admitted(&rt, rt.alloc(), level, texts, want == "yes")?;
+        check_admission(&rt, rt.alloc(), level, texts, want == "yes")?;
     }
     Ok(())
 }
@@ -297,7 +297,7 @@ const VISITS: [(&str, &str, bool, u128); 11] = [
 ];
 
 fn text(alloc: Global, parts: &'static str) -> Result<String, Fail> {
-    Ok(text_of(alloc, Text { word: "", parts }, "", 0)?)
+    Ok(expand(alloc, Template { word: "", parts }, "", 0)?)
 }
 
 /// No contract refuses a count of the pairs that are reached. This does.

@@ -129,7 +129,7 @@ fn tables(alloc: Global, layout: &'static str, rows: &[Row]) -> Result<Tables, F
 }
 
 #[test]
-fn registries_are_told(rt: HostRuntime) -> Result<(), Fail> {
+fn rows_spell_a_registry(rt: HostRuntime) -> Result<(), Fail> {
     let alloc = rt.alloc();
     for (index, (layout, rows, spelt)) in CASES.into_iter().enumerate() {
         let tables = tables(alloc, layout, rows)?;

@@ -14,7 +14,7 @@ const READ: &str = r#""int" => "int"
 {"type":"record","name":"N","fields":[{"name":"next","type":["null","N"]},{"name":"v","type":"int"}]} => {"fields":[{"name":"next","type":["null","N"]},{"name":"v","type":"int"}],"name":"N","type":"record"}"#;
 
 /// Texts that denote no schema, each behind the name of its error.
-const REFUSED: &str = r#"NotJson|
+const REJECTED: &str = r#"NotJson|
 NotJson|{'type':'int'}
 BadNumber|{"type":"record","name":"R","fields":[{"name":"x","type":"double","default":1.5}]}
 BadNumber|{"type":"record","name":"R","fields":[{"name":"x","type":"double","default":1e3}]}
@@ -142,8 +142,8 @@ fn reading_gives_up(rt: HostRuntime) -> Result<(), Fail> {
 }
 
 #[test]
-fn refusals(rt: HostRuntime) -> Result<(), Fail> {
-    for row in REFUSED.lines() {
+fn rejections(rt: HostRuntime) -> Result<(), Fail> {
+    for row in REJECTED.lines() {
         let (error, text) = row.split_once('|').ok_or("a row without an error")?;
         assert_eq!(rt; outcome(rt.alloc(), text)?.as_str(), error, "{text}");
     }

@@ -2,8 +2,8 @@
 //! it is flushed: what is printed, the line on standard error, and the status.
 
 use super::doing::done;
-use reg_jobs::{Job, Listing, Opened};
-use reg_testing::{FULL_SET, Failing, GET, IS_FULL, OnDatabase, SET_FULL, empty_disk, on_disk};
+use reg_jobs::{Job, ListingName, Opened};
+use reg_testing::{DatabaseTask, FULL_SET, Failing, GET, IS_FULL, SET_FULL, empty_disk, on_disk};
 use sqlite::{Alter, Connection};
 use std::alloc::{AllocError, Global};
 use std::io::{self, Write};
@@ -50,7 +50,7 @@ fn job_of(alloc: Global, what: What) -> Result<Job, AllocError> {
         },
         What::List => Job::List {
             database,
-            kind: Listing::Subjects,
+            kind: ListingName::Subjects,
         },
         What::Migrate => Job::Migrate { database },
         What::Audit => Job::Audit { database },
@@ -109,7 +109,7 @@ impl Task {
     }
 }
 
-impl OnDatabase for Task {
+impl DatabaseTask for Task {
     fn work<S: Alter + Drop>(
         &mut self,
         alloc: Global,

@@ -9,16 +9,16 @@ use Rattle.reg_core.specs.declared.decision.View.{View}
 use Rattle.reg_core.specs.Registry.{Row}
 use Rattle.reg_core.specs.Compatibility.{named_versions}
 use Rattle.reg_core.specs.Verdicts.{is_compatible}
-use Rattle.reg_core.specs.Views.{text_in}
+use Rattle.reg_core.specs.Views.{view_text}
 
 -- this project's choice: the schema that the view's text of a version denotes, if it has a text, and that denotes one
-abbrev pub schema_read : View → Row → Option (List NodeView)
-schema_read view row = option_and_then denoted_nodes (text_in view row.1.id)
+abbrev pub view_schema : View → Row → Option (List NodeView)
+view_schema view row = option_and_then denoted_nodes (view_text view row.1.id)
 
 -- this project's choice: whether the version's schema is there and compatible with the new one, as the level asks
-abbrev pub is_read_compatible : View → Level → List NodeView → Row → Bool
-is_read_compatible view level new row = option_map_or (λ earlier. is_compatible level earlier new) (schema_read view row) false
+abbrev pub is_compatible_in_view : View → Level → List NodeView → Row → Bool
+is_compatible_in_view view level new row = option_map_or (λ earlier. is_compatible level earlier new) (view_schema view row) false
 
 -- this project's choice: whether that holds of each version that the level names among these
-abbrev pub is_read_admitted : View → Level → List Row → List NodeView → Bool
-is_read_admitted view level rows new = list_all (is_read_compatible view level new) (named_versions level rows)
+abbrev pub is_admitted_in_view : View → Level → List Row → List NodeView → Bool
+is_admitted_in_view view level rows new = list_all (is_compatible_in_view view level new) (named_versions level rows)

@@ -21,6 +21,6 @@ subject_refusal true (row ∷ rows) [] = None
 subject_refusal true (row ∷ rows) (one ∷ live) = Some SubjectNotSoftDeleted
 
 -- this project's choice: what goes with a subject: its own level, and with `permanent` its own mode
-abbrev pub own_dropped : Bool → List ℕ → List Change
-own_dropped false subject = DropLevel subject ∷ []
-own_dropped true subject = DropLevel subject ∷ DropMode subject ∷ []
+abbrev pub own_settings_dropped : Bool → List ℕ → List Change
+own_settings_dropped false subject = DropLevel subject ∷ []
+own_settings_dropped true subject = DropLevel subject ∷ DropMode subject ∷ []

@@ -2,28 +2,28 @@
 use Rattle.std.specs.Prelude.{⊤, List, [], ◌∷◌}
 use Rattle.reg_core.specs.declared.decision.Change.{Change}
 use Rattle.reg_core.specs.declared.decision.Change.TheVariants as change
-use Rattle.reg_core.specs.Evidence.{EvidenceOf, IsOfVersions, Becomes}
+use Rattle.reg_core.specs.Evidence.{EvidenceMap, HasOnlyVersions, IsEvidenceUpdate}
 use Rattle.reg_core.specs.Registry.{Registry}
 use Rattle.reg_core.specs.Views.{after_changes, evidence_after_changes}
 
 -- the change adds no version
-abbrev pub AddsNone : Change → Type 0
-AddsNone (change.SetGlobal level) = ⊤
-AddsNone (change.SetLevel subject level) = ⊤
-AddsNone (change.AddText id text) = ⊤
-AddsNone (change.AddRow row evidence) = ⊥
-AddsNone (change.MarkDeleted subject version) = ⊤
-AddsNone (change.Remove subject version) = ⊤
-AddsNone (change.DropLevel subject) = ⊤
-AddsNone (change.SetGlobalMode mode) = ⊤
-AddsNone (change.SetMode subject mode) = ⊤
-AddsNone (change.DropMode subject) = ⊤
+abbrev pub AddsNoVersion : Change → Type 0
+AddsNoVersion (change.SetGlobal level) = ⊤
+AddsNoVersion (change.SetLevel subject level) = ⊤
+AddsNoVersion (change.AddText id text) = ⊤
+AddsNoVersion (change.AddRow row evidence) = ⊥
+AddsNoVersion (change.MarkDeleted subject version) = ⊤
+AddsNoVersion (change.Remove subject version) = ⊤
+AddsNoVersion (change.DropLevel subject) = ⊤
+AddsNoVersion (change.SetGlobalMode mode) = ⊤
+AddsNoVersion (change.SetMode subject mode) = ⊤
+AddsNoVersion (change.DropMode subject) = ⊤
 
 -- so it is of each of them
-abbrev pub AddNone : List Change → Type 0
-AddNone [] = ⊤
-AddNone (change ∷ changes) = AddsNone change × AddNone changes
+abbrev pub AddNoVersion : List Change → Type 0
+AddNoVersion [] = ⊤
+AddNoVersion (change ∷ changes) = AddsNoVersion change × AddNoVersion changes
 
 -- the changes make of the evidence what becomes of it where they make another registry of this one
-abbrev pub TellEvidence : List Change → Registry → Type 0
-TellEvidence changes g = (had : EvidenceOf) → IsOfVersions g had → Becomes g (after_changes changes g) had (evidence_after_changes changes had)
+abbrev pub UpdateEvidence : List Change → Registry → Type 0
+UpdateEvidence changes g = (had : EvidenceMap) → HasOnlyVersions g had → IsEvidenceUpdate g (after_changes changes g) had (evidence_after_changes changes had)

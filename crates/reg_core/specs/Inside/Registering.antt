@@ -13,24 +13,24 @@ use Rattle.reg_core.specs.RegisterCommands.{is_among}
 use Rattle.reg_core.specs.Views.{level_of_view}
 
 -- this project's choice: the id of the schema that is sent, else the next one
-abbrev pub id_shown : View → ℕ
-id_shown view = unwrap_or view.known (view.count + 1)
+abbrev pub id_by_view : View → ℕ
+id_by_view view = unwrap_or view.known (view.count + 1)
 
 -- this project's choice: the id of the schema that is sent, if one of the versions has it
 abbrev pub id_among : Option ℕ → List Row → Option ℕ
 id_among known rows = if is_among known rows then known else None
 
 -- this project's choice: the subject's next number and the schema's id are within the limit
-abbrev pub has_numbers_shown : View → Bool
-has_numbers_shown view = nat_le (next_number view.rows.items) max_number && nat_le (id_shown view) max_number
+abbrev pub has_numbers_by_view : View → Bool
+has_numbers_by_view view = nat_le (next_number view.rows.items) max_number && nat_le (id_by_view view) max_number
 
 -- this project's choice: the subject's next version
-abbrev pub row_shown : View → List ℕ → Row
-row_shown view subject = ((subject, next_number view.rows.items), record { id = id_shown view; deleted = false })
+abbrev pub row_by_view : View → List ℕ → Row
+row_by_view view subject = ((subject, next_number view.rows.items), record { id = id_by_view view; deleted = false })
 
 -- this project's choice: what it is admitted by, after these live versions
-abbrev pub evidence_shown : View → List Row → Evidence
-evidence_shown view live = record { level = level_of_view view; against = map (λ (row : Row). row.1.id) (named_versions (level_of_view view) live) }
+abbrev pub evidence_by_view : View → List Row → Evidence
+evidence_by_view view live = record { level = level_of_view view; against = map (λ (row : Row). row.1.id) (named_versions (level_of_view view) live) }
 
 -- this project's choice: a schema that has no id gets this one
 abbrev pub text_added : Option ℕ → ℕ → List NodeView → List Change

@@ -3,10 +3,10 @@
 ghost use Rattle.std.specs.Prelude.{◌≡◌, ◌↔◌, IfOk, IsTrue, List, None, Option, Some, false, map, option_map};
 ghost use Rattle.avro_nodes.specs.Nodes.{NodeView, nodes_view};
 ghost use Rattle.avro_schema.specs.DenotedNodes.{denoted_nodes};
-ghost use Rattle.avro_schema.specs.Inside.ReaderAnswers.{Gives};
-ghost use Rattle.schema_memory.specs.Answers.{schema_in};
+ghost use Rattle.avro_schema.specs.Inside.ReaderResults.{Gives};
+ghost use Rattle.schema_cache.specs.Answers.{found_schema};
 ghost use Rattle.reg_core.specs.Compatibility.{Compatible};
-ghost use Rattle.reg_core.specs.Inside.Comparisons.{is_read_admitted, is_read_compatible};
+ghost use Rattle.reg_core.specs.Inside.Comparisons.{is_admitted_in_view, is_compatible_in_view};
 
 use crate::compatibility::{is_compatible, named};
 use crate::decision::View;
@@ -14,7 +14,7 @@ use crate::level::Level;
 use crate::row::Row;
 use avro_nodes::OutOfMemory;
 use avro_schema::{Schema, SchemaError};
-use schema_memory::{Found, Memory, WhenFull};
+use schema_cache::{CacheLookup, EvictionPolicy, SchemaCache};
 use std::alloc::Global;
 
 /// The schema that the text denotes, if it denotes one.
@@ -32,20 +32,20 @@ pub fn schema_of(alloc: Global, text: &str) -> Result<Option<Schema>, OutOfMemor
 /// # Errors
 ///
 /// `OutOfMemory` where memory for the earlier schema or for a comparison is refused.
-pub fn goes_with(
+pub fn is_compatible_with(
     alloc: Global,
     level: Level,
     id: u32,
     text: &str,
     new: &Schema,
-    memory: &mut Memory,
+    cache: &mut SchemaCache,
 ) -> Result<bool, OutOfMemory>
     ensures schema { IfOk result (λ yes. (earlier : List NodeView) → denoted_nodes text.now ≡ Some earlier
         → IsTrue yes ↔ Compatible level earlier (nodes_view new.now)) }
     ensures none { IfOk result (λ yes. denoted_nodes text.now ≡ None → yes ≡ false) }
 {
-    let mut memory = Some(memory);
-    let read = read_earlier(alloc, id, text, &mut memory, WhenFull::Replace);
+    let mut cache = Some(cache);
+    let read = read_earlier(alloc, id, text, &mut cache, EvictionPolicy::Replace);
     match if_denoted(read)? {
         Some(found) => is_compatible(alloc, level, found.schema(), new),
         None => Ok(false),
@@ -71,15 +71,15 @@ fn read_earlier<'a>(
     alloc: Global,
     id: u32,
     text: &str,
-    memory: &'a mut Option<&mut Memory>,
-    when_full: WhenFull,
-) -> Result<Found<'a>, SchemaError>
-    ensures { Gives (λ found. nodes_view (schema_in found)) result (denoted_nodes text.now) }
+    cache: &'a mut Option<&mut SchemaCache>,
+    eviction_policy: EvictionPolicy,
+) -> Result<CacheLookup<'a>, SchemaError>
+    ensures { Gives (λ found. nodes_view (found_schema found)) result (denoted_nodes text.now) }
 {
-    match memory {
-        Some(memory) => memory.read(alloc, id, text, when_full),
+    match cache {
+        Some(cache) => cache.read(alloc, id, text, eviction_policy),
         None => match Schema::read(alloc, text) {
-            Ok(schema) => Ok(Found::Read(schema)),
+            Ok(schema) => Ok(CacheLookup::Uncached(schema)),
             Err(error) => Err(error),
         },
     }
@@ -97,15 +97,15 @@ pub fn admits_after(
     level: Level,
     rows: &[&Row],
     new: &Schema,
-    mut memory: Option<&mut Memory>,
+    mut cache: Option<&mut SchemaCache>,
 ) -> Result<bool, OutOfMemory>
     ensures { IfOk result (λ yes. yes
-        ≡ is_read_admitted view.now level (map (λ row. row.now) rows.now) (nodes_view new.now)) }
+        ≡ is_admitted_in_view view.now level (map (λ row. row.now) rows.now) (nodes_view new.now)) }
 {
     let versions = named(level, rows);
-    let when_full = when_full(view, versions);
+    let eviction_policy = eviction_policy(view, versions);
     for row in versions {
-        if !fits_version(alloc, view, level, row, new, &mut memory, when_full)? {
+        if !is_version_compatible(alloc, view, level, row, new, &mut cache, eviction_policy)? {
             return Ok(false);
         }
     }
@@ -113,34 +113,34 @@ pub fn admits_after(
 }
 
 /// What a memory that is full does while these versions are compared.
-fn when_full(view: &View, rows: &[&Row]) -> WhenFull {
+fn eviction_policy(view: &View, rows: &[&Row]) -> EvictionPolicy {
     let mut bytes = 0usize;
     for row in rows {
         if let Some(text) = view.texts.get(&row.id()) {
             bytes = bytes.saturating_add(text.len());
         }
     }
-    WhenFull::of_scan(rows.len(), bytes)
+    EvictionPolicy::for_scan(rows.len(), bytes)
 }
 
 /// Whether the version's schema and the new one are compatible, as the level asks. They aren't
 /// where the view has no text of the version, or none that denotes a schema.
-fn fits_version(
+fn is_version_compatible(
     alloc: Global,
     view: &View,
     level: Level,
     row: &Row,
     new: &Schema,
-    memory: &mut Option<&mut Memory>,
-    when_full: WhenFull,
+    cache: &mut Option<&mut SchemaCache>,
+    eviction_policy: EvictionPolicy,
 ) -> Result<bool, OutOfMemory>
     ensures { IfOk result (λ yes. yes
-        ≡ is_read_compatible view.now level (nodes_view new.now) row.now) }
+        ≡ is_compatible_in_view view.now level (nodes_view new.now) row.now) }
 {
     let Some(text) = view.texts.get(&row.id()) else {
         return Ok(false);
     };
-    let earlier = read_earlier(alloc, row.id(), text.as_str(), memory, when_full);
+    let earlier = read_earlier(alloc, row.id(), text.as_str(), cache, eviction_policy);
     match if_denoted(earlier)? {
         Some(earlier) => is_compatible(alloc, level, earlier.schema(), new),
         None => Ok(false),

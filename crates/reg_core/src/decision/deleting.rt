@@ -5,20 +5,20 @@ ghost use Rattle.std.specs.Result.{result_map_both};
 ghost use Rattle.avro_nodes.specs.Nodes.{NodeView};
 ghost use Rattle.reg_core.specs.declared.command.Command.TheVariants.{DeleteSubject, DeleteVersion};
 ghost use Rattle.reg_core.specs.Bodies.{number_body};
-ghost use Rattle.reg_core.specs.DeletionCommands.{numbers_reply, row_to_delete, row_to_mark, row_to_remove};
-ghost use Rattle.reg_core.specs.Inside.Deleting.{own_dropped, subject_refusal, version_change};
-ghost use Rattle.reg_core.specs.Inside.Evidence.{AddNone};
-ghost use Rattle.reg_core.specs.Machine.{carried_out};
+ghost use Rattle.reg_core.specs.DeletionCommands.{numbers_reply, row_to_delete, row_to_soft_delete, row_to_remove};
+ghost use Rattle.reg_core.specs.Inside.Deleting.{own_settings_dropped, subject_refusal, version_change};
+ghost use Rattle.reg_core.specs.Inside.Evidence.{AddNoVersion};
+ghost use Rattle.reg_core.specs.Machine.{permitted_step};
 ghost use Rattle.reg_core.specs.Registry.{Registry};
-ghost use Rattle.reg_core.specs.Replies.{IsOwnReply, answer};
+ghost use Rattle.reg_core.specs.Replies.{IsCommandReply, answer};
 ghost use Rattle.reg_core.specs.Rows.{live_rows};
-ghost use Rattle.reg_core.specs.Views.{ChangesFit, IsGround, after_changes};
+ghost use Rattle.reg_core.specs.Views.{ChangesFit, IsDecisionInput, after_changes};
 
 use crate::code::Code;
 use crate::decision::bodies::{number_reply, numbers_reply};
 use crate::decision::rows::{chosen_row, found_row, shown_rows};
 use crate::decision::{Change, Decision, View, unchanged};
-use crate::number::{Choice, choice_in};
+use crate::number::{VersionChoice, parse_choice};
 use crate::reply::Reply;
 use crate::row::Row;
 use crate::subject::Subject;
@@ -34,20 +34,20 @@ pub fn delete_version(
     permanent: bool,
 ) -> Result<Decision, OutOfMemory>
     ensures reply { IfOk result (λ decision. (g : Registry) (schema : Option (List NodeView))
-        → IsGround g (DeleteVersion subject.now version.now permanent) schema view.now
-        → decision.reply ≡ (carried_out g (DeleteVersion subject.now version.now permanent)).1) }
+        → IsDecisionInput g (DeleteVersion subject.now version.now permanent) schema view.now
+        → decision.reply ≡ (permitted_step g (DeleteVersion subject.now version.now permanent)).1) }
     ensures changes { IfOk result (λ decision. (g : Registry) (schema : Option (List NodeView))
-        → IsGround g (DeleteVersion subject.now version.now permanent) schema view.now
-        → after_changes decision.changes.items g ≡ (carried_out g (DeleteVersion subject.now version.now permanent)).0) }
+        → IsDecisionInput g (DeleteVersion subject.now version.now permanent) schema view.now
+        → after_changes decision.changes.items g ≡ (permitted_step g (DeleteVersion subject.now version.now permanent)).0) }
     ensures fit { IfOk result (λ decision. (g : Registry) → ChangesFit decision.changes.items g) }
-    ensures adds { IfOk result (λ decision. AddNone decision.changes.items) }
+    ensures adds { IfOk result (λ decision. AddNoVersion decision.changes.items) }
     ensures refusal { IfOk result (λ decision. decision.reply.status ≢ 200 → decision.changes.items ≡ []) }
-    ensures own { IfOk result (λ decision. IsOwnReply decision.reply) }
+    ensures own { IfOk result (λ decision. IsCommandReply decision.reply) }
 {
     let rows = shown_rows(alloc, true, &view.rows)?;
     let live = shown_rows(alloc, false, &view.rows)?;
-    match row_to_delete(permanent, choice_in(version), &rows, &live) {
-        Ok(row) => one_deleted(alloc, subject, row.version(), permanent),
+    match row_to_delete(permanent, parse_choice(version), &rows, &live) {
+        Ok(row) => delete_one(alloc, subject, row.version(), permanent),
         Err(code) => Ok(unchanged(alloc, Reply::fault(code))),
     }
 }
@@ -55,7 +55,7 @@ pub fn delete_version(
 /// The version to soft-delete or to remove, or why there is none. The live versions come beside all.
 fn row_to_delete<'a>(
     permanent: bool,
-    choice: Option<Choice>,
+    choice: Option<VersionChoice>,
     rows: &[&'a Row],
     live: &[&'a Row],
 ) -> Result<&'a Row, Code>
@@ -66,22 +66,22 @@ fn row_to_delete<'a>(
     if permanent {
         row_to_remove(choice, rows)
     } else {
-        row_to_mark(choice, rows, live)
+        row_to_soft_delete(choice, rows, live)
     }
 }
 
 /// The version to soft-delete, or why there is none. The live versions come beside all.
-fn row_to_mark<'a>(
-    choice: Option<Choice>,
+fn row_to_soft_delete<'a>(
+    choice: Option<VersionChoice>,
     rows: &[&'a Row],
     live: &[&'a Row],
 ) -> Result<&'a Row, Code>
     ensures { map (λ row. row.now) live.now ≡ live_rows (map (λ row. row.now) rows.now)
         → result_map_both (λ row. row.now) (λ code. code) result
-        ≡ row_to_mark choice (map (λ row. row.now) rows.now) }
+        ≡ row_to_soft_delete choice (map (λ row. row.now) rows.now) }
 {
-    if choice == Some(Choice::Latest) && !rows.is_empty() {
-        return chosen_row(Choice::Latest, live).ok_or(Code::SubjectSoftDeleted);
+    if choice == Some(VersionChoice::Latest) && !rows.is_empty() {
+        return chosen_row(VersionChoice::Latest, live).ok_or(Code::SubjectSoftDeleted);
     }
     let row = found_row(choice, rows)?;
     if row.deleted() {
@@ -91,7 +91,7 @@ fn row_to_mark<'a>(
 }
 
 /// The version to remove, or why there is none.
-fn row_to_remove<'a>(choice: Option<Choice>, rows: &[&'a Row]) -> Result<&'a Row, Code>
+fn row_to_remove<'a>(choice: Option<VersionChoice>, rows: &[&'a Row]) -> Result<&'a Row, Code>
     ensures { result_map_both (λ row. row.now) (λ code. code) result
         ≡ row_to_remove choice (map (λ row. row.now) rows.now) }
 {
@@ -103,7 +103,7 @@ fn row_to_remove<'a>(choice: Option<Choice>, rows: &[&'a Row]) -> Result<&'a Row
 }
 
 /// The version with this number is soft-deleted, or removed, and the number answered.
-fn one_deleted(
+fn delete_one(
     alloc: Global,
     subject: &Subject,
     version: u32,
@@ -139,15 +139,15 @@ pub fn delete_subject(
     permanent: bool,
 ) -> Result<Decision, OutOfMemory>
     ensures reply { IfOk result (λ decision. (g : Registry) (schema : Option (List NodeView))
-        → IsGround g (DeleteSubject subject.now permanent) schema view.now
-        → decision.reply ≡ (carried_out g (DeleteSubject subject.now permanent)).1) }
+        → IsDecisionInput g (DeleteSubject subject.now permanent) schema view.now
+        → decision.reply ≡ (permitted_step g (DeleteSubject subject.now permanent)).1) }
     ensures changes { IfOk result (λ decision. (g : Registry) (schema : Option (List NodeView))
-        → IsGround g (DeleteSubject subject.now permanent) schema view.now
-        → after_changes decision.changes.items g ≡ (carried_out g (DeleteSubject subject.now permanent)).0) }
+        → IsDecisionInput g (DeleteSubject subject.now permanent) schema view.now
+        → after_changes decision.changes.items g ≡ (permitted_step g (DeleteSubject subject.now permanent)).0) }
     ensures fit { IfOk result (λ decision. (g : Registry) → ChangesFit decision.changes.items g) }
-    ensures adds { IfOk result (λ decision. AddNone decision.changes.items) }
+    ensures adds { IfOk result (λ decision. AddNoVersion decision.changes.items) }
     ensures refusal { IfOk result (λ decision. decision.reply.status ≢ 200 → decision.changes.items ≡ []) }
-    ensures own { IfOk result (λ decision. IsOwnReply decision.reply) }
+    ensures own { IfOk result (λ decision. IsCommandReply decision.reply) }
 {
     let rows = shown_rows(alloc, true, &view.rows)?;
     let live = shown_rows(alloc, false, &view.rows)?;
@@ -155,9 +155,9 @@ pub fn delete_subject(
         return Ok(unchanged(alloc, Reply::fault(code)));
     }
     if permanent {
-        all_deleted(alloc, subject, &rows, true)
+        delete_all(alloc, subject, &rows, true)
     } else {
-        all_deleted(alloc, subject, &live, false)
+        delete_all(alloc, subject, &live, false)
     }
 }
 
@@ -177,7 +177,7 @@ fn subject_refusal(permanent: bool, rows: &[&Row], live: &[&Row]) -> Option<Code
 
 /// These versions of the subject are soft-deleted, or removed, its own level goes, and where they
 /// are removed its own mode, and the numbers are answered.
-fn all_deleted(
+fn delete_all(
     alloc: Global,
     subject: &Subject,
     rows: &[&Row],
@@ -185,25 +185,29 @@ fn all_deleted(
 ) -> Result<Decision, OutOfMemory>
     ensures reply { IfOk result (λ decision. decision.reply ≡ numbers_reply (map (λ row. row.now) rows.now)) }
     ensures changes { IfOk result (λ decision. decision.changes.items
-        ≡ map (λ row. version_change permanent subject.now row.now.0.1) rows.now ++ own_dropped permanent subject.now) }
+        ≡ map (λ row. version_change permanent subject.now row.now.0.1) rows.now ++ own_settings_dropped permanent subject.now) }
 {
     let reply = numbers_reply(alloc, rows)?;
     let mut changes = Vec::new(alloc);
     for row in rows {
         changes.push(version_change(subject, row.version(), permanent)?)?;
     }
-    drop_own(&mut changes, subject, permanent)?;
+    drop_own_settings(&mut changes, subject, permanent)?;
     Ok(Decision { changes, reply })
 }
 
 /// The subject's own level goes, and where its versions go for good, its own mode too.
-fn drop_own(changes: &mut Vec<Change>, subject: &Subject, for_good: bool) -> Result<(), OutOfMemory>
-    ensures { IfOk result (λ u. changes.new.items ≡ changes.old.items ++ own_dropped for_good subject.now) }
+fn drop_own_settings(
+    changes: &mut Vec<Change>,
+    subject: &Subject,
+    permanently: bool,
+) -> Result<(), OutOfMemory>
+    ensures { IfOk result (λ u. changes.new.items ≡ changes.old.items ++ own_settings_dropped permanently subject.now) }
 {
     changes.push(Change::DropLevel {
         subject: subject.try_clone()?,
     })?;
-    if for_good {
+    if permanently {
         changes.push(Change::DropMode {
             subject: subject.try_clone()?,
         })?;

@@ -1,26 +1,26 @@
 //! What the mode forbids.
 
 ghost use Rattle.std.specs.Prelude.{◌≡◌};
-ghost use Rattle.reg_core.specs.Modes.{is_frozen};
-ghost use Rattle.reg_core.specs.Views.{mode_seen};
+ghost use Rattle.reg_core.specs.Modes.{is_read_only};
+ghost use Rattle.reg_core.specs.Views.{mode_of_view};
 
 use crate::command::Command;
 use crate::decision::View;
 use crate::mode::Mode;
 
 /// Whether a mode forbids the command.
-pub fn is_frozen(view: &View, command: &Command) -> bool
-    ensures { result ≡ is_frozen (mode_seen view.now command.now) }
+pub fn is_read_only(view: &View, command: &Command) -> bool
+    ensures { result ≡ is_read_only (mode_of_view view.now command.now) }
 {
-    match mode_seen(view, command) {
+    match mode_of_view(view, command) {
         Some(mode) => mode == Mode::Readonly,
         None => false,
     }
 }
 
 /// The mode that may forbid the command, if one may.
-fn mode_seen(view: &View, command: &Command) -> Option<Mode>
-    ensures { result ≡ mode_seen view.now command.now }
+fn mode_of_view(view: &View, command: &Command) -> Option<Mode>
+    ensures { result ≡ mode_of_view view.now command.now }
 {
     match command {
         Command::SetGlobal { .. } => Some(view.global_mode),

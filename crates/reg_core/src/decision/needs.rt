@@ -3,20 +3,20 @@
 ghost use Rattle.std.specs.Prelude.{◌≡◌, [], IfOk, if◌then◌else◌, map};
 ghost use Rattle.std.specs.Result.{result_map_both};
 ghost use Rattle.reg_core.specs.Compatibility.{latest, named_versions};
-ghost use Rattle.reg_core.specs.Numbers.{choice_in};
-ghost use Rattle.reg_core.specs.ReadCommands.{found_row, looked_up};
+ghost use Rattle.reg_core.specs.Numbers.{parse_choice};
+ghost use Rattle.reg_core.specs.ReadCommands.{found_row, lookup_row};
 ghost use Rattle.reg_core.specs.RegisterCommands.{is_among};
 ghost use Rattle.reg_core.specs.Rows.{live_rows, shown_rows};
-ghost use Rattle.reg_core.specs.Views.{level_of_view, row_found, rows_read};
+ghost use Rattle.reg_core.specs.Views.{level_of_view, found_as_list, rows_to_read};
 
 use crate::code::Code;
 use crate::command::Command;
 use crate::compatibility::{latest, named};
 use crate::decision::View;
-use crate::decision::reading::looked_up;
+use crate::decision::reading::lookup_row;
 use crate::decision::registering::{id_among, level_in_force};
 use crate::decision::rows::{found_row, shown_rows};
-use crate::number::choice_in;
+use crate::number::parse_choice;
 use crate::row::Row;
 use avro_nodes::OutOfMemory;
 use std::alloc::Global;
@@ -27,8 +27,8 @@ use std::alloc::Global;
 /// # Errors
 ///
 /// `OutOfMemory` where memory for the ids is refused.
-pub fn ids_read(alloc: Global, command: &Command, view: &View) -> Result<Vec<u32>, OutOfMemory>
-    ensures { IfOk result (λ ids. ids.items ≡ map (λ row. row.1.id) (rows_read command.now view.now)) }
+pub fn ids_to_read(alloc: Global, command: &Command, view: &View) -> Result<Vec<u32>, OutOfMemory>
+    ensures { IfOk result (λ ids. ids.items ≡ map (λ row. row.1.id) (rows_to_read command.now view.now)) }
 {
     match command {
         Command::Register { .. } => register_ids(alloc, view),
@@ -87,10 +87,10 @@ fn check_all_ids(alloc: Global, view: &View) -> Result<Vec<u32>, OutOfMemory>
 /// The id that Check compares with, if the version is found.
 fn check_ids(alloc: Global, view: &View, version: &str) -> Result<Vec<u32>, OutOfMemory>
     ensures { IfOk result (λ ids. ids.items ≡ map (λ row. row.1.id) (named_versions (level_of_view view.now)
-        (row_found (found_row (choice_in version.now) (live_rows view.now.rows.items))))) }
+        (found_as_list (found_row (parse_choice version.now) (live_rows view.now.rows.items))))) }
 {
     let live = shown_rows(alloc, false, &view.rows)?;
-    match found_row(choice_in(version), &live) {
+    match found_row(parse_choice(version), &live) {
         Ok(row) => ids_of(alloc, named(level_in_force(view), &[row])),
         Err(_) => Ok(Vec::new(alloc)),
     }
@@ -104,25 +104,25 @@ fn version_ids(
     deleted: bool,
 ) -> Result<Vec<u32>, OutOfMemory>
     ensures { IfOk result (λ ids. ids.items ≡ map (λ row. row.1.id)
-        (row_found (found_row (choice_in version.now) (shown_rows deleted view.now.rows.items)))) }
+        (found_as_list (found_row (parse_choice version.now) (shown_rows deleted view.now.rows.items)))) }
 {
     let shown = shown_rows(alloc, deleted, &view.rows)?;
-    found_ids(alloc, found_row(choice_in(version), &shown))
+    found_ids(alloc, found_row(parse_choice(version), &shown))
 }
 
 /// The id of the version that Lookup shows, if it is found.
 fn lookup_ids(alloc: Global, view: &View, deleted: bool) -> Result<Vec<u32>, OutOfMemory>
     ensures { IfOk result (λ ids. ids.items ≡ map (λ row. row.1.id)
-        (row_found (looked_up view.now.known (shown_rows deleted view.now.rows.items)))) }
+        (found_as_list (lookup_row view.now.known (shown_rows deleted view.now.rows.items)))) }
 {
     let shown = shown_rows(alloc, deleted, &view.rows)?;
-    found_ids(alloc, looked_up(view.known, &shown))
+    found_ids(alloc, lookup_row(view.known, &shown))
 }
 
 /// The id of the version, if it was found.
 fn found_ids(alloc: Global, found: Result<&Row, Code>) -> Result<Vec<u32>, OutOfMemory>
     ensures { IfOk result (λ ids. ids.items ≡ map (λ row. row.1.id)
-        (row_found (result_map_both (λ row. row.now) (λ code. code) found.entry))) }
+        (found_as_list (result_map_both (λ row. row.now) (λ code. code) found.entry))) }
 {
     match found {
         Ok(row) => ids_of(alloc, &[row]),

@@ -7,14 +7,14 @@ use serde_json::Value;
 use std::alloc::{AllocError, Global};
 
 /// Whether a byte of a JSON string may have to be escaped.
-fn is_mark(byte: u8) -> bool
+fn needs_escape(byte: u8) -> bool
     ensures { result ≡ (byte == 34 || (byte == 92 || nat_lt byte 32)) }
 {
     byte == b'"' || byte == b'\\' || byte < b' '
 }
 
 /// Where the first byte that may have to be escaped is, from a byte on.
-fn next_mark(bytes: &[u8], from: usize) -> usize
+fn next_escape(bytes: &[u8], from: usize) -> usize
     requires { from ≤ length bytes.now }
     ensures place { (from ≤ result) × (result ≤ length bytes.now) }
     ensures found { result < length bytes.now
@@ -23,7 +23,7 @@ fn next_mark(bytes: &[u8], from: usize) -> usize
 {
     let mut at = from;
     while at < bytes.len() {
-        if is_mark(bytes[at]) {
+        if needs_escape(bytes[at]) {
             return at;
         }
         at += 1;
@@ -32,7 +32,7 @@ fn next_mark(bytes: &[u8], from: usize) -> usize
 }
 
 /// Any text as a JSON string.
-fn quoted_slowly(alloc: Global, text: &str) -> Result<String, AllocError>
+fn quoted_by_serde(alloc: Global, text: &str) -> Result<String, AllocError>
     ensures { IfOk result (λ s. string_bytes s ≡ quoted text.now) }
 {
     Value::String(String::from_str(alloc, text)?).to_string(alloc)
@@ -51,15 +51,15 @@ pub fn quoted(alloc: Global, text: &str) -> Result<String, AllocError>
     let mut out = String::with_capacity(alloc, bytes.len() + bytes.len() / 4 + 2)?;
     out.push_str("\"")?;
     let mut from = 0;
-    let mut mark = next_mark(bytes, 0);
+    let mut mark = next_escape(bytes, 0);
     while mark < bytes.len() {
         if bytes[mark] < b' ' {
-            return quoted_slowly(alloc, text);
+            return quoted_by_serde(alloc, text);
         }
         out.push_str(&text[from..mark])?;
         out.push_str("\\")?;
         from = mark;
-        mark = next_mark(bytes, mark + 1);
+        mark = next_escape(bytes, mark + 1);
     }
     out.push_str(&text[from..])?;
     out.push_str("\"")?;

@@ -5,10 +5,10 @@ ghost use Rattle.std.specs.List.{dedup, last_or};
 ghost use Rattle.std.specs.Result.{result_map_both};
 ghost use Rattle.avro_nodes.specs.Nodes.{nodes_view};
 ghost use Rattle.reg_core.specs.Bodies.{schema_body, version_body};
-ghost use Rattle.reg_core.specs.Numbers.{choice_in, id_in};
-ghost use Rattle.reg_core.specs.ReadCommands.{found_row, id_reply, id_versions_reply, looked_up, lookup_reply, rows_with_id, subjects_reply, text_reply, types_reply, version_reply, version_text_reply, versions_reply};
+ghost use Rattle.reg_core.specs.Numbers.{parse_choice, parse_id};
+ghost use Rattle.reg_core.specs.ReadCommands.{found_row, id_reply, id_versions_reply, lookup_row, lookup_reply, rows_with_id, subjects_reply, text_reply, types_reply, version_reply, version_text_reply, versions_reply};
 ghost use Rattle.reg_core.specs.Rows.{shown_rows};
-ghost use Rattle.reg_core.specs.Views.{text_in};
+ghost use Rattle.reg_core.specs.Views.{view_text};
 
 use crate::code::Code;
 use crate::decision::View;
@@ -16,7 +16,7 @@ use crate::decision::bodies::{
     numbers_reply, schema_reply, subject_versions_reply, texts_reply, version_reply,
 };
 use crate::decision::rows::{found_row, shown_rows};
-use crate::number::{choice_in, id_in};
+use crate::number::{parse_choice, parse_id};
 use crate::reply::Reply;
 use crate::row::Row;
 use avro_nodes::OutOfMemory;
@@ -65,11 +65,11 @@ pub fn versions(alloc: Global, deleted: bool, rows: &[Row]) -> Result<Reply, Out
 
 /// The version of the subject that the text chooses, with its schema.
 pub fn version(alloc: Global, view: &View, text: &str, deleted: bool) -> Result<Reply, OutOfMemory>
-    ensures { IfOk result (λ reply. reply ≡ version_reply (text_in view.now)
-        (found_row (choice_in text.now) (shown_rows deleted view.now.rows.items))) }
+    ensures { IfOk result (λ reply. reply ≡ version_reply (view_text view.now)
+        (found_row (parse_choice text.now) (shown_rows deleted view.now.rows.items))) }
 {
     let shown = shown_rows(alloc, deleted, view.rows.as_slice())?;
-    match found_row(choice_in(text), shown.as_slice()) {
+    match found_row(parse_choice(text), shown.as_slice()) {
         Ok(row) => shown_version(alloc, view, row),
         Err(code) => Ok(Reply::fault(code)),
     }
@@ -82,11 +82,11 @@ pub fn version_text(
     text: &str,
     deleted: bool,
 ) -> Result<Reply, OutOfMemory>
-    ensures { IfOk result (λ reply. reply ≡ version_text_reply (text_in view.now)
-        (found_row (choice_in text.now) (shown_rows deleted view.now.rows.items))) }
+    ensures { IfOk result (λ reply. reply ≡ version_text_reply (view_text view.now)
+        (found_row (parse_choice text.now) (shown_rows deleted view.now.rows.items))) }
 {
     let shown = shown_rows(alloc, deleted, view.rows.as_slice())?;
-    match found_row(choice_in(text), shown.as_slice()) {
+    match found_row(parse_choice(text), shown.as_slice()) {
         Ok(row) => shown_text(view, row.id()),
         Err(code) => Ok(Reply::fault(code)),
     }
@@ -99,7 +99,7 @@ pub fn lookup(
     schema: Option<&Schema>,
     deleted: bool,
 ) -> Result<Reply, OutOfMemory>
-    ensures { IfOk result (λ reply. reply ≡ lookup_reply (text_in view.now)
+    ensures { IfOk result (λ reply. reply ≡ lookup_reply (view_text view.now)
         (option_map nodes_view (option_copied schema.entry)) view.now.known
         (shown_rows deleted view.now.rows.items)) }
 {
@@ -107,16 +107,16 @@ pub fn lookup(
         return Ok(Reply::fault(Code::InvalidSchema));
     }
     let shown = shown_rows(alloc, deleted, view.rows.as_slice())?;
-    match looked_up(view.known, shown.as_slice()) {
+    match lookup_row(view.known, shown.as_slice()) {
         Ok(row) => shown_version(alloc, view, row),
         Err(code) => Ok(Reply::fault(code)),
     }
 }
 
 /// The last of these versions that has the id, or why there is none.
-pub fn looked_up<'a>(known: Option<u32>, rows: &[&'a Row]) -> Result<&'a Row, Code>
+pub fn lookup_row<'a>(known: Option<u32>, rows: &[&'a Row]) -> Result<&'a Row, Code>
     ensures { result_map_both (λ row. row.now) (λ code. code) result
-        ≡ looked_up known (map (λ row. row.now) rows.now) }
+        ≡ lookup_row known (map (λ row. row.now) rows.now) }
 {
     if rows.is_empty() {
         return Err(Code::SubjectNotFound);
@@ -143,9 +143,9 @@ fn last_with<'a>(known: Option<u32>, rows: &[&'a Row]) -> Option<&'a Row>
 
 /// The schema of the id, which some version has.
 pub fn by_id(alloc: Global, view: &View, id: &str) -> Result<Reply, OutOfMemory>
-    ensures { IfOk result (λ reply. reply ≡ id_reply (text_in view.now) (id_in id.now) view.now.rows.items) }
+    ensures { IfOk result (λ reply. reply ≡ id_reply (view_text view.now) (parse_id id.now) view.now.rows.items) }
 {
-    match id_in(id) {
+    match parse_id(id) {
         Some(id) if !view.rows.is_empty() => shown_schema(alloc, view, id),
         _ => Ok(Reply::fault(Code::SchemaNotFound)),
     }
@@ -158,9 +158,9 @@ pub fn versions_of_id(
     rows: &[Row],
     id: &str,
 ) -> Result<Reply, OutOfMemory>
-    ensures { IfOk result (λ reply. reply ≡ id_versions_reply (id_in id.now) deleted rows.now) }
+    ensures { IfOk result (λ reply. reply ≡ id_versions_reply (parse_id id.now) deleted rows.now) }
 {
-    if id_in(id).is_none() || rows.is_empty() {
+    if parse_id(id).is_none() || rows.is_empty() {
         return Ok(Reply::fault(Code::SchemaNotFound));
     }
     let shown = shown_rows(alloc, deleted, rows)?;
@@ -169,7 +169,7 @@ pub fn versions_of_id(
 
 /// The version with its schema.
 fn shown_version(alloc: Global, view: &View, row: &Row) -> Result<Reply, OutOfMemory>
-    ensures { IfOk result (λ reply. reply ≡ text_reply (version_body row.now) (text_in view.now row.now.1.id)) }
+    ensures { IfOk result (λ reply. reply ≡ text_reply (version_body row.now) (view_text view.now row.now.1.id)) }
 {
     match view.texts.get(&row.id()) {
         Some(text) => version_reply(alloc, row, text.as_str()),
@@ -179,7 +179,7 @@ fn shown_version(alloc: Global, view: &View, row: &Row) -> Result<Reply, OutOfMe
 
 /// The schema of the id, in an object.
 fn shown_schema(alloc: Global, view: &View, id: u32) -> Result<Reply, OutOfMemory>
-    ensures { IfOk result (λ reply. reply ≡ text_reply schema_body (text_in view.now id)) }
+    ensures { IfOk result (λ reply. reply ≡ text_reply schema_body (view_text view.now id)) }
 {
     match view.texts.get(&id) {
         Some(text) => schema_reply(alloc, text.as_str()),
@@ -189,7 +189,7 @@ fn shown_schema(alloc: Global, view: &View, id: u32) -> Result<Reply, OutOfMemor
 
 /// The schema of the id alone.
 fn shown_text(view: &View, id: u32) -> Result<Reply, OutOfMemory>
-    ensures { IfOk result (λ reply. reply ≡ text_reply (λ text. text) (text_in view.now id)) }
+    ensures { IfOk result (λ reply. reply ≡ text_reply (λ text. text) (view_text view.now id)) }
 {
     match view.texts.get(&id) {
         Some(text) => Ok(Reply::answer(text.clone()?)),

@@ -4,13 +4,13 @@ ghost use Rattle.std.specs.Prelude.{◌≡◌, ◌≢◌, ℕ, Bool, List, [], N
 ghost use Rattle.avro_nodes.specs.Nodes.{nodes_view};
 ghost use Rattle.reg_core.specs.declared.command.Command.TheVariants.{Check, CheckAll, Register};
 ghost use Rattle.reg_core.specs.Bodies.{id_body, verdict_body};
-ghost use Rattle.reg_core.specs.Machine.{carried_out};
-ghost use Rattle.reg_core.specs.Inside.Evidence.{TellEvidence};
-ghost use Rattle.reg_core.specs.Inside.Registering.{evidence_shown, has_numbers_shown, id_among, id_shown, row_shown, version_added};
+ghost use Rattle.reg_core.specs.Machine.{permitted_step};
+ghost use Rattle.reg_core.specs.Inside.Evidence.{UpdateEvidence};
+ghost use Rattle.reg_core.specs.Inside.Registering.{evidence_by_view, has_numbers_by_view, id_among, id_by_view, row_by_view, version_added};
 ghost use Rattle.reg_core.specs.Registry.{Registry};
-ghost use Rattle.reg_core.specs.Replies.{IsOwnReply, answer};
+ghost use Rattle.reg_core.specs.Replies.{IsCommandReply, answer};
 ghost use Rattle.reg_core.specs.Rows.{next_number};
-ghost use Rattle.reg_core.specs.Views.{ChangesFit, IsGround, after_changes, level_of_view};
+ghost use Rattle.reg_core.specs.Views.{ChangesFit, IsDecisionInput, after_changes, level_of_view};
 
 use crate::code::Code;
 use crate::compatibility::named;
@@ -20,14 +20,14 @@ use crate::decision::rows::{found_row, shown_rows};
 use crate::decision::{Change, Decision, View, unchanged};
 use crate::evidence::Evidence;
 use crate::level::Level;
-use crate::number::{MAX_NUMBER, choice_in};
+use crate::number::{MAX_NUMBER, parse_choice};
 use crate::reply::Reply;
 use crate::row::Row;
 use crate::subject::Subject;
 use crate::text::Text;
 use avro_nodes::OutOfMemory;
 use avro_schema::Schema;
-use schema_memory::Memory;
+use schema_cache::SchemaCache;
 use serde_json::json;
 use std::alloc::Global;
 
@@ -38,22 +38,22 @@ pub fn register(
     view: &View,
     subject: &Subject,
     schema: Option<&Schema>,
-    memory: Option<&mut Memory>,
+    cache: Option<&mut SchemaCache>,
 ) -> Result<Decision, OutOfMemory>
     ensures reply { IfOk result (λ decision. (g : Registry) (text : List ℕ) (supported : Bool)
-        → IsGround g (Register subject.now text supported) (option_map nodes_view (option_copied schema.entry)) view.now
-        → decision.reply ≡ (carried_out g (Register subject.now text supported)).1) }
+        → IsDecisionInput g (Register subject.now text supported) (option_map nodes_view (option_copied schema.entry)) view.now
+        → decision.reply ≡ (permitted_step g (Register subject.now text supported)).1) }
     ensures changes { IfOk result (λ decision. (g : Registry) (text : List ℕ) (supported : Bool)
-        → IsGround g (Register subject.now text supported) (option_map nodes_view (option_copied schema.entry)) view.now
-        → after_changes decision.changes.items g ≡ (carried_out g (Register subject.now text supported)).0) }
+        → IsDecisionInput g (Register subject.now text supported) (option_map nodes_view (option_copied schema.entry)) view.now
+        → after_changes decision.changes.items g ≡ (permitted_step g (Register subject.now text supported)).0) }
     ensures fit { IfOk result (λ decision. (g : Registry) (text : List ℕ) (supported : Bool)
-        → IsGround g (Register subject.now text supported) (option_map nodes_view (option_copied schema.entry)) view.now
+        → IsDecisionInput g (Register subject.now text supported) (option_map nodes_view (option_copied schema.entry)) view.now
         → ChangesFit decision.changes.items g) }
     ensures evidence { IfOk result (λ decision. (g : Registry) (text : List ℕ) (supported : Bool)
-        → IsGround g (Register subject.now text supported) (option_map nodes_view (option_copied schema.entry)) view.now
-        → TellEvidence decision.changes.items g) }
+        → IsDecisionInput g (Register subject.now text supported) (option_map nodes_view (option_copied schema.entry)) view.now
+        → UpdateEvidence decision.changes.items g) }
     ensures refusal { IfOk result (λ decision. decision.reply.status ≢ 200 → decision.changes.items ≡ []) }
-    ensures own { IfOk result (λ decision. IsOwnReply decision.reply) }
+    ensures own { IfOk result (λ decision. IsCommandReply decision.reply) }
 {
     let Some(new) = schema else {
         return Ok(unchanged(alloc, Reply::fault(Code::InvalidSchema)));
@@ -63,7 +63,7 @@ pub fn register(
         let reply = id_reply(alloc, id)?;
         return Ok(unchanged(alloc, reply));
     }
-    if !admits_after(alloc, view, level_in_force(view), &live, new, memory)? {
+    if !admits_after(alloc, view, level_in_force(view), &live, new, cache)? {
         return Ok(unchanged(alloc, Reply::fault(Code::Incompatible)));
     }
     let Some(row) = next_row(view, subject)? else {
@@ -80,18 +80,18 @@ pub fn check_all(
     alloc: Global,
     view: &View,
     schema: Option<&Schema>,
-    memory: Option<&mut Memory>,
+    cache: Option<&mut SchemaCache>,
 ) -> Result<Reply, OutOfMemory>
     ensures reply { IfOk result (λ reply. (g : Registry) (subject text : List ℕ) (supported : Bool)
-        → IsGround g (CheckAll subject text supported) (option_map nodes_view (option_copied schema.entry)) view.now
-        → reply ≡ (carried_out g (CheckAll subject text supported)).1) }
-    ensures own { IfOk result (λ reply. IsOwnReply reply) }
+        → IsDecisionInput g (CheckAll subject text supported) (option_map nodes_view (option_copied schema.entry)) view.now
+        → reply ≡ (permitted_step g (CheckAll subject text supported)).1) }
+    ensures own { IfOk result (λ reply. IsCommandReply reply) }
 {
     let Some(new) = schema else {
         return Ok(Reply::fault(Code::InvalidSchema));
     };
     let live = shown_rows(alloc, false, &view.rows)?;
-    let fits = admits_after(alloc, view, level_in_force(view), &live, new, memory)?;
+    let fits = admits_after(alloc, view, level_in_force(view), &live, new, cache)?;
     verdict_reply(alloc, fits)
 }
 
@@ -102,14 +102,14 @@ pub fn check(
     view: &View,
     version: &str,
     schema: Option<&Schema>,
-    memory: Option<&mut Memory>,
+    cache: Option<&mut SchemaCache>,
 ) -> Result<Reply, OutOfMemory>
     ensures reply { IfOk result (λ reply. (g : Registry) (subject text : List ℕ) (supported : Bool)
-        → IsGround g (Check subject version.now text supported) (option_map nodes_view (option_copied schema.entry)) view.now
-        → reply ≡ (carried_out g (Check subject version.now text supported)).1) }
-    ensures own { IfOk result (λ reply. IsOwnReply reply) }
+        → IsDecisionInput g (Check subject version.now text supported) (option_map nodes_view (option_copied schema.entry)) view.now
+        → reply ≡ (permitted_step g (Check subject version.now text supported)).1) }
+    ensures own { IfOk result (λ reply. IsCommandReply reply) }
 {
-    let Some(choice) = choice_in(version) else {
+    let Some(choice) = parse_choice(version) else {
         return Ok(Reply::fault(Code::InvalidVersion));
     };
     let Some(new) = schema else {
@@ -118,7 +118,7 @@ pub fn check(
     let live = shown_rows(alloc, false, &view.rows)?;
     match found_row(Some(choice), &live) {
         Ok(row) => {
-            let fits = admits_after(alloc, view, level_in_force(view), &[row], new, memory)?;
+            let fits = admits_after(alloc, view, level_in_force(view), &[row], new, cache)?;
             verdict_reply(alloc, fits)
         }
         Err(code) => Ok(Reply::fault(code)),
@@ -146,7 +146,7 @@ pub fn id_among(known: Option<u32>, rows: &[&Row]) -> Option<u32>
 
 /// The subject's next version, if numbers are left for it and for its schema.
 fn next_row(view: &View, subject: &Subject) -> Result<Option<Row>, OutOfMemory>
-    ensures { IfOk result (λ row. row ≡ (if has_numbers_shown view.now then Some (row_shown view.now subject.now) else None)) }
+    ensures { IfOk result (λ row. row ≡ (if has_numbers_by_view view.now then Some (row_by_view view.now subject.now) else None)) }
 {
     let version = next_number(&view.rows);
     let id = match view.known {
@@ -173,7 +173,7 @@ fn next_number(rows: &[Row]) -> u64
 
 /// What a version is admitted by that comes after these live ones.
 fn evidence_after(alloc: Global, view: &View, live: &[&Row]) -> Result<Evidence, OutOfMemory>
-    ensures { IfOk result (λ evidence. evidence ≡ evidence_shown view.now (map (λ row. row.now) live.now)) }
+    ensures { IfOk result (λ evidence. evidence ≡ evidence_by_view view.now (map (λ row. row.now) live.now)) }
 {
     let level = level_in_force(view);
     let against = ids_of(alloc, named(level, live))?;

@@ -6,7 +6,7 @@ ghost use Rattle.reg_core.specs.ReadCommands.{found_row};
 ghost use Rattle.reg_core.specs.Rows.{chosen_row, shown_rows};
 
 use crate::code::Code;
-use crate::number::Choice;
+use crate::number::VersionChoice;
 use crate::row::Row;
 use avro_nodes::OutOfMemory;
 use std::alloc::Global;
@@ -28,7 +28,7 @@ pub fn shown_rows<'a>(
 }
 
 /// The version that is chosen among these, or why there is none.
-pub fn found_row<'a>(choice: Option<Choice>, rows: &[&'a Row]) -> Result<&'a Row, Code>
+pub fn found_row<'a>(choice: Option<VersionChoice>, rows: &[&'a Row]) -> Result<&'a Row, Code>
     ensures { result_map_both (λ row. row.now) (λ code. code) result
         ≡ found_row choice (map (λ row. row.now) rows.now) }
 {
@@ -45,11 +45,11 @@ pub fn found_row<'a>(choice: Option<Choice>, rows: &[&'a Row]) -> Result<&'a Row
 }
 
 /// The version that is chosen among these, if there is one.
-pub fn chosen_row<'a>(choice: Choice, rows: &[&'a Row]) -> Option<&'a Row>
+pub fn chosen_row<'a>(choice: VersionChoice, rows: &[&'a Row]) -> Option<&'a Row>
     ensures { option_copied result ≡ chosen_row choice (map (λ row. row.now) rows.now) }
 {
     match choice {
-        Choice::Latest => rows.last().copied(),
-        Choice::Numbered(number) => rows.iter().copied().find(|row| row.version() == number),
+        VersionChoice::Latest => rows.last().copied(),
+        VersionChoice::Numbered(number) => rows.iter().copied().find(|row| row.version() == number),
     }
 }

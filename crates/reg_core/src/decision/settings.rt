@@ -1,10 +1,10 @@
 //! Commands that set and show what holds of all subjects, or of one of its own.
 
 ghost use Rattle.std.specs.Prelude.{◌≡◌, ◌≢◌, [], IfOk, Option, None, Some, option_copied};
-ghost use Rattle.reg_core.specs.Inside.Evidence.{AddNone};
+ghost use Rattle.reg_core.specs.Inside.Evidence.{AddNoVersion};
 ghost use Rattle.reg_core.specs.Registry.{Registry};
 ghost use Rattle.reg_core.specs.Replies.{answer};
-ghost use Rattle.reg_core.specs.Settings.{set, setting_object, shown_answer, shown_reply, value_shown};
+ghost use Rattle.reg_core.specs.Settings.{set, setting_object, setting_answer, shown_reply, own_or_global};
 ghost use Rattle.reg_core.specs.Views.{ChangesFit, after_changes};
 
 use crate::code::Code;
@@ -23,7 +23,7 @@ pub trait Setting: Copy {
     ghost use Rattle.reg_core.specs.Registry.{Registry};
     ghost use Rattle.reg_core.specs.Settings.{Setting};
     ghost use Rattle.reg_core.specs.Views.{ChangeFits, after_change};
-    ghost use Rattle.reg_core.specs.Inside.Evidence.{AddsNone};
+    ghost use Rattle.reg_core.specs.Inside.Evidence.{AddsNoVersion};
 
     ghost setting: { Setting Self };
 
@@ -36,12 +36,12 @@ pub trait Setting: Copy {
         ensures { result.now ≡ setting.text_of self };
 
     /// The name under which a value is answered that was set.
-    fn name_set() -> &'static str
-        ensures { result.now ≡ setting.name_set };
+    fn member_in_put() -> &'static str
+        ensures { result.now ≡ setting.member_in_put };
 
     /// The name under which a value is shown.
-    fn name_shown() -> &'static str
-        ensures { result.now ≡ setting.name_shown };
+    fn member_in_get() -> &'static str
+        ensures { result.now ≡ setting.member_in_get };
 
     /// The refusal of a text that spells no value.
     fn unknown() -> Code
@@ -56,7 +56,7 @@ pub trait Setting: Copy {
         ensures after { IfOk result (λ change. (g : Registry)
             → after_change change g ≡ setting.put g (option_copied subject.entry) self) }
         ensures fits { IfOk result (λ change. (g : Registry) → ChangeFits change g) }
-        ensures adds { IfOk result (λ change. AddsNone change) };
+        ensures adds { IfOk result (λ change. AddsNoVersion change) };
 }
 
 impl Setting for Level {
@@ -72,11 +72,11 @@ impl Setting for Level {
         self.text()
     }
 
-    fn name_set() -> &'static str {
+    fn member_in_put() -> &'static str {
         "compatibility"
     }
 
-    fn name_shown() -> &'static str {
+    fn member_in_get() -> &'static str {
         "compatibilityLevel"
     }
 
@@ -113,11 +113,11 @@ impl Setting for Mode {
         self.text()
     }
 
-    fn name_set() -> &'static str {
+    fn member_in_put() -> &'static str {
         "mode"
     }
 
-    fn name_shown() -> &'static str {
+    fn member_in_get() -> &'static str {
         "mode"
     }
 
@@ -153,13 +153,13 @@ pub fn set<S: Setting>(
     ensures changes { IfOk result (λ decision. (g : Registry)
         → after_changes decision.changes.items g ≡ (set S.setting g (option_copied subject.entry) (S.setting.value_of text.now)).0) }
     ensures fit { IfOk result (λ decision. (g : Registry) → ChangesFit decision.changes.items g) }
-    ensures adds { IfOk result (λ decision. AddNone decision.changes.items) }
+    ensures adds { IfOk result (λ decision. AddNoVersion decision.changes.items) }
     ensures refusal { IfOk result (λ decision. decision.reply.status ≢ 200 → decision.changes.items ≡ []) }
 {
     let Some(value) = S::read(text) else {
         return Ok(unchanged(alloc, Reply::fault(S::unknown())));
     };
-    let reply = setting_reply(alloc, S::name_set(), value.spelt())?;
+    let reply = setting_reply(alloc, S::member_in_put(), value.spelt())?;
     let change = value.change(subject)?;
     let mut changes = Vec::new(alloc);
     changes.push(change)?;
@@ -167,8 +167,8 @@ pub fn set<S: Setting>(
 }
 
 /// The value that is shown of a subject.
-pub fn value_shown<S: Copy>(own: Option<S>, global: S, default_to_global: bool) -> Option<S>
-    ensures { result ≡ value_shown own global default_to_global }
+pub fn own_or_global<S: Copy>(own: Option<S>, global: S, default_to_global: bool) -> Option<S>
+    ensures { result ≡ own_or_global own global default_to_global }
 {
     match own {
         Some(value) => Some(value),
@@ -182,16 +182,16 @@ pub fn shown_reply<S: Setting>(alloc: Global, value: Option<S>) -> Result<Reply,
     ensures { IfOk result (λ reply. reply ≡ shown_reply S.setting value) }
 {
     match value {
-        Some(value) => shown_answer(alloc, value),
+        Some(value) => setting_answer(alloc, value),
         None => Ok(Reply::fault(S::absent())),
     }
 }
 
 /// The reply that shows a value.
-pub fn shown_answer<S: Setting>(alloc: Global, value: S) -> Result<Reply, OutOfMemory>
-    ensures { IfOk result (λ reply. reply ≡ shown_answer S.setting value) }
+pub fn setting_answer<S: Setting>(alloc: Global, value: S) -> Result<Reply, OutOfMemory>
+    ensures { IfOk result (λ reply. reply ≡ setting_answer S.setting value) }
 {
-    setting_reply(alloc, S::name_shown(), value.spelt())
+    setting_reply(alloc, S::member_in_get(), value.spelt())
 }
 
 /// An object with one member of this name, whose value is the text.

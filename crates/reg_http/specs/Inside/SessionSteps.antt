@@ -7,13 +7,13 @@ use Rattle.reg_http.specs.declared.answering.Stop.{Stop}
 use Rattle.reg_http.specs.declared.answering.Stop.TheVariants.{Waiting, AtClose, AtFault, NotWritten, OutOfMemory}
 use Rattle.reg_http.specs.declared.answering.Next.{Next}
 use Rattle.reg_http.specs.declared.answering.Next.TheVariants.{Answered as AnsweredNext, Stopped}
-use Rattle.reg_http.specs.declared.writing.Sent.{Sent}
-use Rattle.reg_http.specs.declared.writing.Sent.TheVariants.{Whole, CutShort, OutOfMemory as Unsent}
+use Rattle.reg_http.specs.declared.writing.WriteOutcome.{WriteOutcome}
+use Rattle.reg_http.specs.declared.writing.WriteOutcome.TheVariants.{Whole, CutShort, OutOfMemory as Unsent}
 use Rattle.reg_messages.specs.Messages.{Follows, Part, Faulty}
 use Rattle.reg_messages.specs.Closing.{closes}
-use Rattle.reg_messages.specs.Answers.{fault_answer}
-use Rattle.reg_http.specs.Output.{Answered, StayOpen, LastCloses, answers, IsFront, IsCutShort}
-use Rattle.reg_http.specs.Sessions.{Carries}
+use Rattle.reg_messages.specs.Responses.{fault_response}
+use Rattle.reg_http.specs.Output.{AnsweredMessage, StayOpen, LastCloses, responses, IsPrefix, IsCutShort}
+use Rattle.reg_http.specs.Sessions.{ProcessesMessages}
 
 -- No whole message is at the front while there are fewer bytes than that. With those that are needed there is room for all.
 pub record Waits (bytes : List ℕ) (needs : ℕ) : Type 0 where
@@ -23,26 +23,26 @@ pub record Waits (bytes : List ℕ) (needs : ℕ) : Type 0 where
 
 -- What stands at each stop: rest follows the messages xs, and out was written for all of it. Where more bytes are waited
 -- for, rest is what is held.
-abbrev pub StopsAs : List Answered → List ℕ → List ℕ → List ℕ → Stop → Type 0
-StopsAs xs rest held out (Waiting needs) = StayOpen xs × (rest ≡ held) × Waits rest needs × (out ≡ answers xs)
-StopsAs xs rest held out AtClose = LastCloses xs × (out ≡ answers xs)
-StopsAs xs rest held out AtFault = (code : Code) × StayOpen xs × Follows rest (Faulty code) × (out ≡ answers xs ++ fault_answer code)
+abbrev pub StopsAs : List AnsweredMessage → List ℕ → List ℕ → List ℕ → Stop → Type 0
+StopsAs xs rest held out (Waiting needs) = StayOpen xs × (rest ≡ held) × Waits rest needs × (out ≡ responses xs)
+StopsAs xs rest held out AtClose = LastCloses xs × (out ≡ responses xs)
+StopsAs xs rest held out AtFault = (code : Code) × StayOpen xs × Follows rest (Faulty code) × (out ≡ responses xs ++ fault_response code)
 StopsAs xs rest held out NotWritten = IsCutShort xs rest out
-StopsAs xs rest held out OutOfMemory = (StayOpen xs × (out ≡ answers xs)) ⊎ IsCutShort xs rest out
+StopsAs xs rest held out OutOfMemory = (StayOpen xs × (out ≡ responses xs)) ⊎ IsCutShort xs rest out
 
 -- Messages at the front of the bytes were carried out, up to a stop.
 pub record AnswersAs (AreServed : List Exchange → Type 0) (old new : Option (List ℕ)) (bytes held : List ℕ) (stop : Stop) : Type 0 where
-  pub answered : List Answered
+  pub answered : List AnsweredMessage
   pub rest : List ℕ
   pub out : List ℕ
-  pub carries : Carries AreServed old new bytes answered rest out
+  pub processes : ProcessesMessages AreServed old new bytes answered rest out
   pub stops : StopsAs answered rest held out stop
 
 -- One message of so many bytes was answered, and the connection goes on.
 pub record AnswersOne (AreServed : List Exchange → Type 0) (old new : Option (List ℕ)) (bytes : List ℕ) (size : ℕ) : Type 0 where
-  pub answered : Answered
+  pub answered : AnsweredMessage
   pub stays : closes answered.0 ≡ false
-  pub carries : Carries AreServed old new bytes (answered ∷ []) (drop size bytes) (answers (answered ∷ []))
+  pub processes : ProcessesMessages AreServed old new bytes (answered ∷ []) (drop size bytes) (responses (answered ∷ []))
 
 abbrev pub NextAs : (List Exchange → Type 0) → Option (List ℕ) → Option (List ℕ) → List ℕ → Next → Type 0
 NextAs AreServed old new bytes (AnsweredNext size) = AnswersOne AreServed old new bytes size
@@ -59,7 +59,7 @@ IsWithin bytes (AnsweredNext size) = (0 < size) × (size ≤ length bytes)
 IsWithin bytes (Stopped stop) = WaitsAt bytes stop
 
 -- what follows an answer to a whole message of so many bytes, which may end the connection
-abbrev pub next_after : Sent → Bool → ℕ → Next
+abbrev pub next_after : WriteOutcome → Bool → ℕ → Next
 next_after Whole true size = Stopped AtClose
 next_after Whole false size = AnsweredNext size
 next_after CutShort close size = Stopped NotWritten
@@ -67,14 +67,14 @@ next_after Unsent close size = Stopped OutOfMemory
 
 -- what was written for a fault, at each stop
 abbrev pub FaultAs : Option (List ℕ) → Option (List ℕ) → Code → Stop → Type 0
-FaultAs old new code AtFault = Appends old new (fault_answer code)
-FaultAs old new code NotWritten = (part : List ℕ) × IsFront part (fault_answer code) × Appends old new part
-FaultAs old new code OutOfMemory = (part : List ℕ) × IsFront part (fault_answer code) × Appends old new part
+FaultAs old new code AtFault = Appends old new (fault_response code)
+FaultAs old new code NotWritten = (part : List ℕ) × IsPrefix part (fault_response code) × Appends old new part
+FaultAs old new code OutOfMemory = (part : List ℕ) × IsPrefix part (fault_response code) × Appends old new part
 FaultAs old new code AtClose = ⊥
 FaultAs old new code (Waiting needs) = ⊥
 
 -- the messages that were answered stay open, and what is held follows them
-pub record Served (AreServed : List Exchange → Type 0) (old new : Option (List ℕ)) (bytes held : List ℕ) : Type 0 where
-  pub answered : List Answered
+pub record AnsweredSoFar (AreServed : List Exchange → Type 0) (old new : Option (List ℕ)) (bytes held : List ℕ) : Type 0 where
+  pub answered : List AnsweredMessage
   pub stay : StayOpen answered
-  pub carries : Carries AreServed old new bytes answered held (answers answered)
+  pub processes : ProcessesMessages AreServed old new bytes answered held (responses answered)

@@ -85,7 +85,7 @@ impl<'a, 'b, C: Clock> Incoming<'a, 'b, C> {
             }
         }
         if self.timing.is_between() {
-            self.timing.begin_message();
+            self.timing.begin_request();
             self.progress = Progress::of_new_request();
         }
         let (count, progress) = self.pending.give_part(self.progress, buf);
@@ -129,7 +129,7 @@ impl<'a, C: Clock> Outgoing<'a, C> {
         let mut stream = self.stream;
         let count = stream.write(buf)?;
         if count == buf.len() {
-            self.timing.end_answer();
+            self.timing.end_response();
         }
         Ok(count)
     }
@@ -137,7 +137,7 @@ impl<'a, C: Clock> Outgoing<'a, C> {
 
 impl<'a, C: Clock> Write for Outgoing<'a, C> {
     fn write(&mut self, buf: &[u8]) -> io::Result<usize> {
-        self.timing.begin_answer();
+        self.timing.begin_response();
         for _ in 0..PATIENCE {
             if self.timing.is_late() {
                 break;

@@ -8,7 +8,7 @@ use std::net::{TcpListener, TcpStream};
 pub struct Queue<'a> {
     listener: &'a TcpListener,
     found: Option<TcpStream>,
-    asks: bool,
+    polls: bool,
 }
 
 impl<'a> Queue<'a> {
@@ -17,19 +17,19 @@ impl<'a> Queue<'a> {
         Queue {
             listener,
             found: None,
-            asks: false,
+            polls: false,
         }
     }
 
     /// Sets whether `has_next` asks the listener. If the listener can't be made not to wait, it doesn't ask.
-    pub fn ask(&mut self, asks: bool) {
-        self.asks = asks && self.listener.set_nonblocking(true).is_ok();
+    pub fn set_polling(&mut self, polls: bool) {
+        self.polls = polls && self.listener.set_nonblocking(true).is_ok();
     }
 
     /// Whether a connection waits. It is accepted then. It doesn't wait for one. If an accept fails, a
     /// connection may wait, and can be accepted once the current one is closed.
     pub fn has_next(&mut self) -> bool {
-        if self.asks && self.found.is_none() {
+        if self.polls && self.found.is_none() {
             match self.listener.accept() {
                 Ok((stream, _)) => self.found = Some(stream),
                 Err(error) => return error.kind() != io::ErrorKind::WouldBlock,

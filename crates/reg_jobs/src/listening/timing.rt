@@ -97,14 +97,14 @@ impl<'a, C: Clock> Timing<'a, C> {
     }
 
     /// Bytes of a request were read, the first or more.
-    pub fn begin_message(&self) {
+    pub fn begin_request(&self) {
         if self.is_between() {
             self.phase.set(Phase::Arriving(time(self.clock)));
         }
     }
 
     /// A response is written, all of it or the rest.
-    pub fn begin_answer(&self) {
+    pub fn begin_response(&self) {
         if let Phase::Responding(_) = self.phase.get() {
             return;
         }
@@ -112,7 +112,7 @@ impl<'a, C: Clock> Timing<'a, C> {
     }
 
     /// A response was taken whole.
-    pub fn end_answer(&self) {
+    pub fn end_response(&self) {
         self.phase.set(Phase::Between);
     }
 }

@@ -4,18 +4,18 @@ use Rattle.sqlite.specs.Tree.{Trees}
 use Rattle.reg_core.specs.declared.code.Code.TheVariants.{BackendFault}
 use Rattle.reg_core.specs.declared.delivery.Delivery.{Delivery}
 use Rattle.reg_core.specs.Machine.{step}
-use Rattle.reg_core.specs.Replies.{Told, fault}
+use Rattle.reg_core.specs.Replies.{ReplyView, fault}
 use Rattle.reg_core.specs.Stored.{Stored}
 use Rattle.reg_service.specs.Deliveries.{is_first, served}
-use Rattle.reg_service.specs.Crashes.{LeavesAfter}
+use Rattle.reg_service.specs.Crashes.{RecoversExchanges}
 
 -- a first delivery that got 50001 may be left with the plain machine's reply
-pub record LeavesOneUnderWay (was : Stored) (d : Delivery) (reply : Told) (may_leave : Trees → Type 0) : Type 0 where
-  pub unanswered : reply ≡ fault BackendFault
+pub record RecoversOneInFlight (was : Stored) (d : Delivery) (reply : ReplyView) (may_leave : Trees → Type 0) : Type 0 where
+  pub unserved : reply ≡ fault BackendFault
   pub first : IsTrue (is_first was.replies [] d)
   pub leaves : (db : Trees) → may_leave db
-      → LeavesAfter was (served ((d, reply) ∷ [])) db ⊎ LeavesAfter was ((d, (step was.registry d.command).1) ∷ []) db
+      → RecoversExchanges was (served ((d, reply) ∷ [])) db ⊎ RecoversExchanges was ((d, (step was.registry d.command).1) ∷ []) db
 
 -- a crash leaves what was answered, and perhaps the delivery that got 50001
-abbrev pub IsFoundOne : Stored → Delivery → Told → (Trees → Type 0) → Type 0
-IsFoundOne was d reply may_leave = ((db : Trees) → may_leave db → LeavesAfter was (served ((d, reply) ∷ [])) db) ⊎ LeavesOneUnderWay was d reply may_leave
+abbrev pub RecoversOne : Stored → Delivery → ReplyView → (Trees → Type 0) → Type 0
+RecoversOne was d reply may_leave = ((db : Trees) → may_leave db → RecoversExchanges was (served ((d, reply) ∷ [])) db) ⊎ RecoversOneInFlight was d reply may_leave

@@ -5,14 +5,14 @@ use Rattle.sqlite.specs.State.{State}
 use Rattle.reg_core.specs.declared.command.Command.{Command}
 use Rattle.reg_core.specs.declared.decision.Decision.{Decision}
 use Rattle.reg_core.specs.Machine.{is_write, step}
-use Rattle.reg_core.specs.Replies.{Told, IsOwnReply}
-use Rattle.reg_core.specs.KeptReplies.{Kept, kept_with, entry_told}
+use Rattle.reg_core.specs.Replies.{ReplyView, IsCommandReply}
+use Rattle.reg_core.specs.KeptReplies.{Kept, kept_with, entry_with}
 use Rattle.reg_core.specs.Evidence.{IsEvidenceAfter}
 use Rattle.reg_core.specs.Stored.{Stored, HasTrueEvidence}
 use Rattle.reg_core.specs.Views.{ChangesFit}
-use Rattle.reg_store.specs.Changes.{made_of}
-use Rattle.reg_store.specs.Spells.{Leaves, SpellsWhileOpen}
-use Rattle.reg_store.specs.Stores.{SpellsOn}
+use Rattle.reg_store.specs.Changes.{stored_after_changes}
+use Rattle.reg_store.specs.Spells.{RecoversTo, SpellsWhileOpen}
+use Rattle.reg_store.specs.Stores.{StillSpells}
 
 -- the command makes the second of the first, but for the kept replies: the registry is the plain machine's, and the evidence of versions what that names
 pub record StepsTo (was : Stored) (command : Command) (now : Stored) : Type 0 where
@@ -22,7 +22,7 @@ pub record StepsTo (was : Stored) (command : Command) (now : Stored) : Type 0 wh
   pub read : IsFalse (is_write command) → now.evidence ≡ was.evidence
 
 -- so it holds of what the command makes, where these replies are kept then
-pub record HoldsAfter (was : Stored) (command : Command) (kept : Kept) (Holds : Stored → Type 0) : Type 0 where
+pub record HoldsAfterCommand (was : Stored) (command : Command) (kept : Kept) (Holds : Stored → Type 0) : Type 0 where
   pub now : Stored
   pub steps : StepsTo was command now
   pub replies : now.replies ≡ kept
@@ -31,37 +31,37 @@ pub record HoldsAfter (was : Stored) (command : Command) (kept : Kept) (Holds : 
   pub holds : Holds now
 
 -- a decision tells the plain machine's reply, and changes what is stored, which can have the changes, to what the command makes of it
-pub record IsDecidedFor (was : Stored) (command : Command) (d : Decision) : Type 0 where
+pub record IsDecisionOfStep (was : Stored) (command : Command) (d : Decision) : Type 0 where
   pub reply : d.reply ≡ (step was.registry command).1
-  pub steps : StepsTo was command (made_of d.changes.items was)
+  pub steps : StepsTo was command (stored_after_changes d.changes.items was)
   pub fit : ChangesFit d.changes.items was.registry
 
 -- ---- carried out
 
 -- the retry key under which a reply is to be kept, with the command's text, if there is one
-abbrev pub Under : Type 0
-Under = Option (List ℕ × List ℕ)
+abbrev pub KeyAndText : Type 0
+KeyAndText = Option (List ℕ × List ℕ)
 
 -- nothing is kept under it
-abbrev pub IsFree : Under → Kept → Type 0
-IsFree None kept = ⊤
-IsFree (Some (key, text)) kept = kept key ≡ None
+abbrev pub IsUnused : KeyAndText → Kept → Type 0
+IsUnused None kept = ⊤
+IsUnused (Some (key, text)) kept = kept key ≡ None
 
 -- what is kept, with the reply under it
-abbrev pub kept_under : Under → Told → Kept → Kept
+abbrev pub kept_under : KeyAndText → ReplyView → Kept → Kept
 kept_under None reply kept = kept
-kept_under (Some (key, text)) reply kept = kept_with kept key (entry_told text reply)
+kept_under (Some (key, text)) reply kept = kept_with kept key (entry_with text reply)
 
 -- a crash leaves what the command makes where it was answered, and where it wasn't that, or what it left before
-abbrev pub LeavesOne : {X E : Type 0} → Result X E → State → Trees → Stored → Command → Kept → Type 0
-LeavesOne (Ok x) old db was command kept = HoldsAfter was command kept (Leaves db)
-LeavesOne (Err e) old db was command kept = old.may_leave db ⊎ HoldsAfter was command kept (Leaves db)
+abbrev pub RecoversCommand : {X E : Type 0} → Result X E → State → Trees → Stored → Command → Kept → Type 0
+RecoversCommand (Ok x) old db was command kept = HoldsAfterCommand was command kept (RecoversTo db)
+RecoversCommand (Err e) old db was command kept = old.may_leave db ⊎ HoldsAfterCommand was command kept (RecoversTo db)
 
 -- a command is carried out, and its reply is kept where it is to be; or it fails, and what the tables spelled they spell
-pub record CarriesOut {E : Type 0} (old new : State) (command : Command) (under : Under) (result : Result Told E) : Type 0 where
-  pub done : IfOk result (λ reply. (was : Stored) → SpellsWhileOpen old was → IsFree under was.replies
-      → (reply ≡ (step was.registry command).1) × HoldsAfter was command (kept_under under reply was.replies) (SpellsWhileOpen new))
-  pub own : IfOk result (λ reply. IsOwnReply reply)
-  pub fails : OnErr result (SpellsOn old new)
-  pub crash : (was : Stored) → SpellsWhileOpen old was → IsFree under was.replies → (db : Trees) → new.may_leave db
-      → LeavesOne result old db was command (kept_under under (step was.registry command).1 was.replies)
+pub record ExecutesCommand {E : Type 0} (old new : State) (command : Command) (under : KeyAndText) (result : Result ReplyView E) : Type 0 where
+  pub done : IfOk result (λ reply. (was : Stored) → SpellsWhileOpen old was → IsUnused under was.replies
+      → (reply ≡ (step was.registry command).1) × HoldsAfterCommand was command (kept_under under reply was.replies) (SpellsWhileOpen new))
+  pub own : IfOk result (λ reply. IsCommandReply reply)
+  pub fails : OnErr result (StillSpells old new)
+  pub crash : (was : Stored) → SpellsWhileOpen old was → IsUnused under was.replies → (db : Trees) → new.may_leave db
+      → RecoversCommand result old db was command (kept_under under (step was.registry command).1 was.replies)

@@ -2,13 +2,13 @@
 use Rattle.std.specs.Prelude.{◌≡◌, ℕ, List, Some}
 use Rattle.std.specs.FinMap.{get}
 use Rattle.avro_nodes.specs.Nodes.{NodeView}
-use Rattle.reg_core.specs.Evidence.{Evidence, IsTrueOf}
+use Rattle.reg_core.specs.Evidence.{Evidence, IsTrueForSchema}
 use Rattle.reg_core.specs.Registry.{Row, RowKey, schema_at}
 use Rattle.reg_core.specs.Stored.{Stored}
 
 -- the version was admitted by this
-abbrev pub IsAdmittedBy : Stored → RowKey → Evidence → Type 0
-IsAdmittedBy was key one = get was.evidence key ≡ Some one
+abbrev pub HasEvidence : Stored → RowKey → Evidence → Type 0
+HasEvidence was key one = get was.evidence key ≡ Some one
 
 -- the id has this schema
 abbrev pub HasSchema : Stored → ℕ → List NodeView → Type 0
@@ -16,7 +16,7 @@ HasSchema was id nodes = schema_at was.registry.schemas id ≡ Some nodes
 
 -- what the version was admitted by is true of this schema, if it has evidence
 abbrev pub IsTrueAt : Stored → RowKey → List NodeView → Type 0
-IsTrueAt was key nodes = (one : Evidence) → IsAdmittedBy was key one → IsTrueOf was.registry.schemas nodes one
+IsTrueAt was key nodes = (one : Evidence) → HasEvidence was key one → IsTrueForSchema was.registry.schemas nodes one
 
 -- it is true of the version's own schema
 abbrev pub IsTrueFor : Stored → Row → Type 0

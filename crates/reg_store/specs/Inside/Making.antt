@@ -13,38 +13,38 @@ use Rattle.reg_core.specs.Registry.{RowKey}
 use Rattle.reg_core.specs.Stored.{Stored, new_stored}
 use Rattle.reg_core.specs.Views.{ChangeFits, ChangesFit}
 use Rattle.reg_tables.specs.Layout.{IsLayoutTwo, layout_two_unindexed, layout_two_indexed_last}
-use Rattle.reg_tables.specs.Contents.{Contents, HoldsIn}
+use Rattle.reg_tables.specs.Contents.{Contents, HoldsContents}
 use Rattle.reg_tables.specs.Changes.{with_evidence, with_against}
 use Rattle.reg_tables.specs.FailedCalls.{IsInsertFault}
 use Rattle.reg_store.specs.declared.keep.Keep.{Keep}
 use Rattle.reg_store.specs.declared.layout.Layout.{Layout}
 use Rattle.reg_store.specs.declared.layout.Layout.TheVariants.{One, Two}
-use Rattle.reg_store.specs.Spells.{SpellsLayoutOne, LeavesLayoutOne, IsOpenOverLayoutOne, Spells, Leaves, IsOpenOver}
-use Rattle.reg_store.specs.Changes.{IsNewTo, made_of, stored_after, SpellsInside}
+use Rattle.reg_store.specs.Spells.{SpellsLayoutOne, RecoversToLayoutOne, IsOpenOverLayoutOne, Spells, RecoversTo, IsOpenOver}
+use Rattle.reg_store.specs.Changes.{IsNewTo, stored_after_changes, stored_after_apply, SpellsInTransaction}
 
 -- the tables spelled a registry that can have the change, and now spell what is stored after it
-abbrev pub Makes : State → State → Change → Type 0
-Makes old new change = (was : Stored) → Spells old.now was → ChangeFits change was.registry → Spells new.now (made_of (change ∷ []) was)
+abbrev pub StoresChange : State → State → Change → Type 0
+StoresChange old new change = (was : Stored) → Spells old.now was → ChangeFits change was.registry → Spells new.now (stored_after_changes (change ∷ []) was)
 
 -- the same of several changes, each of which it can have at its turn
-abbrev pub MakesAll : State → State → List Change → Type 0
-MakesAll old new changes = (was : Stored) → Spells old.now was → ChangesFit changes was.registry → Spells new.now (made_of changes was)
+abbrev pub StoresChanges : State → State → List Change → Type 0
+StoresChanges old new changes = (was : Stored) → Spells old.now was → ChangesFit changes was.registry → Spells new.now (stored_after_changes changes was)
 
 -- the same of a reply, if there is one to keep
-abbrev pub Keeps : State → State → Option Keep → Type 0
-Keeps old new keep = (was : Stored) → Spells old.now was → IsNewTo was.replies keep → Spells new.now (stored_after [] keep was)
+abbrev pub StoresReply : State → State → Option Keep → Type 0
+StoresReply old new keep = (was : Stored) → Spells old.now was → IsNewTo was.replies keep → Spells new.now (stored_after_apply [] keep was)
 
 -- a change that a registry can have fails for a reason that each write has
 abbrev pub IsFaultOfChange : State → State → Change → Error → Type 0
-IsFaultOfChange old new change e = (was : Stored) → SpellsInside old was → ChangeFits change was.registry → IsInsertFault old new e
+IsFaultOfChange old new change e = (was : Stored) → SpellsInTransaction old was → ChangeFits change was.registry → IsInsertFault old new e
 
 -- so do several
 abbrev pub IsFaultOfChanges : State → State → List Change → Error → Type 0
-IsFaultOfChanges old new changes e = (was : Stored) → SpellsInside old was → ChangesFit changes was.registry → IsInsertFault old new e
+IsFaultOfChanges old new changes e = (was : Stored) → SpellsInTransaction old was → ChangesFit changes was.registry → IsInsertFault old new e
 
 -- so does a reply, where nothing is kept under its key yet
 abbrev pub IsFaultOfReply : State → State → Option Keep → Error → Type 0
-IsFaultOfReply old new keep e = (was : Stored) → SpellsInside old was → IsNewTo was.replies keep → IsInsertFault old new e
+IsFaultOfReply old new keep e = (was : Stored) → SpellsInTransaction old was → IsNewTo was.replies keep → IsInsertFault old new e
 
 -- ---- the evidence of a new version
 
@@ -58,8 +58,8 @@ abbrev pub with_own : RowKey → Evidence → Contents → Contents
 with_own key own contents = with_ids key 1 own.against (with_evidence key (level_text own.level) contents)
 
 -- the version has no place
-abbrev pub HasNoPlace : Contents → RowKey → Type 0
-HasNoPlace contents key = (position : ℕ) → get contents.against (key, position) ≡ None
+abbrev pub HasNoPositions : Contents → RowKey → Type 0
+HasNoPositions contents key = (position : ℕ) → get contents.against (key, position) ≡ None
 
 -- the version is there, and so are texts with these ids
 pub record HasTexts (contents : Contents) (key : RowKey) (ids : List ℕ) : Type 0 where
@@ -69,26 +69,26 @@ pub record HasTexts (contents : Contents) (key : RowKey) (ids : List ℕ) : Type
 -- where the version had no place, the ids now stand at its positions from 1 on
 pub record PutsIds (old new : State) (key : RowKey) (ids : List ℕ) : Type 0 where
   pub few : length ids < 2 ^ 32
-  pub puts : (schema : Schema) → IsLayoutTwo schema → (contents : Contents) → HoldsIn schema old.now contents → HasNoPlace contents key → HoldsIn schema new.now (with_ids key 1 ids contents)
+  pub puts : (schema : Schema) → IsLayoutTwo schema → (contents : Contents) → HoldsContents schema old.now contents → HasNoPositions contents key → HoldsContents schema new.now (with_ids key 1 ids contents)
 
 -- so they can, but for a reason that each write has
 abbrev pub IsFaultOfIds : State → State → RowKey → List ℕ → Error → Type 0
-IsFaultOfIds old new key ids e = (schema : Schema) → IsLayoutTwo schema → (contents : Contents) → HoldsIn schema old.now contents → HasNoPlace contents key → HasTexts contents key ids → IsInsertFault old new e
+IsFaultOfIds old new key ids e = (schema : Schema) → IsLayoutTwo schema → (contents : Contents) → HoldsContents schema old.now contents → HasNoPositions contents key → HasTexts contents key ids → IsInsertFault old new e
 
 -- where the version had no evidence, it now has this
 pub record PutsOwn (old new : State) (key : RowKey) (own : Evidence) : Type 0 where
   pub few : length own.against < 2 ^ 32
-  pub puts : (schema : Schema) → IsLayoutTwo schema → (contents : Contents) → HoldsIn schema old.now contents → get contents.evidence key ≡ None → HasNoPlace contents key → HoldsIn schema new.now (with_own key own contents)
+  pub puts : (schema : Schema) → IsLayoutTwo schema → (contents : Contents) → HoldsContents schema old.now contents → get contents.evidence key ≡ None → HasNoPositions contents key → HoldsContents schema new.now (with_own key own contents)
 
 -- so it can, but for a reason that each write has
 abbrev pub IsFaultOfOwn : State → State → RowKey → Evidence → Error → Type 0
-IsFaultOfOwn old new key own e = (schema : Schema) → IsLayoutTwo schema → (contents : Contents) → HoldsIn schema old.now contents → get contents.evidence key ≡ None → HasNoPlace contents key → HasTexts contents key own.against → IsInsertFault old new e
+IsFaultOfOwn old new key own e = (schema : Schema) → IsLayoutTwo schema → (contents : Contents) → HoldsContents schema old.now contents → get contents.evidence key ≡ None → HasNoPositions contents key → HasTexts contents key own.against → IsInsertFault old new e
 
 -- ---- an index that is made
 
 -- the trees are those of these tables with the index, whatever contents they hold without it
-abbrev pub TakesIndex : Database → Trees → Type 0
-TakesIndex before db = (held : Contents) → HoldsIn layout_two_unindexed before held → HoldsIn layout_two_indexed_last (record { schema = layout_two_indexed_last; trees = db }) held
+abbrev pub HoldsWithIndex : Database → Trees → Type 0
+HoldsWithIndex before db = (held : Contents) → HoldsContents layout_two_unindexed before held → HoldsContents layout_two_indexed_last (record { schema = layout_two_indexed_last; trees = db }) held
 
 -- ---- a new registry, in either layout
 
@@ -103,6 +103,6 @@ IsNew One s = IsOpenOverLayoutOne s new_stored
 IsNew Two s = IsOpenOver s new_stored
 
 -- a crash leaves it
-abbrev pub LeavesNew : Layout → Trees → Type 0
-LeavesNew One db = LeavesLayoutOne db new_stored
-LeavesNew Two db = Leaves db new_stored
+abbrev pub RecoversToNew : Layout → Trees → Type 0
+RecoversToNew One db = RecoversToLayoutOne db new_stored
+RecoversToNew Two db = RecoversTo db new_stored

@@ -6,15 +6,15 @@ use Rattle.sqlite.specs.Held.{state}
 use Rattle.sqlite.specs.State.{State, HasCleanDisk, KeepsCommit, Survives}
 use Rattle.sqlite_trees.specs.declared.store.Store.{Ghosts}
 use Rattle.reg_store.specs.declared.error.StoreError.{StoreError}
-use Rattle.reg_store.specs.declared.idle.Idle.{Idle}
+use Rattle.reg_store.specs.declared.idle.StoreConnection.{StoreConnection}
 use Rattle.reg_core.specs.Stored.{Stored}
 use Rattle.reg_tables.specs.Layout.{HasFiveTables}
-use Rattle.reg_tables.specs.Contents.{Contents, HoldsIn, AreReadable}
+use Rattle.reg_tables.specs.Contents.{Contents, HoldsContents, AreReadable}
 use Rattle.reg_store.specs.Spells.{IsSpelled, SpellsWhileOpen}
 use Rattle.reg_store.specs.Failures.{IsFaultBy}
 
 -- SQLite, transactions: what the connection shows
-abbrev pub shown : {S : Type 0} {g : Ghosts S} → Idle S g → State
+abbrev pub shown : {S : Type 0} {g : Ghosts S} → StoreConnection S g → State
 shown {S} {g} db = state g db.idle.conn
 
 -- the five tables that each layout has come first, hold what can be read, and spell a registry, but for its modes, and kept replies
@@ -22,22 +22,22 @@ pub record SpellsBase (db : Database) (was : Stored) : Type 0 where
   pub schema : Schema
   pub first : HasFiveTables schema
   pub contents : Contents
-  pub holds : HoldsIn schema db contents
+  pub holds : HoldsContents schema db contents
   pub readable : AreReadable contents
   pub spelled : IsSpelled contents was.registry was.replies
 
 -- nothing is committed, and a connection that showed its last commit shows it still
-pub record Rests (old new : State) : Type 0 where
+pub record CommitsNothing (old new : State) : Type 0 where
   pub commit_stays : HasCleanDisk new → KeepsCommit old new
   pub settled : HasCleanDisk new → IsTrue new.is_open → old.now ≡ old.committed → new.now ≡ new.committed
   pub survives : Survives old new (λ _. ⊥)
 
 -- A call that reads what is stored, if it reads at all, changes nothing. Where the tables spell what is stored, an Ok tells of it, and an Err is a fault.
-pub record MayRead {S X : Type 0} {g : Ghosts S} (old new : Idle S g) (result : Result X StoreError) (Tells : Stored → X → Type 0) : Type 0 where
-  pub rests : Rests (shown old) (shown new)
-  pub answers : HasCleanDisk (shown new) → (was : Stored) → SpellsWhileOpen (shown old) was → MatchResult result (Tells was) (IsFaultBy (shown old) (shown new))
+pub record MayRead {S X : Type 0} {g : Ghosts S} (old new : StoreConnection S g) (result : Result X StoreError) (IsAnswer : Stored → X → Type 0) : Type 0 where
+  pub rests : CommitsNothing (shown old) (shown new)
+  pub answers : HasCleanDisk (shown new) → (was : Stored) → SpellsWhileOpen (shown old) was → MatchResult result (IsAnswer was) (IsFaultBy (shown old) (shown new))
 
 -- a call that surely reads it: what it answers was read over an open connection
-pub record Reads {S X : Type 0} {g : Ghosts S} (old new : Idle S g) (result : Result X StoreError) (Tells : Stored → X → Type 0) : Type 0 where
-  pub may : MayRead old new result Tells
+pub record Reads {S X : Type 0} {g : Ghosts S} (old new : StoreConnection S g) (result : Result X StoreError) (IsAnswer : Stored → X → Type 0) : Type 0 where
+  pub may : MayRead old new result IsAnswer
   pub was_open : HasCleanDisk (shown new) → OnOk result (IsTrue (shown old).is_open)

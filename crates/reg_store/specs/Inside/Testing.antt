@@ -7,63 +7,63 @@ use Rattle.sqlite.specs.Effect.{Database}
 use Rattle.sqlite.specs.Held.{Held, state}
 use Rattle.sqlite.specs.State.{HasCleanDisk}
 use Rattle.sqlite_trees.specs.declared.store.Store.{Ghosts}
-use Rattle.reg_tables.specs.declared.text_lines.TextLine.{TextLine}
-use Rattle.reg_tables.specs.declared.versions.VersionLine.{VersionLine}
-use Rattle.reg_tables.specs.declared.levels.LevelLine.{LevelLine}
-use Rattle.reg_tables.specs.declared.kept.KeptLine.{KeptLine}
-use Rattle.reg_tables.specs.declared.meta.MetaLine.{MetaLine}
-use Rattle.reg_tables.specs.declared.modes.ModeLine.{ModeLine}
-use Rattle.reg_tables.specs.declared.evidence.EvidenceLine.{EvidenceLine}
-use Rattle.reg_tables.specs.declared.evidence.AgainstLine.{AgainstLine}
+use Rattle.reg_tables.specs.declared.raw_texts.RawText.{RawText}
+use Rattle.reg_tables.specs.declared.versions.RawVersion.{RawVersion}
+use Rattle.reg_tables.specs.declared.levels.RawLevel.{RawLevel}
+use Rattle.reg_tables.specs.declared.kept.RawKept.{RawKept}
+use Rattle.reg_tables.specs.declared.meta.RawMeta.{RawMeta}
+use Rattle.reg_tables.specs.declared.modes.RawMode.{RawMode}
+use Rattle.reg_tables.specs.declared.evidence.RawEvidence.{RawEvidence}
+use Rattle.reg_tables.specs.declared.evidence.RawAgainst.{RawAgainst}
 use Rattle.reg_tables.specs.Layout.{HasFiveTables, HasEightTables}
 use Rattle.reg_tables.specs.Listings.{ListsIds, ListsTexts, ListsVersions, ListsLevels, ListsKept, ListsMeta, ListsModes, ListsEvidence, ListsAgainst, ListsAgainstOf, HasAgainstRows}
-use Rattle.reg_tables.specs.Frames.{StaysIdle}
-use Rattle.reg_rows.specs.Spelling.{pair_of, IsIdentity, AreNumbered, AreTexts, FitsVersions, FitsLevels, FitsKept, FitsModes, FitsEvidence}
-use Rattle.reg_rows.specs.Meta.{Pair, is_meta, is_second_meta, layout_in}
-use Rattle.reg_rows.specs.Places.{Place, HaveEvidence, ArePositions}
+use Rattle.reg_tables.specs.Frames.{ReadsInAutocommit}
+use Rattle.reg_rows.specs.Spelling.{meta_pair, IsIdentity, AreNumbered, AreTexts, FitsVersions, FitsLevels, FitsKept, FitsModes, FitsEvidence}
+use Rattle.reg_rows.specs.Meta.{MetaPair, is_layout_one_meta, is_layout_two_meta, layout_in}
+use Rattle.reg_rows.specs.Positions.{VersionPosition, HaveEvidence, AreContiguous}
 use Rattle.reg_core.specs.Registry.{RowKey, max_number}
 use Rattle.reg_core.specs.Stored.{Stored}
 use Rattle.reg_store.specs.declared.error.StoreError.{StoreError}
 use Rattle.reg_store.specs.declared.error.StoreError.TheVariants.{Memory, Disk, NotARegistry, OldLayout, NewerLayout}
 use Rattle.reg_store.specs.declared.layout.Layout.{Layout}
 use Rattle.reg_store.specs.declared.layout.Layout.TheVariants.{One, Two}
-use Rattle.reg_store.specs.Failures.{IsFaultBy, IsTold}
-use Rattle.reg_store.specs.Opening.{text_shown, meta_shown}
+use Rattle.reg_store.specs.Failures.{IsFaultBy, HasDiskCause}
+use Rattle.reg_store.specs.Opening.{text_columns, meta_columns}
 use Rattle.reg_store.specs.Spells.{SpellsLayoutOne, SpellsUnopened}
 use Rattle.reg_store.specs.Inside.Reads.{SpellsBase}
 
 -- no number comes twice
-abbrev pub AreApart : List ℤ → Type 0
-AreApart = IsDistinct (eq_by_cmp int_cmp)
+abbrev pub AreDistinct : List ℤ → Type 0
+AreDistinct = IsDistinct (eq_by_cmp int_cmp)
 
 -- ---- what passes, table by table
 
-abbrev pub text_fits : TextLine → Type 0
+abbrev pub text_fits : RawText → Type 0
 text_fits line = IsIdentity (string_bytes line.text)
 
-abbrev pub version_fits : VersionLine → Type 0
+abbrev pub version_fits : RawVersion → Type 0
 version_fits line = FitsVersions (string_bytes line.subject) line.version
 
-abbrev pub level_fits : LevelLine → Type 0
+abbrev pub level_fits : RawLevel → Type 0
 level_fits line = FitsLevels (string_bytes line.subject) (string_bytes line.level)
 
-abbrev pub kept_fits : KeptLine → Type 0
+abbrev pub kept_fits : RawKept → Type 0
 kept_fits line = FitsKept (string_bytes line.key) line.reply.status
 
 pub record LevelsPass (db : Database) : Type 0 where
-  pub lines : List LevelLine
+  pub lines : List RawLevel
   pub lists : ListsLevels db lines
-  pub apart : AreApart (map (λ (line : LevelLine). line.rowid) lines)
+  pub apart : AreDistinct (map (λ (line : RawLevel). line.rowid) lines)
   pub fit : AllByRecursion level_fits lines
 
 pub record KeptPass (db : Database) : Type 0 where
-  pub lines : List KeptLine
+  pub lines : List RawKept
   pub lists : ListsKept db lines
-  pub apart : AreApart (map (λ (line : KeptLine). line.rowid) lines)
+  pub apart : AreDistinct (map (λ (line : RawKept). line.rowid) lines)
   pub fit : AllByRecursion kept_fits lines
 
-abbrev pub pairs_of : List MetaLine → List Pair
-pairs_of lines = map pair_of (map meta_shown lines)
+abbrev pub pairs_of : List RawMeta → List MetaPair
+pairs_of lines = map meta_pair (map meta_columns lines)
 
 -- the number of a layout
 abbrev pub number_of : Layout → ℕ
@@ -71,26 +71,26 @@ number_of One = 1
 number_of Two = 2
 
 -- whether these are the rows of `meta` in the layout
-abbrev pub is_meta_of : Layout → List Pair → Bool
-is_meta_of One = is_meta
-is_meta_of Two = is_second_meta
+abbrev pub is_meta_of : Layout → List MetaPair → Bool
+is_meta_of One = is_layout_one_meta
+is_meta_of Two = is_layout_two_meta
 
 pub record MetaPass (layout : Layout) (db : Database) : Type 0 where
-  pub lines : List MetaLine
+  pub lines : List RawMeta
   pub lists : ListsMeta db lines
-  pub apart : AreApart (map (λ (line : MetaLine). line.rowid) lines)
+  pub apart : AreDistinct (map (λ (line : RawMeta). line.rowid) lines)
   pub fit : IsTrue (is_meta_of layout (pairs_of lines))
 
 -- the rows of `texts`, in the order of their ids
 pub record TextsPass (db : Database) : Type 0 where
-  pub lines : List TextLine
+  pub lines : List RawText
   pub lists : ListsTexts db lines
-  pub fit : AreTexts (map text_shown lines)
+  pub fit : AreTexts (map text_columns lines)
 
 pub record VersionsPass (db : Database) : Type 0 where
-  pub lines : List VersionLine
+  pub lines : List RawVersion
   pub lists : ListsVersions db lines
-  pub apart : AreApart (map (λ (line : VersionLine). line.rowid) lines)
+  pub apart : AreDistinct (map (λ (line : RawVersion). line.rowid) lines)
   pub fit : AllByRecursion version_fits lines
 
 pub record RestPasses (db : Database) : Type 0 where
@@ -106,42 +106,42 @@ pub record FivePass (layout : Layout) (db : Database) : Type 0 where
 
 -- ---- what passes of the tables that layout 2 adds
 
-abbrev pub mode_fits : ModeLine → Type 0
+abbrev pub mode_fits : RawMode → Type 0
 mode_fits line = FitsModes (string_bytes line.subject) (string_bytes line.mode)
 
-abbrev pub evidence_fits : EvidenceLine → Type 0
+abbrev pub evidence_fits : RawEvidence → Type 0
 evidence_fits line = FitsEvidence (string_bytes line.level)
 
-abbrev pub against_fits : AgainstLine → Type 0
+abbrev pub against_fits : RawAgainst → Type 0
 against_fits line = line.position < 2 ^ 32
 
-abbrev pub version_at : EvidenceLine → RowKey
+abbrev pub version_at : RawEvidence → RowKey
 version_at line = (string_bytes line.subject, line.version)
 
-abbrev pub place_at : AgainstLine → Place
+abbrev pub place_at : RawAgainst → VersionPosition
 place_at line = ((string_bytes line.subject, line.version), line.position)
 
 -- each version that has ids has evidence, and the ids stand in order
-abbrev pub AreInPlace : List EvidenceLine → List AgainstLine → Type 0
-AreInPlace evidence against = HaveEvidence (map version_at evidence) (map place_at against) × ArePositions (map place_at against)
+abbrev pub AreInSequence : List RawEvidence → List RawAgainst → Type 0
+AreInSequence evidence against = HaveEvidence (map version_at evidence) (map place_at against) × AreContiguous (map place_at against)
 
 pub record ModesPass (db : Database) : Type 0 where
-  pub lines : List ModeLine
+  pub lines : List RawMode
   pub lists : ListsModes db lines
-  pub apart : AreApart (map (λ (line : ModeLine). line.rowid) lines)
+  pub apart : AreDistinct (map (λ (line : RawMode). line.rowid) lines)
   pub fit : AllByRecursion mode_fits lines
 
 -- lines of `evidence` and `against` that pass
-pub record EvidenceFits (evidence : List EvidenceLine) (against : List AgainstLine) : Type 0 where
-  pub apart : AreApart (map (λ (line : EvidenceLine). line.rowid) evidence)
+pub record EvidenceFits (evidence : List RawEvidence) (against : List RawAgainst) : Type 0 where
+  pub apart : AreDistinct (map (λ (line : RawEvidence). line.rowid) evidence)
   pub fit : AllByRecursion evidence_fits evidence
-  pub places_apart : AreApart (map (λ (line : AgainstLine). line.rowid) against)
+  pub places_apart : AreDistinct (map (λ (line : RawAgainst). line.rowid) against)
   pub places_fit : AllByRecursion against_fits against
-  pub placed : AreInPlace evidence against
+  pub placed : AreInSequence evidence against
 
 pub record EvidencePasses (db : Database) : Type 0 where
-  pub evidence : List EvidenceLine
-  pub against : List AgainstLine
+  pub evidence : List RawEvidence
+  pub against : List RawAgainst
   pub lists : ListsEvidence db evidence × ListsAgainst db against
   pub fits : EvidenceFits evidence against
 
@@ -165,43 +165,43 @@ pub record NumbersTexts (db : Database) (count : ℕ) : Type 0 where
   pub few : count ≤ max_number
 
 -- what is said of the rows that these lines list: whether each has the identity text of a schema
-pub record Judges (Lists : List TextLine → Type 0) (fit : Bool) : Type 0 where
-  pub lines : List TextLine
+pub record Judges (Lists : List RawText → Type 0) (fit : Bool) : Type 0 where
+  pub lines : List RawText
   pub lists : Lists lines
   pub judged : IsTrue fit ↔ AllByRecursion text_fits lines
 
 -- ---- ids, of which those of one version are held at a time
 
 -- lines of a version, whose ids stand in order
-abbrev pub StandInOrder : List AgainstLine → Type 0
-StandInOrder lines = AllByRecursion against_fits lines × ArePositions (map place_at lines)
+abbrev pub ArePositionsInOrder : List RawAgainst → Type 0
+ArePositionsInOrder lines = AllByRecursion against_fits lines × AreContiguous (map place_at lines)
 
-abbrev pub rowids_in : List AgainstLine → List ℤ
-rowids_in = map (λ (line : AgainstLine). line.rowid)
+abbrev pub rowids_in : List RawAgainst → List ℤ
+rowids_in = map (λ (line : RawAgainst). line.rowid)
 
 -- what is said of the ids of a version: which rowids they have, and whether they stand in order
 pub record JudgesVersion (version : RowKey) (db : Database) (rowids : List ℤ) (fit : Bool) : Type 0 where
-  pub lines : List AgainstLine
+  pub lines : List RawAgainst
   pub lists : ListsAgainstOf version db lines
   pub have : rowids_in lines ≡ rowids
-  pub judged : IsTrue fit ↔ StandInOrder lines
+  pub judged : IsTrue fit ↔ ArePositionsInOrder lines
 
 -- the same of versions, one after the other
 pub record JudgesVersions (versions : List RowKey) (db : Database) (rowids : List ℤ) (fit : Bool) : Type 0 where
-  pub parts : List (List AgainstLine)
+  pub parts : List (List RawAgainst)
   pub lists : AllZip (λ version lines. ListsAgainstOf version db lines) versions parts
   pub have : rowids_in (flat_map (λ lines. lines) parts) ≡ rowids
-  pub judged : IsTrue fit ↔ AllByRecursion StandInOrder parts
+  pub judged : IsTrue fit ↔ AllByRecursion ArePositionsInOrder parts
 
 -- and how many rows `against` has
-pub record TellsIds (versions : List RowKey) (db : Database) (rowids : List ℤ) (fit : Bool) (count : ℕ) : Type 0 where
+pub record JudgesIds (versions : List RowKey) (db : Database) (rowids : List ℤ) (fit : Bool) (count : ℕ) : Type 0 where
   pub judged : JudgesVersions versions db rowids fit
   pub counted : HasAgainstRows db count
 
 -- ---- verdicts
 
-abbrev pub PassesMeta : Layout → List MetaLine → Type 0
-PassesMeta layout lines = AreApart (map (λ (line : MetaLine). line.rowid) lines) × IsTrue (is_meta_of layout (pairs_of lines))
+abbrev pub PassesMeta : Layout → List RawMeta → Type 0
+PassesMeta layout lines = AreDistinct (map (λ (line : RawMeta). line.rowid) lines) × IsTrue (is_meta_of layout (pairs_of lines))
 
 -- Another layout is told before what doesn't pass.
 abbrev pub Allows : ℕ → Option ℕ → Bool → Result (Unit {0}) StoreError → Type 0
@@ -213,7 +213,7 @@ Allows own named passes (Err (OldLayout number)) = (named ≡ Some number) × (n
 Allows own named passes (Err (NewerLayout number)) = (named ≡ Some number) × (own < number)
 
 -- The format and the layout are looked at before the rest.
-abbrev pub JudgesMeta : Layout → List MetaLine → Result (Unit {0}) StoreError → Type 0
+abbrev pub JudgesMeta : Layout → List RawMeta → Result (Unit {0}) StoreError → Type 0
 JudgesMeta layout lines (Ok _) = PassesMeta layout lines
 JudgesMeta layout lines (Err Memory) = Unit {0}
 JudgesMeta layout lines (Err Disk) = ⊥
@@ -236,11 +236,11 @@ SpellsAs Two = SpellsSome SpellsUnopened
 -- ---- a test
 
 -- a call that changes nothing, tells of tables that are declared so, fails by itself only where they don't spell what they should, and tells `Disk` of a fault of the disk alone
-pub record Tests {S X : Type 0} (Declared : Schema → Type 0) (Spelled : Database → Type 0) (g : Ghosts S) (old new : Held S) (result : Result X StoreError) (Tells : X → Database → Type 0) : Type 0 where
-  pub frame : StaysIdle g old new result
-  pub tells : HasCleanDisk (state g new) → IfOk result (λ x. Declared (state g old).now.schema → Tells x (state g old).now)
+pub record Tests {S X : Type 0} (Declared : Schema → Type 0) (Spelled : Database → Type 0) (g : Ghosts S) (old new : Held S) (result : Result X StoreError) (IsAnswer : X → Database → Type 0) : Type 0 where
+  pub frame : ReadsInAutocommit g old new result
+  pub tells : HasCleanDisk (state g new) → IfOk result (λ x. Declared (state g old).now.schema → IsAnswer x (state g old).now)
   pub fault : HasCleanDisk (state g new) → IfErr result (λ e. (IsTrue (state g old).is_open → Spelled (state g old).now) → IsFaultBy (state g old) (state g new) e)
-  pub told : HasCleanDisk (state g new) → IfErr result (λ e. (IsTrue (state g old).is_open → Declared (state g old).now.schema) → IsTold (state g old) (state g new) e)
+  pub disk_cause : HasCleanDisk (state g new) → IfErr result (λ e. (IsTrue (state g old).is_open → Declared (state g old).now.schema) → HasDiskCause (state g old) (state g new) e)
 
 -- a test of the five tables that each layout has
 abbrev pub TestsFive : {S X : Type 0} → Ghosts S → Held S → Held S → Result X StoreError → (X → Database → Type 0) → Type 0

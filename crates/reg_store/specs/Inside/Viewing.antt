@@ -10,37 +10,37 @@ use Rattle.reg_core.specs.declared.decision.View.{View}
 use Rattle.reg_core.specs.Subjects.{is_subject}
 use Rattle.reg_core.specs.Registry.{Registry, Row, Version, Schemas}
 use Rattle.reg_core.specs.Rows.{known_id, text_at}
-use Rattle.reg_core.specs.Machine.{subject_of, sends_schema, schema_sent}
-use Rattle.reg_core.specs.Needs.{AnswerAs, rows_asked, rows_needed, needs_levels, needs_modes, needs_count}
+use Rattle.reg_core.specs.Machine.{subject_of, sends_schema, command_schema}
+use Rattle.reg_core.specs.Needs.{SufficeFor, row_needs, rows_needed, needs_levels, needs_modes, needs_count}
 use Rattle.reg_core.specs.Views.{level_of_view}
-use Rattle.reg_tables.specs.declared.meta.MetaLine.{MetaLine}
+use Rattle.reg_tables.specs.declared.meta.RawMeta.{RawMeta}
 use Rattle.reg_tables.specs.declared.listed.ListedVersion.{ListedVersion}
-use Rattle.reg_tables.specs.Contents.{VersionRow}
-use Rattle.reg_tables.specs.Entries.{NumberedVersion, KeyedVersion, most}
+use Rattle.reg_tables.specs.Contents.{VersionEntryView}
+use Rattle.reg_tables.specs.Entries.{SubjectVersionView, ListedVersionView, versions_limit}
 
 -- ---- settings
 
 -- the value of the first line of `meta` that has the name
-abbrev pub value_in : List ℕ → List MetaLine → Option (List ℕ)
-value_in name lines = option_map (λ (line : MetaLine). string_bytes line.value) (find (λ (line : MetaLine). bytes_eq (string_bytes line.name) name) lines)
+abbrev pub value_in : List ℕ → List RawMeta → Option (List ℕ)
+value_in name lines = option_map (λ (line : RawMeta). string_bytes line.value) (find (λ (line : RawMeta). bytes_eq (string_bytes line.name) name) lines)
 
 -- ---- rows
 
 -- the version that a row of `versions` is of
-abbrev pub version_spelled : VersionRow → Version
+abbrev pub version_spelled : VersionEntryView → Version
 version_spelled row = record { id = row.id; deleted = row.deleted }
 
-abbrev pub row_spelled : KeyedVersion → Row
+abbrev pub row_spelled : ListedVersionView → Row
 row_spelled entry = (entry.0, version_spelled entry.1)
 
 -- the same, where the subject is known
-abbrev pub row_numbered : List ℕ → NumberedVersion → Row
+abbrev pub row_numbered : List ℕ → SubjectVersionView → Row
 row_numbered subject entry = ((subject, entry.0), version_spelled entry.1)
 
--- these versions are some of those, in any order, and all of them where they are fewer than `most`
+-- these versions are some of those, in any order, and all of them where they are fewer than `versions_limit`
 pub record AreSome (rows all : List Row) : Type 0 where
   pub each : (row : Row) → Contains rows row → Contains all row
-  pub few : length rows < most → (row : Row) → Contains all row → Contains rows row
+  pub few : length rows < versions_limit → (row : Row) → Contains all row → Contains rows row
 
 -- the version is of the subject, and is shown
 abbrev pub is_shown_of : Bool → List ℕ → Row → Bool
@@ -90,8 +90,8 @@ pub record PutsText (old new : BTreeMap ℕ (String Global)) (id : ℕ) (found :
 
 -- the view shows what the command needs of the registry, but for the texts
 pub record IsViewButTexts (view : View) (g : Registry) (command : Command) : Type 0 where
-  pub rows : AnswerAs (level_of_view view) view.known (rows_asked command) view.rows.items (rows_needed g (subject_of command) (rows_asked command))
+  pub rows : SufficeFor (level_of_view view) view.known (row_needs command) view.rows.items (rows_needed g (subject_of command) (row_needs command))
   pub levels : IsTrue (needs_levels command) → (view.own ≡ option_and_then g.own (subject_of command)) × (view.global ≡ g.global)
   pub modes : IsTrue (needs_modes command) → (view.own_mode ≡ option_and_then g.own_modes (subject_of command)) × (view.global_mode ≡ g.global_mode)
-  pub known : IsTrue (sends_schema command) → view.known ≡ known_id g.schemas (schema_sent command)
+  pub known : IsTrue (sends_schema command) → view.known ≡ known_id g.schemas (command_schema command)
   pub count : IsTrue (needs_count command) → view.count ≡ length g.schemas

@@ -2,15 +2,15 @@
 
 ghost use Rattle.std.specs.Prelude.{◌⊎◌, IfSome, IfErr, OnOk, OnErr, IsTrue};
 ghost use Rattle.sqlite.specs.State.{HasCleanDisk, Survives, KeepsCommit};
-ghost use Rattle.reg_store.specs.Spells.{Leaves, IsOpenOver};
-ghost use Rattle.reg_store.specs.Changes.{IsKeepable, ActsOn, WhereTaken, IsTaken, LeavesEither};
+ghost use Rattle.reg_store.specs.Spells.{RecoversTo, IsOpenOver};
+ghost use Rattle.reg_store.specs.Changes.{IsKeepable, HasWork, WhenApplicable, HoldsAfterChanges, RecoversToEither};
 ghost use Rattle.reg_store.specs.Failures.{failure_of, is_fault};
-ghost use Rattle.reg_store.specs.Stores.{state_of, LeavesBefore, KeepsStore, SpellsOn};
+ghost use Rattle.reg_store.specs.Stores.{state_of, KeepsCrashStates, KeepsStore, StillSpells};
 ghost use Rattle.reg_store.specs.Inside.Reads.{shown};
 
 use crate::changes::{keep_reply, make_all};
 use crate::error::StoreError;
-use crate::idle::Idle;
+use crate::idle::StoreConnection;
 use crate::keep::Keep;
 use crate::store::Store;
 use reg_core::Change;
@@ -18,25 +18,25 @@ use sqlite::{Alter, Error};
 
 /// Makes the changes and keeps the reply in one transaction.
 fn commit_all<S: Alter>(
-    db: &mut Idle<S>,
+    db: &mut StoreConnection<S>,
     changes: &[Change],
     keep: Option<Keep<'_>>,
 ) -> Result<(), Error>
     requires keepable { IfSome keep IsKeepable }
-    ensures done { HasCleanDisk (shown db.new) → OnOk result (WhereTaken (shown db.old) changes.now keep.entry (λ was.
-        IsTaken changes.now keep.entry was (IsOpenOver (shown db.new)))) }
+    ensures done { HasCleanDisk (shown db.new) → OnOk result (WhenApplicable (shown db.old) changes.now keep.entry (λ was.
+        HoldsAfterChanges changes.now keep.entry was (IsOpenOver (shown db.new)))) }
     ensures fault { HasCleanDisk (shown db.new) → IfErr result (λ e.
-        WhereTaken (shown db.old) changes.now keep.entry (λ was. IsTrue (is_fault (failure_of e)))) }
+        WhenApplicable (shown db.old) changes.now keep.entry (λ was. IsTrue (is_fault (failure_of e)))) }
     ensures was_open { HasCleanDisk (shown db.new)
         → OnOk result (IsTrue (shown db.old).is_open) }
     ensures nothing { HasCleanDisk (shown db.new)
         → OnErr result (KeepsCommit (shown db.old) (shown db.new)) }
     ensures before { HasCleanDisk (shown db.new) → IfErr result (λ e. IsTrue (shown db.old).is_open
-        → LeavesBefore (shown db.old) (shown db.new) (failure_of e)) }
+        → KeepsCrashStates (shown db.old) (shown db.new) (failure_of e)) }
     ensures survives { Survives (shown db.old) (shown db.new) (λ left.
-        WhereTaken (shown db.old) changes.now keep.entry (λ was.
-        IsTrue (shown db.old).is_open ⊎ ActsOn changes.now keep.entry
-        → IsTaken changes.now keep.entry was (Leaves left))) }
+        WhenApplicable (shown db.old) changes.now keep.entry (λ was.
+        IsTrue (shown db.old).is_open ⊎ HasWork changes.now keep.entry
+        → HoldsAfterChanges changes.now keep.entry was (RecoversTo left))) }
 {
     let mut tx = db.idle.conn.transaction();
     make_all(&mut tx, changes)?;
@@ -60,22 +60,22 @@ impl<S: Alter> Store<S> {
 
         // The evidence of versions stays true, here and after a crash.
         ensures done { HasCleanDisk (state_of self.new) → OnOk result
-            (WhereTaken (state_of self.old) changes.now keep.entry (λ was.
-            IsTaken changes.now keep.entry was (IsOpenOver (state_of self.new)))) }
+            (WhenApplicable (state_of self.old) changes.now keep.entry (λ was.
+            HoldsAfterChanges changes.now keep.entry was (IsOpenOver (state_of self.new)))) }
         ensures fault { HasCleanDisk (state_of self.new) → IfErr result (λ e.
-            WhereTaken (state_of self.old) changes.now keep.entry (λ was. IsTrue (is_fault e))) }
+            WhenApplicable (state_of self.old) changes.now keep.entry (λ was. IsTrue (is_fault e))) }
         ensures nothing { HasCleanDisk (state_of self.new)
-            → OnErr result (SpellsOn (state_of self.old) (state_of self.new)) }
+            → OnErr result (StillSpells (state_of self.old) (state_of self.new)) }
 
         // An error that isn't `Disk` leaves the database as it was, also after a crash.
         ensures before { HasCleanDisk (state_of self.new) → IfErr result (λ e.
-            IsTrue (state_of self.old).is_open → LeavesBefore (state_of self.old) (state_of self.new) e) }
+            IsTrue (state_of self.old).is_open → KeepsCrashStates (state_of self.old) (state_of self.new) e) }
 
         // A crash leaves the database before the call, or the one after it: also where a fault may
         // have shut the connection, if there was something to do.
-        ensures crash { HasCleanDisk (state_of self.new) → WhereTaken (state_of self.old) changes.now keep.entry (λ was.
-            IsTrue (state_of self.old).is_open ⊎ ActsOn changes.now keep.entry
-            → LeavesEither (state_of self.old) (state_of self.new) changes.now keep.entry was) }
+        ensures crash { HasCleanDisk (state_of self.new) → WhenApplicable (state_of self.old) changes.now keep.entry (λ was.
+            IsTrue (state_of self.old).is_open ⊎ HasWork changes.now keep.entry
+            → RecoversToEither (state_of self.old) (state_of self.new) changes.now keep.entry was) }
     {
         if self.failed {
             return Err(StoreError::Disk);

@@ -3,24 +3,24 @@
 ghost use Rattle.std.specs.Prelude.{◌≡◌, ◌↔◌, ℕ, List, All, None, IsTrue, option_map, option_and_then};
 ghost use Rattle.std.specs.FinMap.{get};
 ghost use Rattle.avro_nodes.specs.Nodes.{NodeView, nodes_view};
-ghost use Rattle.reg_core.specs.Evidence.{Evidence, GoesWith};
+ghost use Rattle.reg_core.specs.Evidence.{Evidence, IsCompatibleWith};
 ghost use Rattle.reg_core.specs.Registry.{schema_at};
 ghost use Rattle.reg_core.specs.Stored.{HasTrueEvidence};
 ghost use Rattle.reg_store.specs.Spells.{id_at};
 ghost use Rattle.reg_store.specs.Stores.{ReadsStore};
-ghost use Rattle.reg_store.specs.Inside.Auditing.{HasSchema, IsAdmittedBy, IsTrueAt};
+ghost use Rattle.reg_store.specs.Inside.Auditing.{HasSchema, HasEvidence, IsTrueAt};
 ghost use Rattle.reg_store.specs.Inside.Reads.{MayRead, Reads};
 
 use crate::error::StoreError;
-use crate::idle::Idle;
+use crate::idle::StoreConnection;
 use crate::store::Store;
 use crate::store::behind::next_version;
 use crate::store::levels::level_in;
 use crate::store::texts::text_under;
 use avro_schema::Schema;
-use reg_core::{Level, Row, goes_with, schema_of};
+use reg_core::{Level, Row, is_compatible_with, schema_of};
 use reg_tables::{against_at, evidence_of};
-use schema_memory::Memory;
+use schema_cache::SchemaCache;
 use sqlite::Alter;
 use std::alloc::Global;
 
@@ -48,16 +48,16 @@ impl<S: Alter> Store<S> {
 }
 
 /// Whether what all versions were admitted by is true.
-fn all_hold<S: Alter>(alloc: Global, db: &mut Idle<S>) -> Result<bool, StoreError>
+fn all_hold<S: Alter>(alloc: Global, db: &mut StoreConnection<S>) -> Result<bool, StoreError>
     ensures { Reads db.old db.new result (λ was yes. IsTrue yes ↔ HasTrueEvidence was) }
 {
-    let mut memory = Memory::new();
+    let mut cache = SchemaCache::new();
     let mut last = None;
     for _ in 0..u64::MAX {
         let Some(row) = next_version(db, last.as_ref())? else {
             return Ok(true);
         };
-        if !holds(alloc, db, &mut memory, &row)? {
+        if !holds(alloc, db, &mut cache, &row)? {
             return Ok(false);
         }
         last = Some(row);
@@ -70,8 +70,8 @@ fn all_hold<S: Alter>(alloc: Global, db: &mut Idle<S>) -> Result<bool, StoreErro
 /// has no schema.
 fn holds<S: Alter>(
     alloc: Global,
-    db: &mut Idle<S>,
-    memory: &mut Memory,
+    db: &mut StoreConnection<S>,
+    cache: &mut SchemaCache,
     row: &Row,
 ) -> Result<bool, StoreError>
     ensures { Reads db.old db.new result (λ was yes. (nodes : List NodeView)
@@ -81,7 +81,7 @@ fn holds<S: Alter>(
         None => Ok(true),
         // Nothing is asked under NONE.
         Some(Level::Off) => Ok(true),
-        Some(level) => holds_under(alloc, db, memory, row, level),
+        Some(level) => holds_under(alloc, db, cache, row, level),
     }
 }
 
@@ -89,18 +89,18 @@ fn holds<S: Alter>(
 /// level.
 fn holds_under<S: Alter>(
     alloc: Global,
-    db: &mut Idle<S>,
-    memory: &mut Memory,
+    db: &mut StoreConnection<S>,
+    cache: &mut SchemaCache,
     row: &Row,
     level: Level,
 ) -> Result<bool, StoreError>
     ensures { Reads db.old db.new result (λ was yes. (nodes : List NodeView) (one : Evidence)
-        → HasSchema was row.now.1.id nodes → IsAdmittedBy was row.now.0 one
-        → IsTrue yes ↔ All (GoesWith was.registry.schemas level nodes) one.against) }
+        → HasSchema was row.now.1.id nodes → HasEvidence was row.now.0 one
+        → IsTrue yes ↔ All (IsCompatibleWith was.registry.schemas level nodes) one.against) }
 {
     match schema_under(alloc, db, row.id())? {
         None => Ok(false),
-        Some(new) => goes_with_all(alloc, db, memory, row, level, &new),
+        Some(new) => goes_with_all(alloc, db, cache, row, level, &new),
     }
 }
 
@@ -108,20 +108,20 @@ fn holds_under<S: Alter>(
 /// level.
 fn goes_with_all<S: Alter>(
     alloc: Global,
-    db: &mut Idle<S>,
-    memory: &mut Memory,
+    db: &mut StoreConnection<S>,
+    cache: &mut SchemaCache,
     row: &Row,
     level: Level,
     new: &Schema,
 ) -> Result<bool, StoreError>
-    ensures { MayRead db.old db.new result (λ was yes. (one : Evidence) → IsAdmittedBy was row.now.0 one
-        → IsTrue yes ↔ All (GoesWith was.registry.schemas level (nodes_view new.now)) one.against) }
+    ensures { MayRead db.old db.new result (λ was yes. (one : Evidence) → HasEvidence was row.now.0 one
+        → IsTrue yes ↔ All (IsCompatibleWith was.registry.schemas level (nodes_view new.now)) one.against) }
 {
     for index in 0..u32::MAX {
         let Some(id) = id_named(db, row, index + 1)? else {
             return Ok(true);
         };
-        if !goes_with_id(alloc, db, memory, level, id, new)? {
+        if !goes_with_id(alloc, db, cache, level, id, new)? {
             return Ok(false);
         }
     }
@@ -132,25 +132,25 @@ fn goes_with_all<S: Alter>(
 /// doesn't where there is none.
 fn goes_with_id<S: Alter>(
     alloc: Global,
-    db: &mut Idle<S>,
-    memory: &mut Memory,
+    db: &mut StoreConnection<S>,
+    cache: &mut SchemaCache,
     level: Level,
     id: u32,
     new: &Schema,
 ) -> Result<bool, StoreError>
     ensures { Reads db.old db.new result (λ was yes.
-        IsTrue yes ↔ GoesWith was.registry.schemas level (nodes_view new.now) id) }
+        IsTrue yes ↔ IsCompatibleWith was.registry.schemas level (nodes_view new.now) id) }
 {
     match text_under(db, id)? {
         None => Ok(false),
-        Some(text) => Ok(goes_with(alloc, level, id, text.as_str(), new, memory)?),
+        Some(text) => Ok(is_compatible_with(alloc, level, id, text.as_str(), new, cache)?),
     }
 }
 
 /// The schema that has the id, if there is one.
 fn schema_under<S: Alter>(
     alloc: Global,
-    db: &mut Idle<S>,
+    db: &mut StoreConnection<S>,
     id: u32,
 ) -> Result<Option<Schema>, StoreError>
     ensures { Reads db.old db.new result (λ was found.
@@ -163,7 +163,10 @@ fn schema_under<S: Alter>(
 }
 
 /// The level that the version was admitted by, if it has evidence.
-fn level_admitted<S: Alter>(db: &mut Idle<S>, row: &Row) -> Result<Option<Level>, StoreError>
+fn level_admitted<S: Alter>(
+    db: &mut StoreConnection<S>,
+    row: &Row,
+) -> Result<Option<Level>, StoreError>
     ensures { Reads db.old db.new result (λ was found.
         found ≡ option_map (λ one. one.level) (get was.evidence row.now.0)) }
 {
@@ -174,7 +177,11 @@ fn level_admitted<S: Alter>(db: &mut Idle<S>, row: &Row) -> Result<Option<Level>
 }
 
 /// The id at the position, counted from 1, of those that the version's evidence names.
-fn id_named<S: Alter>(db: &mut Idle<S>, row: &Row, position: u32) -> Result<Option<u32>, StoreError>
+fn id_named<S: Alter>(
+    db: &mut StoreConnection<S>,
+    row: &Row,
+    position: u32,
+) -> Result<Option<u32>, StoreError>
     ensures { Reads db.old db.new result (λ was found.
         found ≡ option_and_then (id_at position) (get was.evidence row.now.0)) }
 {

@@ -5,24 +5,24 @@ ghost use Rattle.std.specs.FinMap.{entries};
 ghost use Rattle.std.specs.Ordering.{is_gt, nat_cmp};
 ghost use Rattle.reg_core.specs.Registry.{row_cmp};
 ghost use Rattle.reg_tables.specs.Contents.{text_cmp};
-ghost use Rattle.reg_store.specs.Handing.{is_behind, subject_in, key_in};
+ghost use Rattle.reg_store.specs.NextLines.{is_after, subject_in, key_in};
 ghost use Rattle.reg_store.specs.Inside.Reads.{Reads};
 
 use crate::error::StoreError;
-use crate::idle::Idle;
+use crate::idle::StoreConnection;
 use crate::store::rows::row_in;
 use reg_core::{Row, Subject};
-use reg_tables::{first_version_behind, next_version_of};
+use reg_tables::{first_version_after, next_version_of};
 use sqlite::Alter;
 
 /// The first version of the first subject behind that of the version, or of all where none is
 /// given.
 pub(crate) fn next_subject<S: Alter>(
-    db: &mut Idle<S>,
+    db: &mut StoreConnection<S>,
     last: Option<&Row>,
 ) -> Result<Option<Row>, StoreError>
     ensures { Reads db.old db.new result (λ was found.
-        found ≡ find (λ row. is_behind text_cmp (option_map subject_in (option_copied last.entry)) row.0.0) (entries was.registry.rows)) }
+        found ≡ find (λ row. is_after text_cmp (option_map subject_in (option_copied last.entry)) row.0.0) (entries was.registry.rows)) }
 {
     match last {
         None => first_of_all(db),
@@ -32,11 +32,11 @@ pub(crate) fn next_subject<S: Alter>(
 
 /// The first version behind the version, or of all where none is given.
 pub(crate) fn next_version<S: Alter>(
-    db: &mut Idle<S>,
+    db: &mut StoreConnection<S>,
     last: Option<&Row>,
 ) -> Result<Option<Row>, StoreError>
     ensures { Reads db.old db.new result (λ was found.
-        found ≡ find (λ row. is_behind row_cmp (option_map key_in (option_copied last.entry)) row.0) (entries was.registry.rows)) }
+        found ≡ find (λ row. is_after row_cmp (option_map key_in (option_copied last.entry)) row.0) (entries was.registry.rows)) }
 {
     match last {
         None => first_of_all(db),
@@ -45,7 +45,7 @@ pub(crate) fn next_version<S: Alter>(
 }
 
 /// The first version of all.
-fn first_of_all<S: Alter>(db: &mut Idle<S>) -> Result<Option<Row>, StoreError>
+fn first_of_all<S: Alter>(db: &mut StoreConnection<S>) -> Result<Option<Row>, StoreError>
     ensures { Reads db.old db.new result (λ was found.
         found ≡ slice_get (entries was.registry.rows) 0) }
 {
@@ -54,7 +54,10 @@ fn first_of_all<S: Alter>(db: &mut Idle<S>) -> Result<Option<Row>, StoreError>
 }
 
 /// The first version behind this one.
-fn version_behind<S: Alter>(db: &mut Idle<S>, last: &Row) -> Result<Option<Row>, StoreError>
+fn version_behind<S: Alter>(
+    db: &mut StoreConnection<S>,
+    last: &Row,
+) -> Result<Option<Row>, StoreError>
     ensures { Reads db.old db.new result (λ was found.
         found ≡ find (λ row. is_gt (row_cmp row.0 last.now.0)) (entries was.registry.rows)) }
 {
@@ -66,7 +69,7 @@ fn version_behind<S: Alter>(db: &mut Idle<S>, last: &Row) -> Result<Option<Row>,
 
 /// The version of the subject with the least number above this one.
 fn number_behind<S: Alter>(
-    db: &mut Idle<S>,
+    db: &mut StoreConnection<S>,
     subject: &Subject,
     number: u32,
 ) -> Result<Option<Row>, StoreError>
@@ -83,11 +86,14 @@ fn number_behind<S: Alter>(
 }
 
 /// The first version of the first subject behind this one.
-fn first_behind<S: Alter>(db: &mut Idle<S>, subject: &str) -> Result<Option<Row>, StoreError>
+fn first_behind<S: Alter>(
+    db: &mut StoreConnection<S>,
+    subject: &str,
+) -> Result<Option<Row>, StoreError>
     ensures { Reads db.old db.new result (λ was found.
         found ≡ find (λ row. is_gt (text_cmp row.0.0 subject.now)) (entries was.registry.rows)) }
 {
-    match first_version_behind(&mut db.idle, subject)? {
+    match first_version_after(&mut db.idle, subject)? {
         None => Ok(None),
         Some(line) => Ok(Some(row_in(line)?)),
     }

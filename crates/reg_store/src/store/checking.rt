@@ -3,12 +3,12 @@
 ghost use Rattle.std.specs.Prelude.{◌≡◌, IfOk, IfErr, None, false};
 ghost use Rattle.sqlite.specs.Held.{state};
 ghost use Rattle.sqlite.specs.State.{HasCleanDisk};
-ghost use Rattle.reg_tables.specs.Frames.{StaysIdle};
+ghost use Rattle.reg_tables.specs.Frames.{ReadsInAutocommit};
 ghost use Rattle.reg_store.specs.Opening.{FindsLayoutOne};
-ghost use Rattle.reg_store.specs.UnopenedFaults.{IsUnread};
+ghost use Rattle.reg_store.specs.OpenFailures.{IsCheckFailure};
 
 use crate::error::StoreError;
-use crate::idle::Idle;
+use crate::idle::StoreConnection;
 use crate::testing::test_layout_one;
 use sqlite::{Alter, Connection};
 use std::alloc::Global;
@@ -28,19 +28,19 @@ pub fn check_first<S: Alter>(
     requires { connection.in_transaction ≡ false }
     ensures idle { result.1.in_transaction ≡ false }
     ensures unlimited { result.1.step_limit ≡ None }
-    ensures frame { StaysIdle S.Store (record connection { step_limit = None }) result.1 result.0 }
+    ensures frame { ReadsInAutocommit S.Store (record connection { step_limit = None }) result.1 result.0 }
     ensures found { HasCleanDisk (state S.Store result.1)
         → IfOk result.0 (FindsLayoutOne (state S.Store connection).now) }
     ensures fails { HasCleanDisk (state S.Store result.1)
-        → IfErr result.0 (IsUnread (state S.Store connection) (state S.Store result.1)) }
+        → IfErr result.0 (IsCheckFailure (state S.Store connection) (state S.Store result.1)) }
 {
     connection.set_step_limit(None);
     let _idle = connection.is_autocommit();
-    let mut db = Idle {
-        idle: reg_tables::Idle { conn: connection },
+    let mut db = StoreConnection {
+        idle: reg_tables::AutocommitConnection { conn: connection },
     };
     let found = test_layout_one(alloc, &mut db);
-    let Idle { idle } = db;
-    let reg_tables::Idle { conn } = idle;
+    let StoreConnection { idle } = db;
+    let reg_tables::AutocommitConnection { conn } = idle;
     (found, conn)
 }

@@ -3,22 +3,22 @@
 ghost use Rattle.std.specs.Prelude.{◌≡◌, ◌||◌, [], ◌∷◌, None, Some, IfOk, IfErr, MatchOption, false, true, not, map, option_map, option_to_list};
 ghost use Rattle.std.specs.FinMap.{entries, get};
 ghost use Rattle.std.specs.List.{last_or};
-ghost use Rattle.reg_core.specs.declared.number.Choice.TheVariants.{Numbered};
+ghost use Rattle.reg_core.specs.declared.number.VersionChoice.TheVariants.{Numbered};
 ghost use Rattle.reg_core.specs.Compatibility.{latest};
 ghost use Rattle.reg_core.specs.Registry.{Version};
 ghost use Rattle.reg_core.specs.Rows.{rows_of, rows_with, shown_rows};
 ghost use Rattle.reg_core.specs.ReadCommands.{found_row, rows_with_id};
-ghost use Rattle.reg_tables.specs.Entries.{keyed, numbered};
+ghost use Rattle.reg_tables.specs.Entries.{listed_version_view, subject_version_view};
 ghost use Rattle.reg_store.specs.declared.error.StoreError.TheVariants.{Memory};
 ghost use Rattle.reg_store.specs.Inside.Viewing.{HasSubject, row_numbered, row_spelled};
 ghost use Rattle.reg_store.specs.Inside.Reads.{MayRead, Reads};
 
 use crate::error::StoreError;
-use crate::idle::Idle;
+use crate::idle::StoreConnection;
 use crate::store::rows::{push_row, row_in};
-use reg_core::{Choice, OutOfMemory, Row, Subject};
+use reg_core::{OutOfMemory, Row, Subject, VersionChoice};
 use reg_tables::{
-    ListedVersion, SubjectVersion, a_version_of_id, last_live_version_of, last_version_of,
+    ListedVersion, SubjectVersion, any_version_of_id, last_live_version_of, last_version_of,
     version_of,
 };
 use sqlite::Alter;
@@ -28,9 +28,9 @@ use std::alloc::Global;
 /// the last one that is shown tells whether there are others.
 pub(crate) fn chosen_rows<S: Alter>(
     alloc: Global,
-    db: &mut Idle<S>,
+    db: &mut StoreConnection<S>,
     subject: &Subject,
-    choice: Option<Choice>,
+    choice: Option<VersionChoice>,
     deleted: bool,
 ) -> Result<Vec<Row>, StoreError>
     ensures { MayRead db.old db.new result (λ was rows.
@@ -41,15 +41,15 @@ pub(crate) fn chosen_rows<S: Alter>(
         return Ok(Vec::new(alloc));
     };
     match choice {
-        Choice::Latest => last_rows(alloc, db, subject, deleted),
-        Choice::Numbered(number) => numbered_rows(alloc, db, subject, number, deleted),
+        VersionChoice::Latest => last_rows(alloc, db, subject, deleted),
+        VersionChoice::Numbered(number) => numbered_rows(alloc, db, subject, number, deleted),
     }
 }
 
 /// The version of the subject with the number, where it is shown. Else the last one that is.
 pub(crate) fn numbered_rows<S: Alter>(
     alloc: Global,
-    db: &mut Idle<S>,
+    db: &mut StoreConnection<S>,
     subject: &Subject,
     number: u32,
     deleted: bool,
@@ -66,7 +66,7 @@ pub(crate) fn numbered_rows<S: Alter>(
 
 /// The line of the version of the subject with the number, where that is shown.
 fn shown_line<S: Alter>(
-    db: &mut Idle<S>,
+    db: &mut StoreConnection<S>,
     subject: &Subject,
     number: u32,
     deleted: bool,
@@ -75,8 +75,8 @@ fn shown_line<S: Alter>(
         MatchOption found
         ((version : Version) → get was.registry.rows (subject.now, number) ≡ Some version
         → (deleted || not version.deleted) ≡ false)
-        (λ line. (get was.registry.rows (row_numbered subject.now (numbered line)).0
-        ≡ Some (row_numbered subject.now (numbered line)).1)
+        (λ line. (get was.registry.rows (row_numbered subject.now (subject_version_view line)).0
+        ≡ Some (row_numbered subject.now (subject_version_view line)).1)
         × (line.number ≡ number) × ((deleted || not line.deleted) ≡ true))) }
 {
     match version_of(&mut db.idle, subject.as_str(), number)? {
@@ -92,7 +92,7 @@ fn shown_line<S: Alter>(
 /// The last version of the subject that is shown, if there is one.
 pub(crate) fn last_rows<S: Alter>(
     alloc: Global,
-    db: &mut Idle<S>,
+    db: &mut StoreConnection<S>,
     subject: &Subject,
     deleted: bool,
 ) -> Result<Vec<Row>, StoreError>
@@ -105,12 +105,12 @@ pub(crate) fn last_rows<S: Alter>(
 
 /// The line of the last version of the subject that is shown, if there is one.
 pub(crate) fn last_line<S: Alter>(
-    db: &mut Idle<S>,
+    db: &mut StoreConnection<S>,
     subject: &Subject,
     deleted: bool,
 ) -> Result<Option<SubjectVersion>, StoreError>
     ensures { Reads db.old db.new result (λ was found.
-        option_map (λ line. row_numbered subject.now (numbered line)) found
+        option_map (λ line. row_numbered subject.now (subject_version_view line)) found
         ≡ last_or None (shown_rows deleted (rows_of was.registry subject.now))) }
 {
     if deleted {
@@ -127,7 +127,7 @@ pub(crate) fn row_list(
     line: Option<SubjectVersion>,
 ) -> Result<Vec<Row>, OutOfMemory>
     ensures { IfOk result (λ rows. rows.items
-        ≡ option_to_list (option_map (λ line. row_numbered subject.now (numbered line)) line)) }
+        ≡ option_to_list (option_map (λ line. row_numbered subject.now (subject_version_view line)) line)) }
 {
     let mut rows = Vec::new(alloc);
     if let Some(line) = line {
@@ -140,7 +140,7 @@ pub(crate) fn row_list(
 /// A version of the id, if there is one and some version has it.
 pub(crate) fn one_row_of<S: Alter>(
     alloc: Global,
-    db: &mut Idle<S>,
+    db: &mut StoreConnection<S>,
     id: Option<u32>,
 ) -> Result<Vec<Row>, StoreError>
     ensures { MayRead db.old db.new result (λ was rows.
@@ -154,12 +154,16 @@ pub(crate) fn one_row_of<S: Alter>(
 }
 
 /// A version of the id, if there is one.
-fn some_row<S: Alter>(alloc: Global, db: &mut Idle<S>, id: u32) -> Result<Vec<Row>, StoreError>
+fn some_row<S: Alter>(
+    alloc: Global,
+    db: &mut StoreConnection<S>,
+    id: u32,
+) -> Result<Vec<Row>, StoreError>
     ensures { Reads db.old db.new result (λ was rows.
         map (λ row. row.1.id) (latest rows.items)
         ≡ map (λ row. row.1.id) (latest (rows_with id (entries was.registry.rows)))) }
 {
-    match a_version_of_id(&mut db.idle, id)? {
+    match any_version_of_id(&mut db.idle, id)? {
         None => Ok(Vec::new(alloc)),
         Some(line) => one_row(alloc, line),
     }
@@ -167,7 +171,7 @@ fn some_row<S: Alter>(alloc: Global, db: &mut Idle<S>, id: u32) -> Result<Vec<Ro
 
 /// The version that the line is of, if it has a subject.
 fn one_row(alloc: Global, line: ListedVersion) -> Result<Vec<Row>, StoreError>
-    ensures ok { IfOk result (λ rows. rows.items ≡ row_spelled (keyed line) ∷ []) }
+    ensures ok { IfOk result (λ rows. rows.items ≡ row_spelled (listed_version_view line) ∷ []) }
     ensures err { IfErr result (λ e. HasSubject line → e ≡ Memory) }
 {
     let mut rows = Vec::new(alloc);

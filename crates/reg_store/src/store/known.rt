@@ -4,14 +4,16 @@ ghost use Rattle.std.specs.Prelude.{◌≡◌, None, option_map, map};
 ghost use Rattle.std.specs.FinMap.{entries};
 ghost use Rattle.std.specs.List.{last_or};
 ghost use Rattle.reg_core.specs.Rows.{rows_of, rows_with, shown_rows};
-ghost use Rattle.reg_tables.specs.Entries.{keyed, numbered};
+ghost use Rattle.reg_tables.specs.Entries.{listed_version_view, subject_version_view};
 ghost use Rattle.reg_store.specs.Inside.Reads.{Reads};
 ghost use Rattle.reg_store.specs.Inside.Viewing.{AreSome, IsLastShown, IsLaterOf, is_shown_of, row_numbered, row_spelled};
 
 use crate::error::StoreError;
-use crate::idle::Idle;
+use crate::idle::StoreConnection;
 use reg_core::Subject;
-use reg_tables::{ListedVersion, MOST, SubjectVersion, last_version_with_id, some_versions_of_id};
+use reg_tables::{
+    ListedVersion, SubjectVersion, VERSIONS_LIMIT, last_version_with_id, some_versions_of_id,
+};
 use sqlite::Alter;
 use std::alloc::Global;
 
@@ -19,43 +21,43 @@ use std::alloc::Global;
 /// few versions of all subjects have it, it is found among these, else among the subject's.
 pub(crate) fn line_with_id<S: Alter>(
     alloc: Global,
-    db: &mut Idle<S>,
+    db: &mut StoreConnection<S>,
     subject: &Subject,
     deleted: bool,
     id: u32,
 ) -> Result<Option<SubjectVersion>, StoreError>
     ensures { Reads db.old db.new result (λ was found.
-        option_map (λ line. row_numbered subject.now (numbered line)) found
+        option_map (λ line. row_numbered subject.now (subject_version_view line)) found
         ≡ last_or None (rows_with id (shown_rows deleted (rows_of was.registry subject.now)))) }
 {
     let lines = lines_of_id(alloc, db, id)?;
-    if lines.len() < MOST {
+    if lines.len() < VERSIONS_LIMIT {
         return Ok(last_among(lines, subject, deleted));
     }
     line_of_subject(db, subject, deleted, id)
 }
 
-/// The lines of versions of the id: all that it has where they are fewer than `MOST`.
+/// The lines of versions of the id: all that it has where they are fewer than `VERSIONS_LIMIT`.
 fn lines_of_id<S: Alter>(
     alloc: Global,
-    db: &mut Idle<S>,
+    db: &mut StoreConnection<S>,
     id: u32,
 ) -> Result<Vec<ListedVersion>, StoreError>
     ensures { Reads db.old db.new result (λ was lines.
-        AreSome (map (λ line. row_spelled (keyed line)) lines.items) (rows_with id (entries was.registry.rows))) }
+        AreSome (map (λ line. row_spelled (listed_version_view line)) lines.items) (rows_with id (entries was.registry.rows))) }
 {
     Ok(some_versions_of_id(alloc, &mut db.idle, id)?)
 }
 
 /// The line that `line_with_id` tells, found among the subject's versions.
 fn line_of_subject<S: Alter>(
-    db: &mut Idle<S>,
+    db: &mut StoreConnection<S>,
     subject: &Subject,
     deleted: bool,
     id: u32,
 ) -> Result<Option<SubjectVersion>, StoreError>
     ensures { Reads db.old db.new result (λ was found.
-        option_map (λ line. row_numbered subject.now (numbered line)) found
+        option_map (λ line. row_numbered subject.now (subject_version_view line)) found
         ≡ last_or None (rows_with id (shown_rows deleted (rows_of was.registry subject.now)))) }
 {
     Ok(last_version_with_id(&mut db.idle, subject.as_str(), id, deleted)?)
@@ -63,8 +65,8 @@ fn line_of_subject<S: Alter>(
 
 /// The last of the lines that are of the subject and are shown, if there is one.
 fn last_among(lines: Vec<ListedVersion>, subject: &Subject, deleted: bool) -> Option<SubjectVersion>
-    ensures { IsLastShown deleted subject.now (map (λ line. row_spelled (keyed line)) lines.items)
-        (option_map (λ line. row_numbered subject.now (numbered line)) result) }
+    ensures { IsLastShown deleted subject.now (map (λ line. row_spelled (listed_version_view line)) lines.items)
+        (option_map (λ line. row_numbered subject.now (subject_version_view line)) result) }
 {
     let mut last = None;
     for line in lines {
@@ -84,7 +86,7 @@ fn last_among(lines: Vec<ListedVersion>, subject: &Subject, deleted: bool) -> Op
 
 /// Whether the line is of the subject and is shown.
 fn is_shown_of(line: &ListedVersion, subject: &Subject, deleted: bool) -> bool
-    ensures { result ≡ is_shown_of deleted subject.now (row_spelled (keyed line.now)) }
+    ensures { result ≡ is_shown_of deleted subject.now (row_spelled (listed_version_view line.now)) }
 {
     line.subject.as_str() == subject.as_str() && (deleted || !line.deleted)
 }

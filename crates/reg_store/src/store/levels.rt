@@ -5,7 +5,7 @@ ghost use Rattle.reg_core.specs.Levels.{level_of};
 ghost use Rattle.reg_store.specs.Inside.Reads.{MayRead, Reads};
 
 use crate::error::StoreError;
-use crate::idle::Idle;
+use crate::idle::StoreConnection;
 use reg_core::{Level, Subject};
 use reg_tables::{global_level, own_level};
 use sqlite::Alter;
@@ -13,7 +13,7 @@ use sqlite::Alter;
 /// The level that the subject has of its own, if that is needed and there is one, and the global
 /// level.
 pub(crate) fn levels_for<S: Alter>(
-    db: &mut Idle<S>,
+    db: &mut StoreConnection<S>,
     subject: Option<&Subject>,
     needed: bool,
 ) -> Result<(Option<Level>, Level), StoreError>
@@ -28,7 +28,7 @@ pub(crate) fn levels_for<S: Alter>(
 
 /// The level that the subject has of its own, if that is needed and there is one.
 pub(crate) fn own_for<S: Alter>(
-    db: &mut Idle<S>,
+    db: &mut StoreConnection<S>,
     subject: Option<&Subject>,
     needed: bool,
 ) -> Result<Option<Level>, StoreError>
@@ -46,7 +46,7 @@ pub(crate) fn own_for<S: Alter>(
 
 /// The level that the subject has of its own, if it has one.
 pub(crate) fn own<S: Alter>(
-    db: &mut Idle<S>,
+    db: &mut StoreConnection<S>,
     subject: &Subject,
 ) -> Result<Option<Level>, StoreError>
     ensures { Reads db.old db.new result (λ was own. own ≡ was.registry.own subject.now) }
@@ -58,7 +58,7 @@ pub(crate) fn own<S: Alter>(
 }
 
 /// The global level.
-fn global<S: Alter>(db: &mut Idle<S>) -> Result<Level, StoreError>
+fn global<S: Alter>(db: &mut StoreConnection<S>) -> Result<Level, StoreError>
     ensures { Reads db.old db.new result (λ was level. level ≡ was.registry.global) }
 {
     match global_level(&mut db.idle)? {

@@ -7,7 +7,7 @@ ghost use Rattle.reg_store.specs.Listings.{lines_of, listing_lines, version_line
 ghost use Rattle.reg_store.specs.Inside.Reads.{Reads};
 
 use crate::error::StoreError;
-use crate::idle::Idle;
+use crate::idle::StoreConnection;
 use crate::listing::Listing;
 use crate::store::Store;
 use crate::store::lines::version_lines;
@@ -40,7 +40,7 @@ impl<S: Alter> Store<S> {
 /// The lines of the listing.
 fn listed<S: Alter>(
     alloc: Global,
-    db: &mut Idle<S>,
+    db: &mut StoreConnection<S>,
     kind: Listing,
 ) -> Result<Vec<Vec<String>>, StoreError>
     ensures { Reads db.old db.new result (λ was lines.
@@ -56,7 +56,7 @@ fn listed<S: Alter>(
 /// The lines of the versions of all subjects.
 fn listed_versions<S: Alter>(
     alloc: Global,
-    db: &mut Idle<S>,
+    db: &mut StoreConnection<S>,
 ) -> Result<Vec<Vec<String>>, StoreError>
     ensures { Reads db.old db.new result (λ was lines.
         lines_of lines ≡ map version_line (entries was.registry.rows)) }

@@ -7,15 +7,15 @@ ghost use Rattle.sqlite.specs.State.{HasCleanDisk, Survives, KeepsCommit};
 ghost use Rattle.reg_core.specs.Stored.{new_stored};
 ghost use Rattle.reg_tables.specs.Layout.{no_schema};
 ghost use Rattle.reg_tables.specs.FailedCalls.{IsWriteFault};
-ghost use Rattle.reg_tables.specs.Writing.{Turns, IsEmpty};
-ghost use Rattle.reg_store.specs.Spells.{LeavesLayoutOne, IsOpenOverLayoutOne, Leaves, IsOpenOver};
+ghost use Rattle.reg_tables.specs.Writing.{Transforms, IsEmpty};
+ghost use Rattle.reg_store.specs.Spells.{RecoversToLayoutOne, IsOpenOverLayoutOne, RecoversTo, IsOpenOver};
 ghost use Rattle.reg_store.specs.Failures.{failure_of, IsFaultBy};
-ghost use Rattle.reg_store.specs.Stores.{connection_of, state_of, has_failed, LeavesBefore, IsUnmade};
-ghost use Rattle.reg_store.specs.Inside.Making.{SpellsNew, IsNew, LeavesNew};
+ghost use Rattle.reg_store.specs.Stores.{connection_of, state_of, has_failed, KeepsCrashStates, IsCreateFailure};
+ghost use Rattle.reg_store.specs.Inside.Making.{SpellsNew, IsNew, RecoversToNew};
 ghost use Rattle.reg_store.specs.Inside.Reads.{shown};
 
 use crate::error::StoreError;
-use crate::idle::Idle;
+use crate::idle::StoreConnection;
 use crate::layout::Layout;
 use crate::store::Store;
 use reg_tables::has_no_tables;
@@ -42,20 +42,20 @@ impl<S: Alter> Store<S> {
             → IsErrAnd result (λ e. e.0 ≡ StoreError.NotARegistry) }
         ensures idle { IfErr result (λ e. e.1.in_transaction ≡ false) }
 
-        ensures fails { IfErr result (λ e. IsUnmade (λ db. Leaves db new_stored)
+        ensures fails { IfErr result (λ e. IsCreateFailure (λ db. RecoversTo db new_stored)
             (state S.Store connection) (state S.Store e.1) e.0) }
 
         // A crash leaves the new registry.
         ensures crash_after { IfOk result (λ store. HasCleanDisk (state_of store) → (db : Trees)
-            → (state_of store).may_leave db → Leaves db new_stored) }
+            → (state_of store).may_leave db → RecoversTo db new_stored) }
     {
         connection.set_step_limit(None);
         if !has_no_tables(&connection) {
             let _idle = connection.is_autocommit();
             return Err((StoreError::NotARegistry, connection));
         }
-        let mut db = Idle {
-            idle: reg_tables::Idle { conn: connection },
+        let mut db = StoreConnection {
+            idle: reg_tables::AutocommitConnection { conn: connection },
         };
         let made = make_in(&mut db, Layout::Two);
         let _idle = db.idle.conn.is_autocommit();
@@ -66,8 +66,8 @@ impl<S: Alter> Store<S> {
                 failed: false,
             }),
             Err(error) => {
-                let Idle { idle } = db;
-                let reg_tables::Idle { conn } = idle;
+                let StoreConnection { idle } = db;
+                let reg_tables::AutocommitConnection { conn } = idle;
                 Err((StoreError::from(error), conn))
             }
         }
@@ -90,8 +90,8 @@ impl<S: Alter> Store<S> {
             db,
             failed: _,
         } = self;
-        let Idle { idle } = db;
-        let reg_tables::Idle { conn } = idle;
+        let StoreConnection { idle } = db;
+        let reg_tables::AutocommitConnection { conn } = idle;
         conn
     }
 }
@@ -113,25 +113,25 @@ pub fn create_first<S: Alter>(
     ensures full { (state S.Store connection).now.schema ≢ no_schema
         → IsErrAnd result.0 (λ e. e ≡ StoreError.NotARegistry) }
 
-    ensures fails { IfErr result.0 (IsUnmade (λ db. LeavesLayoutOne db new_stored)
+    ensures fails { IfErr result.0 (IsCreateFailure (λ db. RecoversToLayoutOne db new_stored)
         (state S.Store connection) (state S.Store result.1)) }
 
     // A crash leaves the new registry.
     ensures crash_after { HasCleanDisk (state S.Store result.1) → OnOk result.0 ((db : Trees)
-        → (state S.Store result.1).may_leave db → LeavesLayoutOne db new_stored) }
+        → (state S.Store result.1).may_leave db → RecoversToLayoutOne db new_stored) }
 {
     connection.set_step_limit(None);
     if !has_no_tables(&connection) {
         let _idle = connection.is_autocommit();
         return (Err(StoreError::NotARegistry), connection);
     }
-    let mut db = Idle {
-        idle: reg_tables::Idle { conn: connection },
+    let mut db = StoreConnection {
+        idle: reg_tables::AutocommitConnection { conn: connection },
     };
     let made = make_in(&mut db, Layout::One);
     let _idle = db.idle.conn.is_autocommit();
-    let Idle { idle } = db;
-    let reg_tables::Idle { conn } = idle;
+    let StoreConnection { idle } = db;
+    let reg_tables::AutocommitConnection { conn } = idle;
     match made {
         Ok(()) => (Ok(()), conn),
         Err(error) => (Err(StoreError::from(error)), conn),
@@ -139,7 +139,7 @@ pub fn create_first<S: Alter>(
 }
 
 /// Makes the tables of a new registry in one transaction.
-fn make_in<S: Alter>(db: &mut Idle<S>, layout: Layout) -> Result<(), Error>
+fn make_in<S: Alter>(db: &mut StoreConnection<S>, layout: Layout) -> Result<(), Error>
     ensures done { HasCleanDisk (shown db.new) → OnOk result ((shown db.old).now.schema ≡ no_schema
         → IsNew layout (shown db.new)) }
     ensures fault { HasCleanDisk (shown db.new) → IfErr result (λ e.
@@ -148,9 +148,9 @@ fn make_in<S: Alter>(db: &mut Idle<S>, layout: Layout) -> Result<(), Error>
     ensures nothing { HasCleanDisk (shown db.new)
         → OnErr result (KeepsCommit (shown db.old) (shown db.new)) }
     ensures before { HasCleanDisk (shown db.new) → IfErr result (λ e. IsTrue (shown db.old).is_open
-        → LeavesBefore (shown db.old) (shown db.new) (failure_of e)) }
+        → KeepsCrashStates (shown db.old) (shown db.new) (failure_of e)) }
     ensures survives { Survives (shown db.old) (shown db.new) (λ left.
-        (shown db.old).now.schema ≡ no_schema → LeavesNew layout left) }
+        (shown db.old).now.schema ≡ no_schema → RecoversToNew layout left) }
 {
     let mut tx = db.idle.conn.transaction();
     make_tables(&mut tx, layout)?;
@@ -159,7 +159,7 @@ fn make_in<S: Alter>(db: &mut Idle<S>, layout: Layout) -> Result<(), Error>
 
 /// Makes the tables of a new registry.
 fn make_tables<S: Alter>(tx: &mut Transaction<'_, S>, layout: Layout) -> Result<(), Error>
-    ensures { Turns IsWriteFault S.Store tx.old tx.new result IsEmpty (λ _. SpellsNew layout) }
+    ensures { Transforms IsWriteFault S.Store tx.old tx.new result IsEmpty (λ _. SpellsNew layout) }
 {
     match layout {
         Layout::One => reg_tables::create_layout_one(tx),

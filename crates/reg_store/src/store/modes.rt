@@ -5,14 +5,14 @@ ghost use Rattle.reg_core.specs.Modes.{mode_of};
 ghost use Rattle.reg_store.specs.Inside.Reads.{MayRead, Reads};
 
 use crate::error::StoreError;
-use crate::idle::Idle;
+use crate::idle::StoreConnection;
 use reg_core::{Mode, Subject};
 use reg_tables::own_mode;
 use sqlite::Alter;
 
 /// The mode that the subject has of its own, if there is one.
 pub(crate) fn own_for<S: Alter>(
-    db: &mut Idle<S>,
+    db: &mut StoreConnection<S>,
     subject: Option<&Subject>,
 ) -> Result<Option<Mode>, StoreError>
     ensures { MayRead db.old db.new result (λ was own.
@@ -25,7 +25,7 @@ pub(crate) fn own_for<S: Alter>(
 }
 
 /// The mode that the subject has of its own, if it has one.
-fn own<S: Alter>(db: &mut Idle<S>, subject: &Subject) -> Result<Option<Mode>, StoreError>
+fn own<S: Alter>(db: &mut StoreConnection<S>, subject: &Subject) -> Result<Option<Mode>, StoreError>
     ensures { Reads db.old db.new result (λ was own. own ≡ was.registry.own_modes subject.now) }
 {
     match own_mode(&mut db.idle, subject.as_str())? {

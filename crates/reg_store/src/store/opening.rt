@@ -5,16 +5,16 @@ ghost use Rattle.sqlite.specs.Tree.{Trees};
 ghost use Rattle.sqlite.specs.Held.{state};
 ghost use Rattle.sqlite.specs.State.{HasCleanDisk, Survives, KeepsCommit};
 ghost use Rattle.reg_tables.specs.Layout.{layout_two_unindexed, layout_two_indexed_last};
-ghost use Rattle.reg_tables.specs.Contents.{Contents, HoldsIn};
+ghost use Rattle.reg_tables.specs.Contents.{Contents, HoldsContents};
 ghost use Rattle.reg_store.specs.Failures.{failure_of, IsFaultBy};
-ghost use Rattle.reg_store.specs.Opening.{OpensOver, IsIndexed, LosesNothing};
-ghost use Rattle.reg_store.specs.Stores.{state_of, has_failed, LeavesBefore, LeavesConnection};
-ghost use Rattle.reg_store.specs.UnopenedFaults.{IsUnopened};
-ghost use Rattle.reg_store.specs.Inside.Making.{TakesIndex};
+ghost use Rattle.reg_store.specs.Opening.{OpensOver, IsIndexed, CrashKeepsStored};
+ghost use Rattle.reg_store.specs.Stores.{state_of, has_failed, KeepsCrashStates, KeepsConnection};
+ghost use Rattle.reg_store.specs.OpenFailures.{IsOpenFailure};
+ghost use Rattle.reg_store.specs.Inside.Making.{HoldsWithIndex};
 ghost use Rattle.reg_store.specs.Inside.Reads.{shown};
 
 use crate::error::StoreError;
-use crate::idle::Idle;
+use crate::idle::StoreConnection;
 use crate::open_connection::require_open;
 use crate::store::Store;
 use crate::testing::test_layout_two;
@@ -41,27 +41,27 @@ impl<S: Alter> Store<S> {
             → OpensOver (state S.Store connection) (state_of store)) }
         ensures unfailed { IfOk result (λ store. has_failed store ≡ false) }
         ensures fails { IfErr result (λ e. HasCleanDisk (state S.Store e.1)
-            → IsUnopened (state S.Store connection) (state S.Store e.1) e.0) }
+            → IsOpenFailure (state S.Store connection) (state S.Store e.1) e.0) }
         ensures idle { IfErr result (λ e. e.1.in_transaction ≡ false) }
         ensures leaves { IfErr result (λ e.
-            LeavesConnection (state S.Store connection) (state S.Store e.1) e.0) }
+            KeepsConnection (state S.Store connection) (state S.Store e.1) e.0) }
 
         // A crash leaves what it left before, or the same tables with the index: nothing is lost.
         ensures found_after { IfOk result (λ store. HasCleanDisk (state_of store)
-            → LosesNothing (state S.Store connection) (state_of store)) }
-        ensures found { IfErr result (λ e. HasCleanDisk (state S.Store e.1)
-            → LosesNothing (state S.Store connection) (state S.Store e.1)) }
+            → CrashKeepsStored (state S.Store connection) (state_of store)) }
+        ensures found_failed { IfErr result (λ e. HasCleanDisk (state S.Store e.1)
+            → CrashKeepsStored (state S.Store connection) (state S.Store e.1)) }
         ensures crash_after { IfOk result (λ store. HasCleanDisk (state_of store) → (db : Trees)
             → (state_of store).may_leave db
             → (state S.Store connection).may_leave db ⊎ IsIndexed (state S.Store connection).now db) }
-        ensures crash { IfErr result (λ e. HasCleanDisk (state S.Store e.1) → (db : Trees)
+        ensures crash_failed { IfErr result (λ e. HasCleanDisk (state S.Store e.1) → (db : Trees)
             → (state S.Store e.1).may_leave db
             → (state S.Store connection).may_leave db ⊎ IsIndexed (state S.Store connection).now db) }
     {
         connection.set_step_limit(None);
         let _idle = connection.is_autocommit();
-        let mut db = Idle {
-            idle: reg_tables::Idle { conn: connection },
+        let mut db = StoreConnection {
+            idle: reg_tables::AutocommitConnection { conn: connection },
         };
         match make_ready(alloc, &mut db) {
             Ok(()) => Ok(Store {
@@ -70,8 +70,8 @@ impl<S: Alter> Store<S> {
                 failed: false,
             }),
             Err(error) => {
-                let Idle { idle } = db;
-                let reg_tables::Idle { conn } = idle;
+                let StoreConnection { idle } = db;
+                let reg_tables::AutocommitConnection { conn } = idle;
                 Err((error, conn))
             }
         }
@@ -79,12 +79,12 @@ impl<S: Alter> Store<S> {
 }
 
 /// Tests the tables, then adds the index if it is missing. On `Ok` the connection is open.
-fn make_ready<S: Alter>(alloc: Global, db: &mut Idle<S>) -> Result<(), StoreError>
+fn make_ready<S: Alter>(alloc: Global, db: &mut StoreConnection<S>) -> Result<(), StoreError>
     ensures done { HasCleanDisk (shown db.new)
         → OnOk result (OpensOver (shown db.old) (shown db.new)) }
     ensures fails { HasCleanDisk (shown db.new)
-        → IfErr result (IsUnopened (shown db.old) (shown db.new)) }
-    ensures leaves { IfErr result (LeavesConnection (shown db.old) (shown db.new)) }
+        → IfErr result (IsOpenFailure (shown db.old) (shown db.new)) }
+    ensures leaves { IfErr result (KeepsConnection (shown db.old) (shown db.new)) }
     ensures survives { Survives (shown db.old) (shown db.new)
         (IsIndexed (shown db.old).now) }
 {
@@ -100,22 +100,22 @@ fn make_ready<S: Alter>(alloc: Global, db: &mut Idle<S>) -> Result<(), StoreErro
 }
 
 /// Adds the index of versions in one transaction.
-fn make_index<S: Alter>(db: &mut Idle<S>) -> Result<(), Error>
+fn make_index<S: Alter>(db: &mut StoreConnection<S>) -> Result<(), Error>
     ensures done { HasCleanDisk (shown db.new) → OnOk result (
         IsTrue (shown db.old).is_open × IsTrue (shown db.new).is_open
         × ((shown db.new).committed ≡ (shown db.new).now)
-        × ((contents : Contents) → HoldsIn layout_two_unindexed (shown db.old).now contents
-        → HoldsIn layout_two_indexed_last (shown db.new).now contents)) }
+        × ((contents : Contents) → HoldsContents layout_two_unindexed (shown db.old).now contents
+        → HoldsContents layout_two_indexed_last (shown db.new).now contents)) }
     ensures fault { HasCleanDisk (shown db.new) → IfErr result (λ e.
         (IsTrue (shown db.old).is_open
-        → (contents : Contents) × HoldsIn layout_two_unindexed (shown db.old).now contents)
+        → (contents : Contents) × HoldsContents layout_two_unindexed (shown db.old).now contents)
         → IsFaultBy (shown db.old) (shown db.new) (failure_of e)) }
     ensures nothing { HasCleanDisk (shown db.new)
         → OnErr result (KeepsCommit (shown db.old) (shown db.new)) }
     ensures before { HasCleanDisk (shown db.new) → IfErr result (λ e. IsTrue (shown db.old).is_open
-        → LeavesBefore (shown db.old) (shown db.new) (failure_of e)) }
+        → KeepsCrashStates (shown db.old) (shown db.new) (failure_of e)) }
     ensures survives { Survives (shown db.old) (shown db.new)
-        (λ left. IsTrue (shown db.old).is_open × TakesIndex (shown db.old).now left) }
+        (λ left. IsTrue (shown db.old).is_open × HoldsWithIndex (shown db.old).now left) }
 {
     let mut tx = db.idle.conn.transaction();
     index_versions(&mut tx)?;

@@ -3,14 +3,14 @@
 ghost use Rattle.std.specs.Prelude.{◌≡◌, None, IfOk, OnErr, option_map, string_bytes};
 ghost use Rattle.reg_core.specs.Replies.{IsKeptStatus};
 ghost use Rattle.reg_core.specs.Rows.{text_at};
-ghost use Rattle.reg_tables.specs.KeptRows.{kept_row};
-ghost use Rattle.reg_core.specs.KeptReplies.{entry_told};
-ghost use Rattle.reg_store.specs.Spells.{row_of};
+ghost use Rattle.reg_tables.specs.KeptReplyViews.{kept_reply_view};
+ghost use Rattle.reg_core.specs.KeptReplies.{entry_with};
+ghost use Rattle.reg_store.specs.Spells.{stored_reply};
 ghost use Rattle.reg_store.specs.Stores.{ReadsStore};
 ghost use Rattle.reg_store.specs.Inside.Reads.{Reads};
 
 use crate::error::StoreError;
-use crate::idle::Idle;
+use crate::idle::StoreConnection;
 use crate::store::Store;
 use crate::store::texts::text_under;
 use reg_core::{Key, Reply};
@@ -26,7 +26,7 @@ impl<S: Alter> Store<S> {
     /// answered, nothing is changed.
     pub fn kept(&mut self, key: &Key<'_>) -> Result<Option<(String, Reply)>, StoreError>
         ensures { ReadsStore self.old self.new result (λ was found.
-            was.replies key.now ≡ option_map (λ kept. entry_told (string_bytes kept.0) kept.1) found) }
+            was.replies key.now ≡ option_map (λ kept. entry_with (string_bytes kept.0) kept.1) found) }
     {
         if self.failed {
             return Err(StoreError::Disk);
@@ -57,11 +57,11 @@ impl<S: Alter> Store<S> {
 
 /// What is kept under the key.
 fn kept_under<S: Alter>(
-    db: &mut Idle<S>,
+    db: &mut StoreConnection<S>,
     key: &Key<'_>,
 ) -> Result<Option<(String, Reply)>, StoreError>
     ensures { Reads db.old db.new result (λ was found.
-        was.replies key.now ≡ option_map (λ kept. entry_told (string_bytes kept.0) kept.1) found) }
+        was.replies key.now ≡ option_map (λ kept. entry_with (string_bytes kept.0) kept.1) found) }
 {
     match kept_reply(&mut db.idle, key.as_str())? {
         None => Ok(None),
@@ -72,7 +72,7 @@ fn kept_under<S: Alter>(
 /// The text and the reply of a row, if the reply is one.
 fn told_in(row: KeptReply) -> Result<(String, Reply), StoreError>
     ensures ok { IfOk result (λ kept.
-        kept_row row ≡ row_of (entry_told (string_bytes kept.0) kept.1)) }
+        kept_reply_view row ≡ stored_reply (entry_with (string_bytes kept.0) kept.1)) }
     ensures err { OnErr result (¬ IsKeptStatus row.status) }
 {
     let KeptReply {

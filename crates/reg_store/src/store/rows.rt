@@ -4,14 +4,14 @@ ghost use Rattle.std.specs.Prelude.{◌≡◌, ◌++◌, ◌∷◌, [], None, If
 ghost use Rattle.std.specs.FinMap.{entries};
 ghost use Rattle.reg_core.specs.Rows.{rows_of, rows_with};
 ghost use Rattle.reg_core.specs.ReadCommands.{rows_with_id};
-ghost use Rattle.reg_core.specs.Needs.{AnswerAs, TellAs, rows_needed};
-ghost use Rattle.reg_tables.specs.Entries.{numbered, keyed};
+ghost use Rattle.reg_core.specs.Needs.{SufficeFor, SufficeForSubject, rows_needed};
+ghost use Rattle.reg_tables.specs.Entries.{subject_version_view, listed_version_view};
 ghost use Rattle.reg_store.specs.declared.error.StoreError.TheVariants.{Memory};
 ghost use Rattle.reg_store.specs.Inside.Viewing.{row_spelled, row_numbered, HasSubject};
 ghost use Rattle.reg_store.specs.Inside.Reads.{MayRead, Reads};
 
 use crate::error::StoreError;
-use crate::idle::Idle;
+use crate::idle::StoreConnection;
 use crate::store::chosen::{chosen_rows, one_row_of};
 use crate::store::few::{compared_rows, deleted_rows, looked_up_rows, registered_rows};
 use reg_core::{Level, OutOfMemory, Row, RowsNeeded, Subject, SubjectRows};
@@ -24,13 +24,13 @@ use std::alloc::Global;
 /// and the id that of the schema that the command sends.
 pub(crate) fn rows_for<S: Alter>(
     alloc: Global,
-    db: &mut Idle<S>,
+    db: &mut StoreConnection<S>,
     subject: Option<&Subject>,
     needed: RowsNeeded,
     level: Level,
     known: Option<u32>,
 ) -> Result<Vec<Row>, StoreError>
-    ensures { MayRead db.old db.new result (λ was rows. AnswerAs level known needed rows.items
+    ensures { MayRead db.old db.new result (λ was rows. SufficeFor level known needed rows.items
         (rows_needed was.registry (option_copied subject.entry) needed)) }
 {
     match needed {
@@ -48,14 +48,14 @@ pub(crate) fn rows_for<S: Alter>(
 /// The versions of a subject that tell what is asked of them.
 fn asked_rows<S: Alter>(
     alloc: Global,
-    db: &mut Idle<S>,
+    db: &mut StoreConnection<S>,
     subject: &Subject,
     asked: SubjectRows,
     level: Level,
     known: Option<u32>,
 ) -> Result<Vec<Row>, StoreError>
     ensures { MayRead db.old db.new result (λ was rows.
-        TellAs level known asked rows.items (rows_of was.registry subject.now)) }
+        SufficeForSubject level known asked rows.items (rows_of was.registry subject.now)) }
 {
     match asked {
         SubjectRows::Every => subject_rows(alloc, db, subject),
@@ -74,7 +74,7 @@ fn asked_rows<S: Alter>(
 /// The versions of the id, if there is one, in the order of subjects and numbers.
 fn rows_of_id<S: Alter>(
     alloc: Global,
-    db: &mut Idle<S>,
+    db: &mut StoreConnection<S>,
     id: Option<u32>,
 ) -> Result<Vec<Row>, StoreError>
     ensures { MayRead db.old db.new result (λ was rows.
@@ -89,7 +89,7 @@ fn rows_of_id<S: Alter>(
 /// The versions of a subject, in the order of their numbers.
 pub(crate) fn subject_rows<S: Alter>(
     alloc: Global,
-    db: &mut Idle<S>,
+    db: &mut StoreConnection<S>,
     subject: &Subject,
 ) -> Result<Vec<Row>, StoreError>
     ensures { Reads db.old db.new result (λ was rows.
@@ -100,7 +100,11 @@ pub(crate) fn subject_rows<S: Alter>(
 }
 
 /// The versions of an id, in the order of subjects and numbers.
-fn id_rows<S: Alter>(alloc: Global, db: &mut Idle<S>, id: u32) -> Result<Vec<Row>, StoreError>
+fn id_rows<S: Alter>(
+    alloc: Global,
+    db: &mut StoreConnection<S>,
+    id: u32,
+) -> Result<Vec<Row>, StoreError>
     ensures { Reads db.old db.new result (λ was rows.
         rows.items ≡ rows_with id (entries was.registry.rows)) }
 {
@@ -109,7 +113,10 @@ fn id_rows<S: Alter>(alloc: Global, db: &mut Idle<S>, id: u32) -> Result<Vec<Row
 }
 
 /// The versions of all subjects, in the order of subjects and numbers.
-pub(crate) fn all_rows<S: Alter>(alloc: Global, db: &mut Idle<S>) -> Result<Vec<Row>, StoreError>
+pub(crate) fn all_rows<S: Alter>(
+    alloc: Global,
+    db: &mut StoreConnection<S>,
+) -> Result<Vec<Row>, StoreError>
     ensures { Reads db.old db.new result (λ was rows. rows.items ≡ entries was.registry.rows) }
 {
     let lines = all_versions(alloc, &mut db.idle)?;
@@ -122,7 +129,7 @@ fn rows_under(
     subject: &Subject,
     lines: Vec<SubjectVersion>,
 ) -> Result<Vec<Row>, OutOfMemory>
-    ensures { IfOk result (λ rows. rows.items ≡ map (λ line. row_numbered subject.now (numbered line)) lines.items) }
+    ensures { IfOk result (λ rows. rows.items ≡ map (λ line. row_numbered subject.now (subject_version_view line)) lines.items) }
 {
     let mut rows = Vec::new(alloc);
     for line in lines {
@@ -134,7 +141,7 @@ fn rows_under(
 
 /// The versions that the lines are of.
 fn rows_in(alloc: Global, lines: Vec<ListedVersion>) -> Result<Vec<Row>, StoreError>
-    ensures ok { IfOk result (λ rows. rows.items ≡ map (λ line. row_spelled (keyed line)) lines.items) }
+    ensures ok { IfOk result (λ rows. rows.items ≡ map (λ line. row_spelled (listed_version_view line)) lines.items) }
     ensures err { IfErr result (λ e. All HasSubject lines.items → e ≡ Memory) }
 {
     let mut rows = Vec::new(alloc);
@@ -154,7 +161,7 @@ pub(crate) fn push_row(rows: &mut Vec<Row>, row: Row) -> Result<(), OutOfMemory>
 
 /// The version that a line is of, if it has a subject.
 pub(crate) fn row_in(line: ListedVersion) -> Result<Row, StoreError>
-    ensures ok { IfOk result (λ row. row ≡ row_spelled (keyed line)) }
+    ensures ok { IfOk result (λ row. row ≡ row_spelled (listed_version_view line)) }
     ensures err { OnErr result (¬ HasSubject line) }
 {
     let ListedVersion {

@@ -7,10 +7,10 @@ ghost use Rattle.reg_store.specs.Failures.{IsFaultBy};
 ghost use Rattle.reg_store.specs.Listings.{fields_of, lines_of, schema_line, schema_lines};
 ghost use Rattle.reg_core.specs.Stored.{Stored};
 ghost use Rattle.reg_store.specs.Spells.{SpellsWhileOpen};
-ghost use Rattle.reg_store.specs.Inside.Reads.{Reads, Rests, shown};
+ghost use Rattle.reg_store.specs.Inside.Reads.{Reads, CommitsNothing, shown};
 
 use crate::error::StoreError;
-use crate::idle::Idle;
+use crate::idle::StoreConnection;
 use crate::store::lines::{push_line, schema_line};
 use crate::store::texts::{count, text_under};
 use sqlite::Alter;
@@ -19,7 +19,7 @@ use std::alloc::Global;
 /// The lines of all schemas.
 pub(crate) fn listed_schemas<S: Alter>(
     alloc: Global,
-    db: &mut Idle<S>,
+    db: &mut StoreConnection<S>,
 ) -> Result<Vec<Vec<String>>, StoreError>
     ensures { Reads db.old db.new result (λ was lines.
         lines_of lines ≡ schema_lines was.registry.schemas) }
@@ -31,10 +31,10 @@ pub(crate) fn listed_schemas<S: Alter>(
 /// The lines of all schemas, which are this many.
 fn each_schema<S: Alter>(
     alloc: Global,
-    db: &mut Idle<S>,
+    db: &mut StoreConnection<S>,
     count: u32,
 ) -> Result<Vec<Vec<String>>, StoreError>
-    ensures rests { Rests (shown db.old) (shown db.new) }
+    ensures rests { CommitsNothing (shown db.old) (shown db.new) }
     ensures answers { HasCleanDisk (shown db.new) → (was : Stored) → SpellsWhileOpen (shown db.old) was
         → count ≡ length was.registry.schemas
         → MatchResult result (λ lines. lines_of lines ≡ schema_lines was.registry.schemas)
@@ -50,10 +50,10 @@ fn each_schema<S: Alter>(
 /// The line of the id's schema.
 fn listed_schema<S: Alter>(
     alloc: Global,
-    db: &mut Idle<S>,
+    db: &mut StoreConnection<S>,
     id: u32,
 ) -> Result<Vec<String>, StoreError>
-    ensures rests { Rests (shown db.old) (shown db.new) }
+    ensures rests { CommitsNothing (shown db.old) (shown db.new) }
     ensures answers { HasCleanDisk (shown db.new) → (was : Stored) → SpellsWhileOpen (shown db.old) was
         → IsSome (text_at was.registry.schemas id)
         → MatchResult result (λ line.

@@ -7,18 +7,18 @@ ghost use Rattle.reg_store.specs.Inside.Viewing.{value_in};
 ghost use Rattle.reg_store.specs.Inside.Reads.{Reads};
 
 use crate::error::StoreError;
-use crate::idle::Idle;
+use crate::idle::StoreConnection;
 use crate::store::levels::{levels_for, own_for as own_level_for};
 use crate::store::modes::own_for as own_mode_for;
 use reg_core::{Level, Mode, Needs, Subject};
-use reg_tables::{MetaLine, meta_lines};
+use reg_tables::{RawMeta, raw_meta};
 use sqlite::Alter;
 use std::alloc::Global;
 
 /// The levels and the modes that are needed.
 pub(crate) fn settings_for<S: Alter>(
     alloc: Global,
-    db: &mut Idle<S>,
+    db: &mut StoreConnection<S>,
     subject: Option<&Subject>,
     needs: Needs,
 ) -> Result<((Option<Level>, Level), (Option<Mode>, Mode)), StoreError>
@@ -40,7 +40,7 @@ pub(crate) fn settings_for<S: Alter>(
 /// The modes, and the levels. That of the subject is there if it is needed.
 fn with_modes<S: Alter>(
     alloc: Global,
-    db: &mut Idle<S>,
+    db: &mut StoreConnection<S>,
     subject: Option<&Subject>,
     needs_levels: bool,
 ) -> Result<((Option<Level>, Level), (Option<Mode>, Mode)), StoreError>
@@ -58,16 +58,19 @@ fn with_modes<S: Alter>(
 }
 
 /// The global level and the global mode, in one read.
-fn globals<S: Alter>(alloc: Global, db: &mut Idle<S>) -> Result<(Level, Mode), StoreError>
+fn globals<S: Alter>(
+    alloc: Global,
+    db: &mut StoreConnection<S>,
+) -> Result<(Level, Mode), StoreError>
     ensures { Reads db.old db.new result (λ was globals.
         (globals.0 ≡ was.registry.global) × (globals.1 ≡ was.registry.global_mode)) }
 {
-    let lines = meta_lines(alloc, &mut db.idle)?;
+    let lines = raw_meta(alloc, &mut db.idle)?;
     globals_in(lines.as_slice())
 }
 
 /// The global level and the global mode that the rows of `meta` spell.
-fn globals_in(lines: &[MetaLine]) -> Result<(Level, Mode), StoreError>
+fn globals_in(lines: &[RawMeta]) -> Result<(Level, Mode), StoreError>
     ensures ok { IfOk result (λ globals.
         (option_and_then level_of (value_in (codes "global") lines.now) ≡ Some globals.0)
         × (option_and_then mode_of (value_in (codes "mode") lines.now) ≡ Some globals.1)) }
@@ -84,7 +87,7 @@ fn globals_in(lines: &[MetaLine]) -> Result<(Level, Mode), StoreError>
 }
 
 /// The level under the name `global`.
-fn level_under(lines: &[MetaLine]) -> Option<Level>
+fn level_under(lines: &[RawMeta]) -> Option<Level>
     ensures { result ≡ option_and_then level_of (value_in (codes "global") lines.now) }
 {
     match value_under(lines, "global") {
@@ -94,7 +97,7 @@ fn level_under(lines: &[MetaLine]) -> Option<Level>
 }
 
 /// The mode under the name `mode`.
-fn mode_under(lines: &[MetaLine]) -> Option<Mode>
+fn mode_under(lines: &[RawMeta]) -> Option<Mode>
     ensures { result ≡ option_and_then mode_of (value_in (codes "mode") lines.now) }
 {
     match value_under(lines, "mode") {
@@ -104,7 +107,7 @@ fn mode_under(lines: &[MetaLine]) -> Option<Mode>
 }
 
 /// The value under the name.
-fn value_under<'a>(lines: &'a [MetaLine], name: &str) -> Option<&'a str>
+fn value_under<'a>(lines: &'a [RawMeta], name: &str) -> Option<&'a str>
     ensures { option_copied result ≡ value_in name.now lines.now }
 {
     lines

@@ -1,13 +1,13 @@
 //! The line of a listing behind a cursor.
 
 ghost use Rattle.std.specs.Prelude.{ℕ, None};
-ghost use Rattle.reg_store.specs.Stores.{KeepsLent};
+ghost use Rattle.reg_store.specs.Stores.{KeepsBorrowed};
 ghost use Rattle.reg_store.specs.declared.listing.Listing.{Listing};
-ghost use Rattle.reg_store.specs.Handing.{IsAt, LeadsOn};
+ghost use Rattle.reg_store.specs.NextLines.{IsCursorAt, IsNextLine};
 ghost use Rattle.reg_store.specs.Inside.Reads.{Reads};
 
 use crate::error::StoreError;
-use crate::idle::Idle;
+use crate::idle::StoreConnection;
 use crate::store::Store;
 use crate::store::behind::{next_subject, next_version};
 use crate::store::cursor::Cursor;
@@ -24,9 +24,9 @@ impl<S: Alter> Store<S> {
         &mut self,
         cursor: Cursor,
     ) -> Result<(Option<Vec<String>>, Cursor), StoreError>
-        ensures frame { KeepsLent self.old self.new result }
+        ensures frame { KeepsBorrowed self.old self.new result }
         ensures reads { Reads self.old.db self.new.db result (λ was found.
-            (kind : Listing) (count : ℕ) → IsAt kind was.registry count cursor → LeadsOn kind was.registry count found) }
+            (kind : Listing) (count : ℕ) → IsCursorAt kind was.registry count cursor → IsNextLine kind was.registry count found) }
     {
         line_at(self.alloc, &mut self.db, cursor)
     }
@@ -35,11 +35,11 @@ impl<S: Alter> Store<S> {
 /// The next line behind the cursor, if there is one, and where the lines then end.
 fn line_at<S: Alter>(
     alloc: Global,
-    db: &mut Idle<S>,
+    db: &mut StoreConnection<S>,
     cursor: Cursor,
 ) -> Result<(Option<Vec<String>>, Cursor), StoreError>
     ensures { Reads db.old db.new result (λ was found.
-        (kind : Listing) (count : ℕ) → IsAt kind was.registry count cursor → LeadsOn kind was.registry count found) }
+        (kind : Listing) (count : ℕ) → IsCursorAt kind was.registry count cursor → IsNextLine kind was.registry count found) }
 {
     match cursor {
         Cursor::Subject(last) => subject_at(alloc, db, last),
@@ -51,11 +51,11 @@ fn line_at<S: Alter>(
 /// The line of the next subject, if there is one, and where the lines then end.
 fn subject_at<S: Alter>(
     alloc: Global,
-    db: &mut Idle<S>,
+    db: &mut StoreConnection<S>,
     last: Option<Row>,
 ) -> Result<(Option<Vec<String>>, Cursor), StoreError>
     ensures { Reads db.old db.new result (λ was found.
-        (count : ℕ) → IsAt Listing.Subjects was.registry count (Cursor.Subject last) → LeadsOn Listing.Subjects was.registry count found) }
+        (count : ℕ) → IsCursorAt Listing.Subjects was.registry count (Cursor.Subject last) → IsNextLine Listing.Subjects was.registry count found) }
 {
     match next_subject(db, last.as_ref())? {
         None => Ok((None, Cursor::Subject(last))),
@@ -69,11 +69,11 @@ fn subject_at<S: Alter>(
 /// The line of the next version, if there is one, and where the lines then end.
 fn version_at<S: Alter>(
     alloc: Global,
-    db: &mut Idle<S>,
+    db: &mut StoreConnection<S>,
     last: Option<Row>,
 ) -> Result<(Option<Vec<String>>, Cursor), StoreError>
     ensures { Reads db.old db.new result (λ was found.
-        (count : ℕ) → IsAt Listing.Versions was.registry count (Cursor.Version last) → LeadsOn Listing.Versions was.registry count found) }
+        (count : ℕ) → IsCursorAt Listing.Versions was.registry count (Cursor.Version last) → IsNextLine Listing.Versions was.registry count found) }
 {
     match next_version(db, last.as_ref())? {
         None => Ok((None, Cursor::Version(last))),
@@ -87,11 +87,11 @@ fn version_at<S: Alter>(
 /// The line of the schema with the next id, if there is one, and where the lines then end.
 fn schema_at<S: Alter>(
     alloc: Global,
-    db: &mut Idle<S>,
+    db: &mut StoreConnection<S>,
     id: u32,
 ) -> Result<(Option<Vec<String>>, Cursor), StoreError>
     ensures { Reads db.old db.new result (λ was found.
-        (count : ℕ) → IsAt Listing.Schemas was.registry count (Cursor.Schema id) → LeadsOn Listing.Schemas was.registry count found) }
+        (count : ℕ) → IsCursorAt Listing.Schemas was.registry count (Cursor.Schema id) → IsNextLine Listing.Schemas was.registry count found) }
 {
     // The last number that there can be is no id, so that nothing is found past it.
     let next = id.saturating_add(1);

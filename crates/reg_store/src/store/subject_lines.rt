@@ -6,7 +6,7 @@ ghost use Rattle.reg_store.specs.Listings.{fields_of, lines_of, subject_listed, 
 ghost use Rattle.reg_store.specs.Inside.Reads.{MayRead, Reads};
 
 use crate::error::StoreError;
-use crate::idle::Idle;
+use crate::idle::StoreConnection;
 use crate::store::levels::own;
 use crate::store::lines::{push_line, subject_line};
 use crate::store::rows::{all_rows, subject_rows};
@@ -17,7 +17,7 @@ use std::alloc::Global;
 /// The lines of all subjects that have versions.
 pub(crate) fn listed_subjects<S: Alter>(
     alloc: Global,
-    db: &mut Idle<S>,
+    db: &mut StoreConnection<S>,
 ) -> Result<Vec<Vec<String>>, StoreError>
     ensures { Reads db.old db.new result (λ was lines.
         lines_of lines ≡ map (subject_listed was.registry) (subjects_of (entries was.registry.rows))) }
@@ -40,7 +40,7 @@ fn subjects_of<'a>(alloc: Global, rows: &'a [Row]) -> Result<Vec<&'a Subject>, O
 /// The lines of these subjects.
 fn each_subject<S: Alter>(
     alloc: Global,
-    db: &mut Idle<S>,
+    db: &mut StoreConnection<S>,
     subjects: &[&Subject],
 ) -> Result<Vec<Vec<String>>, StoreError>
     ensures { MayRead db.old db.new result (λ was lines.
@@ -56,7 +56,7 @@ fn each_subject<S: Alter>(
 /// The line of the subject.
 pub(crate) fn listed_subject<S: Alter>(
     alloc: Global,
-    db: &mut Idle<S>,
+    db: &mut StoreConnection<S>,
     subject: &Subject,
 ) -> Result<Vec<String>, StoreError>
     ensures { Reads db.old db.new result (λ was line.

@@ -6,7 +6,7 @@ ghost use Rattle.reg_store.specs.Inside.Viewing.{HasText, AreTrueTexts, AddsText
 ghost use Rattle.reg_store.specs.Inside.Reads.{MayRead, Reads};
 
 use crate::error::StoreError;
-use crate::idle::Idle;
+use crate::idle::StoreConnection;
 use reg_core::OutOfMemory;
 use reg_tables::{id_of, last_id, text_of};
 use sqlite::Alter;
@@ -14,7 +14,10 @@ use std::alloc::Global;
 use std::collections::BTreeMap;
 
 /// The identity text of the id's schema, if there is one.
-pub(crate) fn text_under<S: Alter>(db: &mut Idle<S>, id: u32) -> Result<Option<String>, StoreError>
+pub(crate) fn text_under<S: Alter>(
+    db: &mut StoreConnection<S>,
+    id: u32,
+) -> Result<Option<String>, StoreError>
     ensures { Reads db.old db.new result (λ was found.
         option_map string_bytes found ≡ text_at was.registry.schemas id) }
 {
@@ -22,7 +25,7 @@ pub(crate) fn text_under<S: Alter>(db: &mut Idle<S>, id: u32) -> Result<Option<S
 }
 
 /// The id of the schema with this identity text, if there is one.
-fn id_under<S: Alter>(db: &mut Idle<S>, text: &str) -> Result<Option<u32>, StoreError>
+fn id_under<S: Alter>(db: &mut StoreConnection<S>, text: &str) -> Result<Option<u32>, StoreError>
     ensures { Reads db.old db.new result (λ was found.
         found ≡ id_of was.registry.schemas text.now) }
 {
@@ -30,7 +33,7 @@ fn id_under<S: Alter>(db: &mut Idle<S>, text: &str) -> Result<Option<u32>, Store
 }
 
 /// The number of schemas.
-pub(crate) fn count<S: Alter>(db: &mut Idle<S>) -> Result<u32, StoreError>
+pub(crate) fn count<S: Alter>(db: &mut StoreConnection<S>) -> Result<u32, StoreError>
     ensures { Reads db.old db.new result (λ was count. count ≡ length was.registry.schemas) }
 {
     match last_id(&mut db.idle)? {
@@ -41,7 +44,7 @@ pub(crate) fn count<S: Alter>(db: &mut Idle<S>) -> Result<u32, StoreError>
 
 /// The id of the schema with the identity text that is given, if one is and there is one.
 pub(crate) fn known_for<S: Alter>(
-    db: &mut Idle<S>,
+    db: &mut StoreConnection<S>,
     identity: Option<&str>,
 ) -> Result<Option<u32>, StoreError>
     ensures { MayRead db.old db.new result (λ was known.
@@ -54,7 +57,10 @@ pub(crate) fn known_for<S: Alter>(
 }
 
 /// The number of schemas, if it is needed.
-pub(crate) fn count_for<S: Alter>(db: &mut Idle<S>, needed: bool) -> Result<u32, StoreError>
+pub(crate) fn count_for<S: Alter>(
+    db: &mut StoreConnection<S>,
+    needed: bool,
+) -> Result<u32, StoreError>
     ensures { MayRead db.old db.new result (λ was count.
         IsTrue needed → count ≡ length was.registry.schemas) }
 {
@@ -64,7 +70,7 @@ pub(crate) fn count_for<S: Alter>(db: &mut Idle<S>, needed: bool) -> Result<u32,
 /// The identity texts of the ids that have one.
 pub(crate) fn texts_of<S: Alter>(
     alloc: Global,
-    db: &mut Idle<S>,
+    db: &mut StoreConnection<S>,
     ids: &[u32],
 ) -> Result<BTreeMap<u32, String>, StoreError>
     ensures { MayRead db.old db.new result (λ was texts.
@@ -79,7 +85,7 @@ pub(crate) fn texts_of<S: Alter>(
 
 /// Adds the identity text of the id, if the id has one and it isn't there.
 fn add_text<S: Alter>(
-    db: &mut Idle<S>,
+    db: &mut StoreConnection<S>,
     texts: &mut BTreeMap<u32, String>,
     id: u32,
 ) -> Result<(), StoreError>

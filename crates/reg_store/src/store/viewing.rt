@@ -2,18 +2,18 @@
 
 ghost use Rattle.std.specs.Prelude.{◌≡◌, IsTrue, length, option_and_then, option_copied};
 ghost use Rattle.reg_core.specs.Rows.{id_of};
-ghost use Rattle.reg_core.specs.Views.{IsTextSent, IsViewOf};
+ghost use Rattle.reg_core.specs.Views.{IsCommandIdentity, IsViewOf};
 ghost use Rattle.reg_store.specs.Stores.{ReadsStore};
 ghost use Rattle.reg_store.specs.Inside.Viewing.{IsViewButTexts};
 ghost use Rattle.reg_store.specs.Inside.Reads.{MayRead, Reads};
 
 use crate::error::StoreError;
-use crate::idle::Idle;
+use crate::idle::StoreConnection;
 use crate::store::Store;
 use crate::store::rows::rows_for;
 use crate::store::settings::settings_for;
 use crate::store::texts::{count_for, known_for, texts_of};
-use reg_core::{Command, View, ids_read};
+use reg_core::{Command, View, ids_to_read};
 use sqlite::Alter;
 use std::alloc::Global;
 use std::collections::BTreeMap;
@@ -28,7 +28,7 @@ impl<S: Alter> Store<S> {
     /// nothing is changed.
     pub fn view(&mut self, command: &Command, identity: Option<&str>) -> Result<View, StoreError>
         ensures { ReadsStore self.old self.new result (λ was view.
-            IsTextSent command.now (option_copied identity.entry)
+            IsCommandIdentity command.now (option_copied identity.entry)
             → IsViewOf view was.registry command.now) }
     {
         if self.failed {
@@ -43,16 +43,16 @@ impl<S: Alter> Store<S> {
 /// The view that the command needs.
 fn view_for<S: Alter>(
     alloc: Global,
-    db: &mut Idle<S>,
+    db: &mut StoreConnection<S>,
     command: &Command,
     identity: Option<&str>,
 ) -> Result<View, StoreError>
     ensures { Reads db.old db.new result (λ was view.
-        IsTextSent command.now (option_copied identity.entry)
+        IsCommandIdentity command.now (option_copied identity.entry)
         → IsViewOf view was.registry command.now) }
 {
     let mut view = view_but_texts(alloc, db, command, identity)?;
-    let ids = ids_read(alloc, command, &view)?;
+    let ids = ids_to_read(alloc, command, &view)?;
     let texts = texts_of(alloc, db, ids.as_slice())?;
     view.texts = texts;
     Ok(view)
@@ -61,12 +61,12 @@ fn view_for<S: Alter>(
 /// The view that the command needs, but with no texts.
 fn view_but_texts<S: Alter>(
     alloc: Global,
-    db: &mut Idle<S>,
+    db: &mut StoreConnection<S>,
     command: &Command,
     identity: Option<&str>,
 ) -> Result<View, StoreError>
     ensures { Reads db.old db.new result (λ was view.
-        IsTextSent command.now (option_copied identity.entry)
+        IsCommandIdentity command.now (option_copied identity.entry)
         → IsViewButTexts view was.registry command.now) }
 {
     let needs = command.needs();
@@ -90,7 +90,7 @@ fn view_but_texts<S: Alter>(
 /// The id of the schema with the identity text that is given, if one is and there is one, and the
 /// number of schemas, if it is needed.
 fn ids_for<S: Alter>(
-    db: &mut Idle<S>,
+    db: &mut StoreConnection<S>,
     identity: Option<&str>,
     needs_count: bool,
 ) -> Result<(Option<u32>, u32), StoreError>

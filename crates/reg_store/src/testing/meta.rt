@@ -3,23 +3,23 @@
 ghost use Rattle.std.specs.Prelude.{◌≡◌, ◌↔◌, map, IfOk, IfErr, OnOk, IsTrue};
 ghost use Rattle.sqlite.specs.State.{HasCleanDisk};
 ghost use Rattle.reg_tables.specs.Layout.{HasFiveTables};
-ghost use Rattle.reg_store.specs.Failures.{IsTold};
-ghost use Rattle.reg_store.specs.Opening.{meta_shown, IsRefusedAs, TellsOther};
-ghost use Rattle.reg_rows.specs.Spelling.{pair_of};
-ghost use Rattle.reg_store.specs.Inside.Testing.{Allows, AreApart, number_of, is_meta_of, JudgesMeta, SpellsAs, Tests, MetaPass};
+ghost use Rattle.reg_store.specs.Failures.{HasDiskCause};
+ghost use Rattle.reg_store.specs.Opening.{meta_columns, HasMetaNumberOf, ReportsOther};
+ghost use Rattle.reg_rows.specs.Spelling.{meta_pair};
+ghost use Rattle.reg_store.specs.Inside.Testing.{Allows, AreDistinct, number_of, is_meta_of, JudgesMeta, SpellsAs, Tests, MetaPass};
 ghost use Rattle.reg_store.specs.Inside.Reads.{shown};
 
 use crate::error::StoreError;
-use crate::idle::Idle;
+use crate::idle::StoreConnection;
 use crate::layout::Layout;
 use crate::rowids::are_apart;
 use crate::testing::{Tested, allow, rowids_of};
-use reg_rows::{is_meta, is_second_meta, layout_of};
-use reg_tables::{MetaLine, meta_lines};
+use reg_rows::{is_layout_one_meta, is_layout_two_meta, layout_of};
+use reg_tables::{RawMeta, raw_meta};
 use sqlite::Alter;
 use std::alloc::{AllocError, Global};
 
-impl Tested for MetaLine {
+impl Tested for RawMeta {
     ghost rowid_of = { λ line. line.rowid };
 
     // `is_meta_of` tests the rows of `meta` together.
@@ -46,16 +46,16 @@ fn number_of(layout: Layout) -> u32
 
 /// Whether these are the rows of `meta` in the layout.
 fn is_meta_of(rows: &[(String, String)], layout: Layout) -> bool
-    ensures { result ≡ is_meta_of layout (map pair_of rows.now) }
+    ensures { result ≡ is_meta_of layout (map meta_pair rows.now) }
 {
     match layout {
-        Layout::One => is_meta(rows),
-        Layout::Two => is_second_meta(rows),
+        Layout::One => is_layout_one_meta(rows),
+        Layout::Two => is_layout_two_meta(rows),
     }
 }
 
-fn meta_rows(alloc: Global, lines: Vec<MetaLine>) -> Result<Vec<(String, String)>, AllocError>
-    ensures { IfOk result (λ rows. rows.items ≡ map meta_shown lines.items) }
+fn meta_rows(alloc: Global, lines: Vec<RawMeta>) -> Result<Vec<(String, String)>, AllocError>
+    ensures { IfOk result (λ rows. rows.items ≡ map meta_columns lines.items) }
 {
     let mut rows = Vec::new(alloc);
     for line in lines {
@@ -66,7 +66,7 @@ fn meta_rows(alloc: Global, lines: Vec<MetaLine>) -> Result<Vec<(String, String)
 
 /// Whether these are the rows of a registry and no rowid occurs twice.
 fn pass_meta(rows: &[(String, String)], rowids: &mut [i64], layout: Layout) -> bool
-    ensures { IsTrue result ↔ (AreApart rowids.old × IsTrue (is_meta_of layout (map pair_of rows.now))) }
+    ensures { IsTrue result ↔ (AreDistinct rowids.old × IsTrue (is_meta_of layout (map meta_pair rows.now))) }
 {
     is_meta_of(rows, layout) && are_apart(rowids)
 }
@@ -83,7 +83,7 @@ fn allow_layout(own: u32, named: Option<u32>, passes: bool) -> Result<(), StoreE
 }
 
 /// The verdict on the lines of `meta`.
-fn judge_meta(alloc: Global, lines: Vec<MetaLine>, layout: Layout) -> Result<(), StoreError>
+fn judge_meta(alloc: Global, lines: Vec<RawMeta>, layout: Layout) -> Result<(), StoreError>
     ensures { JudgesMeta layout lines.items result }
 {
     let mut rowids = rowids_of(alloc, &lines)?;
@@ -95,17 +95,17 @@ fn judge_meta(alloc: Global, lines: Vec<MetaLine>, layout: Layout) -> Result<(),
 /// Reads `meta` and tests it: first the format, then the layout, then the other rows.
 pub(crate) fn test_meta<S: Alter>(
     alloc: Global,
-    db: &mut Idle<S>,
+    db: &mut StoreConnection<S>,
     layout: Layout,
 ) -> Result<(), StoreError>
     ensures tests { Tests HasFiveTables (SpellsAs layout)
         S.Store db.old.idle.conn db.new.idle.conn result (λ _. MetaPass layout) }
-    ensures told { HasCleanDisk (shown db.new) → IfErr result (IsTold (shown db.old) (shown db.new)) }
-    ensures refused { HasCleanDisk (shown db.new)
-        → IfErr result (IsRefusedAs (number_of layout) (shown db.old).now) }
+    ensures disk_cause { HasCleanDisk (shown db.new) → IfErr result (HasDiskCause (shown db.old) (shown db.new)) }
+    ensures meta_number { HasCleanDisk (shown db.new)
+        → IfErr result (HasMetaNumberOf (number_of layout) (shown db.old).now) }
     ensures other { HasCleanDisk (shown db.new)
-        → IfErr result (TellsOther (number_of layout) (shown db.old)) }
+        → IfErr result (ReportsOther (number_of layout) (shown db.old)) }
 {
-    let lines = meta_lines(alloc, &mut db.idle)?;
+    let lines = raw_meta(alloc, &mut db.idle)?;
     judge_meta(alloc, lines, layout)
 }

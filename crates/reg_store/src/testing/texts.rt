@@ -6,15 +6,15 @@ ghost use Rattle.reg_tables.specs.Layout.{HasFiveTables};
 ghost use Rattle.reg_tables.specs.Listings.{ListsTexts, ListsTextsBetween};
 ghost use Rattle.reg_tables.specs.Reads.{HoldsReadable};
 ghost use Rattle.reg_core.specs.Registry.{max_number};
-ghost use Rattle.reg_store.specs.Failures.{IsNumberless};
+ghost use Rattle.reg_store.specs.Failures.{HasNoLayoutNumber};
 ghost use Rattle.reg_store.specs.Inside.Testing.{text_fits, Judges, NumbersTexts, Tests, TestsFive, TextsPass};
 
 use crate::error::StoreError;
-use crate::idle::Idle;
+use crate::idle::StoreConnection;
 use crate::testing::allow;
 use reg_core::OutOfMemory;
 use reg_rows::{are_ids, is_identity};
-use reg_tables::{TextLine, text_ids, texts_between};
+use reg_tables::{RawText, text_ids, texts_between};
 use sqlite::Alter;
 use std::alloc::Global;
 
@@ -22,7 +22,7 @@ use std::alloc::Global;
 const TEXTS_AT_ONCE: u32 = 16;
 
 /// Whether each line has the identity text of a schema.
-fn are_identities(alloc: Global, lines: &[TextLine]) -> Result<bool, OutOfMemory>
+fn are_identities(alloc: Global, lines: &[RawText]) -> Result<bool, OutOfMemory>
     ensures { IfOk result (λ yes. IsTrue yes ↔ AllByRecursion text_fits lines.now) }
 {
     for line in lines {
@@ -34,11 +34,11 @@ fn are_identities(alloc: Global, lines: &[TextLine]) -> Result<bool, OutOfMemory
 }
 
 /// How many texts there are, if their ids are the numbers from 1 on.
-fn count_texts<S: Alter>(alloc: Global, db: &mut Idle<S>) -> Result<u32, StoreError>
+fn count_texts<S: Alter>(alloc: Global, db: &mut StoreConnection<S>) -> Result<u32, StoreError>
     ensures tests { TestsFive S.Store db.old.idle.conn db.new.idle.conn result
         (λ count db. NumbersTexts db count) }
     ensures few { IfOk result (λ count. count ≤ max_number) }
-    ensures plain { IfErr result IsNumberless }
+    ensures plain { IfErr result HasNoLayoutNumber }
 {
     let mut ids = text_ids(alloc, &mut db.idle)?;
     ids.sort_unstable();
@@ -50,13 +50,13 @@ fn count_texts<S: Alter>(alloc: Global, db: &mut Idle<S>) -> Result<u32, StoreEr
 /// text of a schema.
 fn judge_some<S: Alter>(
     alloc: Global,
-    db: &mut Idle<S>,
+    db: &mut StoreConnection<S>,
     first: u32,
     last: u32,
 ) -> Result<bool, StoreError>
     ensures tests { Tests HasFiveTables HoldsReadable S.Store db.old.idle.conn db.new.idle.conn
         result (λ fit db. Judges (ListsTextsBetween first last db) fit) }
-    ensures plain { IfErr result IsNumberless }
+    ensures plain { IfErr result HasNoLayoutNumber }
 {
     let lines = texts_between(alloc, &mut db.idle, first, last)?;
     Ok(are_identities(alloc, &lines)?)
@@ -64,11 +64,15 @@ fn judge_some<S: Alter>(
 
 /// Reads all texts, whose ids are the numbers from 1 to this one, some at a time, and answers whether
 /// each is the identity text of a schema.
-fn judge_all<S: Alter>(alloc: Global, db: &mut Idle<S>, count: u32) -> Result<bool, StoreError>
+fn judge_all<S: Alter>(
+    alloc: Global,
+    db: &mut StoreConnection<S>,
+    count: u32,
+) -> Result<bool, StoreError>
     requires few { count ≤ max_number }
     ensures tests { Tests HasFiveTables HoldsReadable S.Store db.old.idle.conn db.new.idle.conn
         result (λ fit db. NumbersTexts db count → Judges (ListsTexts db) fit) }
-    ensures plain { IfErr result IsNumberless }
+    ensures plain { IfErr result HasNoLayoutNumber }
 {
     let _idle = db.idle.conn.is_autocommit();
     let mut fit = true;
@@ -81,9 +85,12 @@ fn judge_all<S: Alter>(alloc: Global, db: &mut Idle<S>, count: u32) -> Result<bo
 }
 
 /// Reads `texts`, and tests it.
-pub(crate) fn test_texts<S: Alter>(alloc: Global, db: &mut Idle<S>) -> Result<(), StoreError>
+pub(crate) fn test_texts<S: Alter>(
+    alloc: Global,
+    db: &mut StoreConnection<S>,
+) -> Result<(), StoreError>
     ensures tests { TestsFive S.Store db.old.idle.conn db.new.idle.conn result (λ _. TextsPass) }
-    ensures plain { IfErr result IsNumberless }
+    ensures plain { IfErr result HasNoLayoutNumber }
 {
     let _idle = db.idle.conn.is_autocommit();
     let count = count_texts(alloc, db)?;

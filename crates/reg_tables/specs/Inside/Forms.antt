@@ -11,7 +11,7 @@ use Rattle.reg_tables.specs.declared.declared.forms.ColumnForm.TheVariants.{Null
 use Rattle.reg_tables.specs.declared.declared.forms.ReferenceForm.{ReferenceForm}
 use Rattle.reg_tables.specs.declared.declared.forms.ReferenceForm.TheVariants.{ToText, ToVersion}
 use Rattle.reg_tables.specs.declared.declared.forms.TableForm.{TableForm}
-use Rattle.reg_tables.specs.declared.declared.schemas.Placed.{Placed}
+use Rattle.reg_tables.specs.declared.declared.schemas.TableInTree.{TableInTree}
 use Rattle.reg_tables.specs.declared.declared.schemas.IndexForm.{IndexForm}
 use Rattle.reg_tables.specs.declared.declared.schemas.IndexForm.TheVariants.{OfKey, OfIds}
 use Rattle.reg_tables.specs.declared.declared.schemas.SchemaForm.{SchemaForm}
@@ -32,19 +32,19 @@ checks_of true = versions.checks
 checks_of false = []
 
 -- a table of this form, in no tree yet
-abbrev pub untreed : TableForm → Table
-untreed form = record (keyed_table form.name.now 0 form.primary.now (map column_of form.columns.now)) {
+abbrev pub table_without_tree : TableForm → Table
+table_without_tree form = record (keyed_table form.name.now 0 form.primary.now (map column_of form.columns.now)) {
   key = form.key;
   uniques = form.unique.now ∷ [];
   checks = checks_of form.has_flag;
   references = map reference_of form.references.now;
 }
 
-abbrev pub table_of : Placed → Table
-table_of placed = record (untreed placed.form.now) { tree = placed.tree }
+abbrev pub table_of : TableInTree → Table
+table_of placed = record (table_without_tree placed.form.now) { tree = placed.tree }
 
 -- the index that SQLite makes for its key
-abbrev pub key_index_of : Placed → Index
+abbrev pub key_index_of : TableInTree → Index
 key_index_of placed = automatic_index placed.form.now.index.now placed.tree placed.form.now.unique.now
 
 abbrev pub index_of : IndexForm → Index

@@ -4,7 +4,7 @@ use Rattle.std.specs.FinMap.{get, insert, remove}
 use Rattle.sqlite.specs.Order.{Row}
 use Rattle.sqlite.specs.Term.{Term}
 use Rattle.reg_tables.specs.Contents.{TableName, Texts, Versions, Levels, Kept, Meta, Modes, Evidence, Against, KeyOf, ValueOf, form_of, Contents, map_of, with_map}
-use Rattle.reg_tables.specs.Inside.Statements.{by_key, by_version, by_place, by_id}
+use Rattle.reg_tables.specs.Inside.Statements.{by_key, by_version, by_position, by_id}
 
 abbrev pub tests_of : TableName → List Term
 tests_of Texts = by_id
@@ -14,7 +14,7 @@ tests_of Kept = by_key
 tests_of Meta = by_key
 tests_of Modes = by_key
 tests_of Evidence = by_version
-tests_of Against = by_place
+tests_of Against = by_position
 
 -- what the entry refers to is there
 abbrev pub refers_to : (name : TableName) → Contents → KeyOf name → ValueOf name → Bool

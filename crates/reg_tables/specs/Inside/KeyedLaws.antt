@@ -27,9 +27,9 @@ use Rattle.sqlite_rules.specs.Calls.{ids_of}
 use Rattle.sqlite_rules.specs.Lists.{Has}
 use Rattle.sqlite_typing.specs.Types.{accepts_program, accepts_terms}
 use Rattle.reg_tables.specs.TableMaps.{IsEntry, ShowsMap, Form}
-use Rattle.reg_tables.specs.Contents.{TableName, place_of, table_in, KeyOf, ValueOf, form_of, Contents, HoldsIn}
+use Rattle.reg_tables.specs.Contents.{TableName, ordinal_of, table_in, KeyOf, ValueOf, form_of, Contents, HoldsContents}
 use Rattle.reg_tables.specs.Inside.Keyed.{tests_of, refers_to, cells_of}
-use Rattle.reg_tables.specs.Inside.Statements.{IsCommand, IsWhole, TableQuery, IsQuery, Takes, all_rows, plain_query}
+use Rattle.reg_tables.specs.Inside.Statements.{IsCommand, IsOneStatement, TableQuery, IsQuery, Takes, all_rows, plain_query}
 
 -- an order in which only equal keys tie
 pub record IsKeyOrder {K : Type 0} (R : K → K → Ordering) : Type 0 where
@@ -37,23 +37,23 @@ pub record IsKeyOrder {K : Type 0} (R : K → K → Ordering) : Type 0 where
   pub antisymmetric : IsAntisymmetric R
 
 -- the tables have trees of their own
-abbrev pub AreApart : Schema → Type 0
-AreApart schema = IsAscending (λ (a : Table) (b : Table). a.tree ≡ b.tree → ⊥) schema.tables
+abbrev pub HaveOwnTrees : Schema → Type 0
+HaveOwnTrees schema = IsAscending (λ (a : Table) (b : Table). a.tree ≡ b.tree → ⊥) schema.tables
 
 -- no foreign key acts where rows of this tree are taken out or change
-abbrev pub IsIdle : Schema → ℕ → Type 0
-IsIdle schema tree = (olds news : List Row) → works schema Enforced 0 tree olds news ≡ []
+abbrev pub HasNoForeignKeyAction : Schema → ℕ → Type 0
+HasNoForeignKeyAction schema tree = (olds news : List Row) → works schema Enforced 0 tree olds news ≡ []
 
 -- nor where an UPDATE puts rows of the table in the place of those that it found
-abbrev pub IsSteady : Schema → Table → Type 0
-IsSteady schema table = (db : Trees) (found : List Row) → works schema Enforced 0 table.tree (taken_by db (edit_of db table (ids_of found) Given 1 found)) (edit_of db table (ids_of found) Given 1 found).news ≡ []
+abbrev pub HasNoUpdateAction : Schema → Table → Type 0
+HasNoUpdateAction schema table = (db : Trees) (found : List Row) → works schema Enforced 0 table.tree (taken_by db (edit_of db table (ids_of found) Given 1 found)) (edit_of db table (ids_of found) Given 1 found).news ≡ []
 
 -- the tables but one have the rows that they had
 abbrev pub KeepsOthers : Schema → ℕ → Trees → Trees → Type 0
 KeepsOthers schema tree old new = AllByRecursion (λ t. t.tree ≢ tree → new t.tree ≡ old t.tree) schema.tables
 
 -- the table shows another map, and that is all
-pub record TurnsTable {K V : Type 0} (schema : Schema) (form : Form K V) (tree : ℕ) (old new : Database) (value_at : K → Option V) : Type 0 where
+pub record ReplacesMap {K V : Type 0} (schema : Schema) (form : Form K V) (tree : ℕ) (old new : Database) (value_at : K → Option V) : Type 0 where
   pub declared : new.schema ≡ schema
   pub sound : IsDatabase new
   pub rows : ShowsMap form (new.trees tree) value_at
@@ -64,7 +64,7 @@ abbrev pub HasKeys : Schema → Table → Type 0
 HasKeys schema table = (adds removes : Bool) → references_fit schema table adds removes ≡ true
 
 -- a table of the schema
-pub record IsAt (schema : Schema) (at : ℕ) (table : Table) : Type 0 where
+pub record IsTableAt (schema : Schema) (at : ℕ) (table : Table) : Type 0 where
   pub there : slice_get schema.tables at ≡ Some table
   pub keys : HasKeys schema table
 
@@ -73,7 +73,7 @@ abbrev pub new_row : (name : TableName) → List Row → KeyOf name → ValueOf 
 new_row name rows key value = Int (next_rowid rows) ∷ cells_of name key value
 
 -- the row is of the table's types, and passes its checks
-pub record CanStand (table : Table) (row : Row) : Type 0 where
+pub record PassesConstraints (table : Table) (row : Row) : Type 0 where
   pub typed : (are_typed table.key 0 table.columns (drop 1 row) && has_computed table row) ≡ true
   pub present : are_present table.key 0 table.columns row ≡ true
   pub checked : passes_checks table row ≡ true
@@ -83,48 +83,48 @@ abbrev pub is_on : List ℕ → Index → Bool
 is_on columns i = (i.order.digits == 0) && bytes_eq i.columns columns
 
 -- what an index guards in the table is these columns
-abbrev pub AreOn : List ℕ → Table → List Index → Type 0
-AreOn columns table indexes = list_all (λ i. not (guards i table) || is_on columns i) indexes ≡ true
+abbrev pub IndexesGuardOnly : List ℕ → Table → List Index → Type 0
+IndexesGuardOnly columns table indexes = list_all (λ i. not (guards i table) || is_on columns i) indexes ≡ true
 
 -- the text is an INSERT of one row
 pub record PutsRow (schema : Schema) (name : TableName) (sql : List ℕ) : Type 0 where
   pub terms : List Term
   pub width : ℕ
-  pub is : IsCommand schema sql (Insert (place_of name) (Values terms width))
-  pub whole : (key : KeyOf name) (value : ValueOf name) → IsWhole sql (length (cells_of name key value)) (understood schema sql)
+  pub is : IsCommand schema sql (Insert (ordinal_of name) (Values terms width))
+  pub whole : (key : KeyOf name) (value : ValueOf name) → IsOneStatement sql (length (cells_of name key value)) (understood schema sql)
   pub typed : (key : KeyOf name) (value : ValueOf name) → accepts_terms terms (stamped (table_in schema name) (cells_of name key value)) ≡ true
   pub row : (trees : Trees) (key : KeyOf name) (value : ValueOf name)
       → (edit_of trees (table_in schema name) [] Chosen 0 (value_rows (stamped (table_in schema name) (cells_of name key value)) width (length terms / width) terms)).news ≡ new_row name (trees (table_in schema name).tree) key value ∷ []
   pub entry : (id : ℤ) (key : KeyOf name) (value : ValueOf name) → IsEntry (form_of name) (Int id ∷ cells_of name key value) key value
-  pub stands : (id : ℤ) (key : KeyOf name) (value : ValueOf name) → CanStand (table_in schema name) (Int id ∷ cells_of name key value)
+  pub stands : (id : ℤ) (key : KeyOf name) (value : ValueOf name) → PassesConstraints (table_in schema name) (Int id ∷ cells_of name key value)
 
 abbrev pub deleting : Table → List Term → Program
 deleting table tests = record { lets = []; body = plain_query table.tree tests (col 1 0 ∷ []) }
 
 -- the text is a DELETE of the row of a key, to which no foreign key adds, and no other row refers to what goes
 pub record DropsRow (schema : Schema) (name : TableName) (sql : List ℕ) : Type 0 where
-  pub idle : IsIdle schema (table_in schema name).tree
+  pub no_action : HasNoForeignKeyAction schema (table_in schema name).tree
   pub refers : (old new : Trees) → KeepsOthers schema (table_in schema name).tree old new → Refers All schema old → Refers All schema new
-  pub is : IsCommand schema sql (Delete (place_of name) (deleting (table_in schema name) (tests_of name)))
-  pub whole : (key : KeyOf name) → IsWhole sql (length ((form_of name).key_cells key)) (understood schema sql)
+  pub is : IsCommand schema sql (Delete (ordinal_of name) (deleting (table_in schema name) (tests_of name)))
+  pub whole : (key : KeyOf name) → IsOneStatement sql (length ((form_of name).key_cells key)) (understood schema sql)
   pub typed : (key : KeyOf name) → accepts_program schema [] (plain_query (table_in schema name).tree (tests_of name) (col 1 0 ∷ [])) ((form_of name).key_cells key) ≡ true
 
 -- a row that refers to what is there, beside those that were there, breaks no reference
-abbrev pub PutRefers : Schema → TableName → Type 0
-PutRefers schema name = (db : Database) (contents : Contents) → HoldsIn schema db contents → (key : KeyOf name) (value : ValueOf name) → IsTrue (refers_to name contents key value) → (row : Row) → IsEntry (form_of name) row key value
+abbrev pub InsertKeepsReferences : Schema → TableName → Type 0
+InsertKeepsReferences schema name = (db : Database) (contents : Contents) → HoldsContents schema db contents → (key : KeyOf name) (value : ValueOf name) → IsTrue (refers_to name contents key value) → (row : Row) → IsEntry (form_of name) row key value
     → (next : Trees) → KeepsOthers schema (table_in schema name).tree db.trees next → ((r : Row) → Has (next (table_in schema name).tree) r → (r ≡ row) ⊎ Has (db.trees (table_in schema name).tree) r)
     → ((r : Row) → Has (db.trees (table_in schema name).tree) r → Has (next (table_in schema name).tree) r) → Refers All schema db.trees → Refers All schema next
 
 -- rows may be put into the table: a new one breaks no rule, where its key is free and what it refers to is there
 pub record IsKeyed (schema : Schema) (name : TableName) : Type 0 where
-  pub apart : AreApart schema
-  pub is_at : IsAt schema (place_of name) (table_in schema name)
+  pub apart : HaveOwnTrees schema
+  pub is_at : IsTableAt schema (ordinal_of name) (table_in schema name)
   pub uncounted : (table_in schema name).is_counted ≡ false
   -- what an index guards is the key
-  pub guarded : AreOn (table_in schema name).primary (table_in schema name) schema.indexes
+  pub guarded : IndexesGuardOnly (table_in schema name).primary (table_in schema name) schema.indexes
   pub agrees : (a b : Row) (q k : KeyOf name) → (form_of name).key_of a ≡ (form_of name).key_cells q → (form_of name).key_of b ≡ (form_of name).key_cells k
       → agree (record { digits = 0 }) (table_in schema name).primary a (table_in schema name).primary b ≡ true → q ≡ k
-  pub put_refers : PutRefers schema name
+  pub put_refers : InsertKeepsReferences schema name
 
 -- the query of a key's value
 abbrev pub find_query : Table → List Term → List Term → List (List ℕ) → List ℕ → TableQuery

@@ -2,7 +2,7 @@
 use Rattle.std.specs.Prelude.{◌≡◌, ℕ, ◌<◌, ◌^◌, ℤ, pos, List, [], ◌∷◌, IsUtf8}
 use Rattle.sqlite.specs.declared.types.Value.TheVariants.{Int, Text}
 use Rattle.sqlite.specs.Order.{Row}
-use Rattle.reg_tables.specs.Contents.{VersionRow, KeptRow, version_cells, kept_cells, IsReadableReply}
+use Rattle.reg_tables.specs.Contents.{VersionEntryView, KeptReplyView, version_cells, kept_cells, IsReadableReply}
 
 pub record IsReadableId (row : Row) : Type 0 where
   pub id : ℕ
@@ -20,7 +20,7 @@ pub record IsReadableVersion (row : Row) : Type 0 where
   pub rowid : ℤ
   pub subject : List ℕ
   pub number : ℕ
-  pub version : VersionRow
+  pub version : VersionEntryView
   pub is : row ≡ Int rowid ∷ Text subject ∷ Int (pos number) ∷ version_cells version
   pub utf8 : IsUtf8 subject
   pub low : number < 2 ^ 32
@@ -37,7 +37,7 @@ pub record IsReadablePair (row : Row) : Type 0 where
 pub record IsReadableKept (row : Row) : Type 0 where
   pub rowid : ℤ
   pub key : List ℕ
-  pub reply : KeptRow
+  pub reply : KeptReplyView
   pub is : row ≡ Int rowid ∷ Text key ∷ kept_cells reply
   pub utf8 : IsUtf8 key
   pub readable : IsReadableReply reply

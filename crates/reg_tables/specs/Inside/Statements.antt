@@ -63,9 +63,9 @@ abbrev pub body_of : TableQuery → Query
 body_of q = ordered_query q.tree q.tests q.shown q.order q.limit
 
 -- the text is one statement, with so many parameters
-abbrev pub IsWhole : List ℕ → ℕ → Result Compiled CompileError → Type 0
-IsWhole sql count (Ok c) = (length sql ≤ c.tail) × (length c.names ≡ count)
-IsWhole sql count (Err e) = ⊥
+abbrev pub IsOneStatement : List ℕ → ℕ → Result Compiled CompileError → Type 0
+IsOneStatement sql count (Ok c) = (length sql ≤ c.tail) × (length c.names ≡ count)
+IsOneStatement sql count (Err e) = ⊥
 
 -- in this schema the text is this query, and reads no list of the tables
 pub record IsSelect (sql : List ℕ) (names : List (List ℕ)) (body : Query) (schema : Schema) : Type 0 where
@@ -74,7 +74,7 @@ pub record IsSelect (sql : List ℕ) (names : List (List ℕ)) (body : Query) (s
 
 -- in this schema the query takes these parameters
 pub record TakesSelect (sql : List ℕ) (body : Query) (params : Row) (schema : Schema) : Type 0 where
-  pub whole : IsWhole sql (length params) (understood schema sql)
+  pub whole : IsOneStatement sql (length params) (understood schema sql)
   pub typed : accepts_program schema [] body params ≡ true
 
 -- the same of a query of one table
@@ -95,8 +95,8 @@ abbrev pub by_version : List Term
 by_version = op2 (Compare Eq Binary) (col 1 1) (col 0 0) ∷ op2 (Compare Eq Binary) (col 1 2) (col 0 1) ∷ []
 
 -- the first three columns are the parameters
-abbrev pub by_place : List Term
-by_place = op2 (Compare Eq Binary) (col 1 1) (col 0 0) ∷ op2 (Compare Eq Binary) (col 1 2) (col 0 1) ∷ op2 (Compare Eq Binary) (col 1 3) (col 0 2) ∷ []
+abbrev pub by_position : List Term
+by_position = op2 (Compare Eq Binary) (col 1 1) (col 0 0) ∷ op2 (Compare Eq Binary) (col 1 2) (col 0 1) ∷ op2 (Compare Eq Binary) (col 1 3) (col 0 2) ∷ []
 
 -- the rowid is the parameter
 abbrev pub by_id : List Term

@@ -6,7 +6,7 @@ ghost use Rattle.reg_tables.specs.Inside.Forms.{key_index_of, index_of};
 
 use crate::declared::keys::are_numbers;
 use crate::declared::listed_forms::Form;
-use crate::declared::schemas::{IndexForm, Placed};
+use crate::declared::schemas::{IndexForm, TableInTree};
 use sqlite_schema::schema::Index;
 
 impl Form<Index> for IndexForm {
@@ -20,7 +20,7 @@ impl Form<Index> for IndexForm {
     }
 }
 
-fn is_key_index(index: &Index, table: &Placed) -> bool
+fn is_key_index(index: &Index, table: &TableInTree) -> bool
     ensures { IsTrue result ↔ (index.now ≡ key_index_of table.now) }
 {
     let form = table.form;

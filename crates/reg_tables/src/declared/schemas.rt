@@ -5,7 +5,7 @@ use crate::declared::forms::{
 };
 
 /// A table, and the number of the tree that has its rows. The next tree is the key's index.
-pub struct Placed {
+pub struct TableInTree {
     pub form: &'static TableForm,
     pub tree: u32,
 }
@@ -13,74 +13,74 @@ pub struct Placed {
 /// How an index is declared.
 pub enum IndexForm {
     /// The one that SQLite makes for the key of a table.
-    OfKey(Placed),
+    OfKey(TableInTree),
     /// The one on the ids of versions, in the tree of this number.
     OfIds(u32),
 }
 
 /// How a schema with no view is declared.
 pub struct SchemaForm {
-    pub tables: &'static [Placed],
+    pub tables: &'static [TableInTree],
     pub indexes: &'static [IndexForm],
 }
 
-const TEXTS_AT: Placed = Placed {
+const TEXTS_AT: TableInTree = TableInTree {
     form: &TEXTS,
     tree: 0,
 };
 
-const VERSIONS_AT: Placed = Placed {
+const VERSIONS_AT: TableInTree = TableInTree {
     form: &VERSIONS,
     tree: 2,
 };
 
-const LEVELS_AT: Placed = Placed {
+const LEVELS_AT: TableInTree = TableInTree {
     form: &LEVELS,
     tree: 4,
 };
 
-const KEPT_AT: Placed = Placed {
+const KEPT_AT: TableInTree = TableInTree {
     form: &KEPT,
     tree: 6,
 };
 
-const META_AT: Placed = Placed {
+const META_AT: TableInTree = TableInTree {
     form: &META,
     tree: 8,
 };
 
-const MODES_AT_10: Placed = Placed {
+const MODES_AT_10: TableInTree = TableInTree {
     form: &MODES,
     tree: 10,
 };
 
-const EVIDENCE_AT_12: Placed = Placed {
+const EVIDENCE_AT_12: TableInTree = TableInTree {
     form: &EVIDENCE,
     tree: 12,
 };
 
-const AGAINST_AT_14: Placed = Placed {
+const AGAINST_AT_14: TableInTree = TableInTree {
     form: &AGAINST,
     tree: 14,
 };
 
-const MODES_AT_11: Placed = Placed {
+const MODES_AT_11: TableInTree = TableInTree {
     form: &MODES,
     tree: 11,
 };
 
-const EVIDENCE_AT_13: Placed = Placed {
+const EVIDENCE_AT_13: TableInTree = TableInTree {
     form: &EVIDENCE,
     tree: 13,
 };
 
-const AGAINST_AT_15: Placed = Placed {
+const AGAINST_AT_15: TableInTree = TableInTree {
     form: &AGAINST,
     tree: 15,
 };
 
 /// Layout 1.
-pub const FIRST: SchemaForm = SchemaForm {
+pub const LAYOUT_ONE: SchemaForm = SchemaForm {
     tables: &[TEXTS_AT, VERSIONS_AT, LEVELS_AT, KEPT_AT, META_AT],
     indexes: &[
         IndexForm::OfKey(TEXTS_AT),
@@ -93,7 +93,7 @@ pub const FIRST: SchemaForm = SchemaForm {
 };
 
 /// Layout 1 without its index.
-pub const FIRST_UNINDEXED: SchemaForm = SchemaForm {
+pub const LAYOUT_ONE_UNINDEXED: SchemaForm = SchemaForm {
     tables: &[TEXTS_AT, VERSIONS_AT, LEVELS_AT, KEPT_AT, META_AT],
     indexes: &[
         IndexForm::OfKey(TEXTS_AT),
@@ -105,7 +105,7 @@ pub const FIRST_UNINDEXED: SchemaForm = SchemaForm {
 };
 
 /// Layout 2, its new tables made behind the index.
-pub const SECOND: SchemaForm = SchemaForm {
+pub const LAYOUT_TWO: SchemaForm = SchemaForm {
     tables: &[
         TEXTS_AT,
         VERSIONS_AT,
@@ -130,7 +130,7 @@ pub const SECOND: SchemaForm = SchemaForm {
 };
 
 /// Layout 2, the index made last.
-pub const SECOND_INDEXED_LAST: SchemaForm = SchemaForm {
+pub const LAYOUT_TWO_INDEXED_LAST: SchemaForm = SchemaForm {
     tables: &[
         TEXTS_AT,
         VERSIONS_AT,
@@ -155,7 +155,7 @@ pub const SECOND_INDEXED_LAST: SchemaForm = SchemaForm {
 };
 
 /// Layout 2 without its index.
-pub const SECOND_UNINDEXED: SchemaForm = SchemaForm {
+pub const LAYOUT_TWO_UNINDEXED: SchemaForm = SchemaForm {
     tables: &[
         TEXTS_AT,
         VERSIONS_AT,

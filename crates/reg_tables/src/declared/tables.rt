@@ -3,20 +3,20 @@
 ghost use Rattle.std.specs.Prelude.{◌≡◌, ◌↔◌, [], ◌∷◌, IsTrue, true, false};
 ghost use Rattle.sqlite.specs.declared.types.Value.TheVariants.{Null};
 ghost use Rattle.sqlite.specs.Collation.TheVariants.{Binary};
-ghost use Rattle.reg_tables.specs.Inside.Forms.{checks_of, column_of, table_of, untreed};
+ghost use Rattle.reg_tables.specs.Inside.Forms.{checks_of, column_of, table_of, table_without_tree};
 
 use crate::declared::checks::are_version_checks;
 use crate::declared::forms::{ColumnForm, TableForm};
 use crate::declared::keys::{are_numbers, is_name, is_one_key};
 use crate::declared::listed_forms::{Form, are_declared};
-use crate::declared::schemas::Placed;
+use crate::declared::schemas::TableInTree;
 use sqlite_items::Items;
 use sqlite_schema::code::Terms;
 use sqlite_schema::schema::{Column, Kind, Stamps, Table};
 use sqlite_value::keys::{Collation, Order};
 use sqlite_value::value::Value;
 
-impl Form<Table> for Placed {
+impl Form<Table> for TableInTree {
     ghost meaning = { table_of };
 
     fn declares(&self, item: &Table) -> bool {
@@ -51,7 +51,7 @@ fn are_checks(checks: &Terms, has_flag: bool) -> bool
 
 /// What a table has beside its tree, its checks and its references.
 fn has_form(table: &Table, form: &TableForm) -> bool
-    ensures { IsTrue result ↔ (table.now ≡ record (untreed form.now) {
+    ensures { IsTrue result ↔ (table.now ≡ record (table_without_tree form.now) {
       tree = table.now.tree;
       checks = table.now.checks;
       references = table.now.references;

@@ -6,7 +6,7 @@ use reg_testing::bodies::{
     NO_OWN, NO_OWN_MODE, NO_SUBJECT, NONE, NONE_SET, NOT_PERMITTED, READONLY, READWRITE, REUSED,
 };
 use reg_testing::{
-    Ask, OnService, Row, answered, answers, answers_in_turn, deliveries_of, in_memory,
+    Cmd, Row, ServiceTask, answer_each, answered, answers, deliveries_of, in_memory,
 };
 use sqlite::Alter;
 use std::alloc::Global;
@@ -14,78 +14,78 @@ use std::test::Fail;
 
 /// The global level.
 const GLOBAL: [Row; 14] = [
-    (None, Ask::Global, 200, BACKWARD),
+    (None, Cmd::Global, 200, BACKWARD),
     // A keyed write, its retry, and its key with another command.
-    (Some("k1"), Ask::SetGlobal("FULL"), 200, FULL_SET),
-    (Some("k1"), Ask::SetGlobal("FULL"), 200, FULL_SET),
-    (Some("k1"), Ask::SetGlobal("NONE"), 422, REUSED),
-    (None, Ask::Global, 200, FULL),
+    (Some("k1"), Cmd::SetGlobal("FULL"), 200, FULL_SET),
+    (Some("k1"), Cmd::SetGlobal("FULL"), 200, FULL_SET),
+    (Some("k1"), Cmd::SetGlobal("NONE"), 422, REUSED),
+    (None, Cmd::Global, 200, FULL),
     // A refusal, which its key keeps whatever comes between.
-    (Some("k5"), Ask::SetGlobal("full"), 422, INVALID),
-    (None, Ask::SetGlobal("NONE"), 200, NONE_SET),
-    (Some("k5"), Ask::SetGlobal("full"), 422, INVALID),
-    (Some("k5"), Ask::SetGlobal("FULL"), 422, REUSED),
+    (Some("k5"), Cmd::SetGlobal("full"), 422, INVALID),
+    (None, Cmd::SetGlobal("NONE"), 200, NONE_SET),
+    (Some("k5"), Cmd::SetGlobal("full"), 422, INVALID),
+    (Some("k5"), Cmd::SetGlobal("FULL"), 422, REUSED),
     // Two keys in turn, and a key with a read, which ignores it.
-    (Some("a"), Ask::SetGlobal("FULL"), 200, FULL_SET),
-    (Some("b"), Ask::SetGlobal("NONE"), 200, NONE_SET),
-    (Some("a"), Ask::SetGlobal("FULL"), 200, FULL_SET),
-    (Some("b"), Ask::SetGlobal("NONE"), 200, NONE_SET),
-    (Some("a"), Ask::Global, 200, NONE),
+    (Some("a"), Cmd::SetGlobal("FULL"), 200, FULL_SET),
+    (Some("b"), Cmd::SetGlobal("NONE"), 200, NONE_SET),
+    (Some("a"), Cmd::SetGlobal("FULL"), 200, FULL_SET),
+    (Some("b"), Cmd::SetGlobal("NONE"), 200, NONE_SET),
+    (Some("a"), Cmd::Global, 200, NONE),
 ];
 
 /// Levels of subjects beside it.
 const SUBJECTS: [Row; 20] = [
-    (None, Ask::LevelOf("s", false), 404, NO_OWN),
-    (None, Ask::LevelOf("s", true), 200, BACKWARD),
-    (None, Ask::SetLevel("s", "Full"), 422, INVALID),
-    (None, Ask::LevelOf("s", false), 404, NO_OWN),
+    (None, Cmd::LevelOf("s", false), 404, NO_OWN),
+    (None, Cmd::LevelOf("s", true), 200, BACKWARD),
+    (None, Cmd::SetLevel("s", "Full"), 422, INVALID),
+    (None, Cmd::LevelOf("s", false), 404, NO_OWN),
     // A keyed write and its retry, which is applied once although another write came between.
-    (Some("k1"), Ask::SetLevel("s", "FORWARD"), 200, FORWARD_SET),
-    (None, Ask::LevelOf("s", false), 200, FORWARD),
-    (None, Ask::SetLevel("s", "FULL"), 200, FULL_SET),
-    (Some("k1"), Ask::SetLevel("s", "FORWARD"), 200, FORWARD_SET),
-    (None, Ask::LevelOf("s", true), 200, FULL),
+    (Some("k1"), Cmd::SetLevel("s", "FORWARD"), 200, FORWARD_SET),
+    (None, Cmd::LevelOf("s", false), 200, FORWARD),
+    (None, Cmd::SetLevel("s", "FULL"), 200, FULL_SET),
+    (Some("k1"), Cmd::SetLevel("s", "FORWARD"), 200, FORWARD_SET),
+    (None, Cmd::LevelOf("s", true), 200, FULL),
     // A refusal, which its key keeps, and its key with a level that is one.
-    (Some("k2"), Ask::SetLevel("s", "full"), 422, INVALID),
-    (None, Ask::SetLevel("s", "FULL"), 200, FULL_SET),
-    (Some("k2"), Ask::SetLevel("s", "full"), 422, INVALID),
-    (Some("k2"), Ask::SetLevel("s", "FULL"), 422, REUSED),
+    (Some("k2"), Cmd::SetLevel("s", "full"), 422, INVALID),
+    (None, Cmd::SetLevel("s", "FULL"), 200, FULL_SET),
+    (Some("k2"), Cmd::SetLevel("s", "full"), 422, INVALID),
+    (Some("k2"), Cmd::SetLevel("s", "FULL"), 422, REUSED),
     // The first key with another subject, another level, and the global level.
-    (Some("k1"), Ask::SetLevel("t", "FORWARD"), 422, REUSED),
-    (Some("k1"), Ask::SetLevel("s", "FULL"), 422, REUSED),
-    (Some("k1"), Ask::SetGlobal("FORWARD"), 422, REUSED),
+    (Some("k1"), Cmd::SetLevel("t", "FORWARD"), 422, REUSED),
+    (Some("k1"), Cmd::SetLevel("s", "FULL"), 422, REUSED),
+    (Some("k1"), Cmd::SetGlobal("FORWARD"), 422, REUSED),
     // Another subject and the global level are as they were.
-    (None, Ask::LevelOf("t", false), 404, NO_OWN),
-    (None, Ask::SetGlobal("NONE"), 200, NONE_SET),
-    (None, Ask::LevelOf("t", true), 200, NONE),
-    (None, Ask::LevelOf("s", false), 200, FULL),
+    (None, Cmd::LevelOf("t", false), 404, NO_OWN),
+    (None, Cmd::SetGlobal("NONE"), 200, NONE_SET),
+    (None, Cmd::LevelOf("t", true), 200, NONE),
+    (None, Cmd::LevelOf("s", false), 200, FULL),
 ];
 
 /// Modes.
 const MODES: [Row; 20] = [
-    (None, Ask::GlobalMode, 200, READWRITE),
-    (None, Ask::ModeOf("s", false), 404, NO_OWN_MODE),
-    (None, Ask::ModeOf("s", true), 200, READWRITE),
+    (None, Cmd::GlobalMode, 200, READWRITE),
+    (None, Cmd::ModeOf("s", false), 404, NO_OWN_MODE),
+    (None, Cmd::ModeOf("s", true), 200, READWRITE),
     // A keyed write and its retry, which is applied once although another write came between.
-    (Some("k1"), Ask::SetMode("s", "READONLY"), 200, READONLY),
-    (None, Ask::ModeOf("s", false), 200, READONLY),
-    (None, Ask::SetMode("s", "READWRITE"), 200, READWRITE),
-    (Some("k1"), Ask::SetMode("s", "READONLY"), 200, READONLY),
-    (None, Ask::ModeOf("s", false), 200, READWRITE),
+    (Some("k1"), Cmd::SetMode("s", "READONLY"), 200, READONLY),
+    (None, Cmd::ModeOf("s", false), 200, READONLY),
+    (None, Cmd::SetMode("s", "READWRITE"), 200, READWRITE),
+    (Some("k1"), Cmd::SetMode("s", "READONLY"), 200, READONLY),
+    (None, Cmd::ModeOf("s", false), 200, READWRITE),
     // A refusal, which its key keeps, and keys with another command.
-    (Some("k2"), Ask::SetMode("s", "readonly"), 422, INVALID_MODE),
-    (Some("k2"), Ask::SetMode("s", "READONLY"), 422, REUSED),
-    (Some("k1"), Ask::SetGlobalMode("READONLY"), 422, REUSED),
+    (Some("k2"), Cmd::SetMode("s", "readonly"), 422, INVALID_MODE),
+    (Some("k2"), Cmd::SetMode("s", "READONLY"), 422, REUSED),
+    (Some("k1"), Cmd::SetGlobalMode("READONLY"), 422, REUSED),
     // All is read-only but the subject s, and then writable again.
-    (Some("k3"), Ask::SetGlobalMode("READONLY"), 200, READONLY),
-    (None, Ask::ModeOf("t", true), 200, READONLY),
-    (None, Ask::SetGlobal("NONE"), 422, NOT_PERMITTED),
-    (Some("k4"), Ask::SetLevel("t", "NONE"), 422, NOT_PERMITTED),
-    (None, Ask::SetLevel("s", "NONE"), 200, NONE_SET),
-    (None, Ask::SetGlobalMode("READWRITE"), 200, READWRITE),
-    (Some("k3"), Ask::SetGlobalMode("READONLY"), 200, READONLY),
-    (None, Ask::GlobalMode, 200, READWRITE),
-    (Some("k4"), Ask::SetLevel("t", "NONE"), 422, NOT_PERMITTED),
+    (Some("k3"), Cmd::SetGlobalMode("READONLY"), 200, READONLY),
+    (None, Cmd::ModeOf("t", true), 200, READONLY),
+    (None, Cmd::SetGlobal("NONE"), 422, NOT_PERMITTED),
+    (Some("k4"), Cmd::SetLevel("t", "NONE"), 422, NOT_PERMITTED),
+    (None, Cmd::SetLevel("s", "NONE"), 200, NONE_SET),
+    (None, Cmd::SetGlobalMode("READWRITE"), 200, READWRITE),
+    (Some("k3"), Cmd::SetGlobalMode("READONLY"), 200, READONLY),
+    (None, Cmd::GlobalMode, 200, READWRITE),
+    (Some("k4"), Cmd::SetLevel("t", "NONE"), 422, NOT_PERMITTED),
 ];
 
 const FIRST: &str = "{\"id\":1}";
@@ -98,47 +98,47 @@ const VERSIONS_OF_2: &str = "[{\"subject\":\"s\",\"version\":2}]";
 
 /// Versions of a subject.
 const VERSIONS: [Row; 20] = [
-    (Some("k1"), Ask::Register("s", "\"int\""), 200, FIRST),
-    (None, Ask::Register("s", "\"long\""), 200, "{\"id\":2}"),
+    (Some("k1"), Cmd::Register("s", "\"int\""), 200, FIRST),
+    (None, Cmd::Register("s", "\"long\""), 200, "{\"id\":2}"),
     (
         Some("k2"),
-        Ask::Register("s", "\"string\""),
+        Cmd::Register("s", "\"string\""),
         409,
         INCOMPATIBLE,
     ),
-    (None, Ask::Lookup("s", "\"int\""), 200, LOOKED_UP),
-    (None, Ask::Subjects, 200, "[\"s\"]"),
-    (None, Ask::Versions("s", false), 200, "[1,2]"),
-    (None, Ask::Version("s", "latest"), 200, LATEST),
-    (None, Ask::Text("s", "1"), 200, "\"int\""),
-    (None, Ask::ById("1"), 200, "{\"schema\":\"\\\"int\\\"\"}"),
-    (None, Ask::VersionsOfId("2"), 200, VERSIONS_OF_2),
-    (None, Ask::Types, 200, "[\"AVRO\"]"),
+    (None, Cmd::Lookup("s", "\"int\""), 200, LOOKED_UP),
+    (None, Cmd::Subjects, 200, "[\"s\"]"),
+    (None, Cmd::Versions("s", false), 200, "[1,2]"),
+    (None, Cmd::Version("s", "latest"), 200, LATEST),
+    (None, Cmd::Text("s", "1"), 200, "\"int\""),
+    (None, Cmd::ById("1"), 200, "{\"schema\":\"\\\"int\\\"\"}"),
+    (None, Cmd::VersionsOfId("2"), 200, VERSIONS_OF_2),
+    (None, Cmd::Types, 200, "[\"AVRO\"]"),
     (
         None,
-        Ask::Check("s", "2", "\"int\""),
+        Cmd::Check("s", "2", "\"int\""),
         200,
         "{\"is_compatible\":false}",
     ),
     (
         None,
-        Ask::CheckAll("s", "\"double\""),
+        Cmd::CheckAll("s", "\"double\""),
         200,
         "{\"is_compatible\":true}",
     ),
     // Each version is deleted, and a retry restores none.
-    (Some("k3"), Ask::DeleteVersion("s", "1"), 200, "1"),
-    (Some("k4"), Ask::DeleteSubject("s", false), 200, "[2]"),
-    (Some("k5"), Ask::DeleteSubject("s", true), 200, "[1,2]"),
-    (Some("k1"), Ask::Register("s", "\"int\""), 200, FIRST),
+    (Some("k3"), Cmd::DeleteVersion("s", "1"), 200, "1"),
+    (Some("k4"), Cmd::DeleteSubject("s", false), 200, "[2]"),
+    (Some("k5"), Cmd::DeleteSubject("s", true), 200, "[1,2]"),
+    (Some("k1"), Cmd::Register("s", "\"int\""), 200, FIRST),
     (
         Some("k2"),
-        Ask::Register("s", "\"string\""),
+        Cmd::Register("s", "\"string\""),
         409,
         INCOMPATIBLE,
     ),
-    (Some("k4"), Ask::DeleteSubject("s", false), 200, "[2]"),
-    (None, Ask::Versions("s", true), 404, NO_SUBJECT),
+    (Some("k4"), Cmd::DeleteSubject("s", false), 200, "[2]"),
+    (None, Cmd::Versions("s", true), 404, NO_SUBJECT),
 ];
 
 /// How deliveries reach a service.
@@ -156,14 +156,14 @@ struct Deliver<'a> {
     list: &'a [Delivery<'static>],
 }
 
-impl<'a> OnService for Deliver<'a> {
+impl<'a> ServiceTask for Deliver<'a> {
     fn work<S: Alter + Drop>(
         &mut self,
         alloc: Global,
         service: &mut Service<S>,
     ) -> Result<(), Fail> {
         let replies = match self.way {
-            Way::InTurn => answers_in_turn(alloc, service, self.list)?,
+            Way::InTurn => answer_each(alloc, service, self.list)?,
             Way::InOneRun => answers(service, self.list)?,
         };
         if answered(&replies, self.rows)? < self.rows.len() {

@@ -3,7 +3,7 @@
 
 use super::accepting::{accept, accept_by};
 use reg_service::Service;
-use reg_testing::{FULL_SET, GET, IS_BACKWARD, IS_FULL, OnService, SET_FULL, in_memory};
+use reg_testing::{FULL_SET, GET, IS_BACKWARD, IS_FULL, SET_FULL, ServiceTask, in_memory};
 use sqlite::Alter;
 use std::alloc::Global;
 use std::cell::Cell;
@@ -108,7 +108,7 @@ struct Serve<'a> {
     counts: &'a [u32],
 }
 
-impl<'a> OnService for Serve<'a> {
+impl<'a> ServiceTask for Serve<'a> {
     fn work<S: Alter + Drop>(
         &mut self,
         alloc: Global,

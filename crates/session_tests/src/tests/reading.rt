@@ -4,7 +4,7 @@
 use super::accepting::accept_by;
 use super::sessions::served;
 use reg_service::Service;
-use reg_testing::{GET, IS_BACKWARD, OnService, in_memory, joined};
+use reg_testing::{GET, IS_BACKWARD, ServiceTask, in_memory, joined};
 use sqlite::Alter;
 use std::alloc::Global;
 use std::cell::Cell;
@@ -154,7 +154,7 @@ impl<'a> Serve<'a> {
     }
 }
 
-impl<'a> OnService for Serve<'a> {
+impl<'a> ServiceTask for Serve<'a> {
     fn work<S: Alter + Drop>(
         &mut self,
         alloc: Global,

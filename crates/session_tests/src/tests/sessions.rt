@@ -3,7 +3,7 @@
 use reg_http::{Ended, serve};
 use reg_service::Service;
 use reg_testing::{
-    FULL_KEPT, FULL_SET, Failing, OnService, Pieces, SET_FULL, in_memory, joined, kept_in_memory,
+    FULL_KEPT, FULL_SET, Failing, Pieces, SET_FULL, ServiceTask, in_memory, joined, kept_in_memory,
 };
 use sqlite::Alter;
 use std::alloc::Global;
@@ -103,7 +103,7 @@ struct Sent<'a> {
     over: &'a [Connection<'a>],
 }
 
-impl<'a> OnService for Sent<'a> {
+impl<'a> ServiceTask for Sent<'a> {
     fn work<S: Alter + Drop>(
         &mut self,
         alloc: Global,

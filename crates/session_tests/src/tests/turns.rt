@@ -3,7 +3,7 @@
 use super::sessions::{CHUNKED, Due, NOT_SUPPORTED, is_due, served};
 use reg_http::Ended;
 use reg_service::Service;
-use reg_testing::{FULL_SET, OnService, SET_FULL, in_memory, joined};
+use reg_testing::{FULL_SET, SET_FULL, ServiceTask, in_memory, joined};
 use sqlite::Alter;
 use std::alloc::Global;
 use std::cell::Cell;
@@ -60,7 +60,7 @@ struct TakeTurns<'a> {
     due: Due<'a>,
 }
 
-impl<'a> OnService for TakeTurns<'a> {
+impl<'a> ServiceTask for TakeTurns<'a> {
     fn work<S: Alter + Drop>(
         &mut self,
         alloc: Global,

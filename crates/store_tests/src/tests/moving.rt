@@ -5,7 +5,7 @@
 use super::faults::Fault;
 use reg_migrate::{MigrateError, Report, migrate};
 use reg_store::StoreError;
-use reg_testing::{OnDatabase, contents, copy, first_registry, joined, on_disk, refused};
+use reg_testing::{DatabaseTask, contents, copy, joined, layout1_registry, on_disk, refused};
 use sqlite::{Alter, Connection, Files};
 use sqlite_disk::{Fuse, Memory};
 use std::alloc::Global;
@@ -50,7 +50,7 @@ struct Stop {
     is_moved: bool,
 }
 
-impl OnDatabase for Stop {
+impl DatabaseTask for Stop {
     fn work<S: Alter + Drop>(
         &mut self,
         alloc: Global,
@@ -74,7 +74,7 @@ struct Again {
     left: String,
 }
 
-impl OnDatabase for Again {
+impl DatabaseTask for Again {
     fn work<S: Alter + Drop>(
         &mut self,
         alloc: Global,
@@ -139,7 +139,7 @@ struct OldRegistry {
 
 /// The registry.
 fn old_registry(rt: &impl Abort, alloc: Global) -> Result<OldRegistry, Fail> {
-    let files = first_registry(alloc, FILLED)?;
+    let files = layout1_registry(alloc, FILLED)?;
     let whole = moved_again(alloc, copy(alloc, &files, u64::MAX, u64::MAX)?)?;
     whole.keeps_rows(rt, alloc)?;
     Ok(OldRegistry { files, whole })

@@ -1,8 +1,8 @@
 //! Lookups of versions take few steps, however many versions the subject and the id have.
 
 use reg_tables::{
-    Idle, create_layout_two, last_live_version_of, last_version_of, last_version_with_id, put_text,
-    put_version, some_versions_of_id, version_of, versions_of,
+    AutocommitConnection, create_layout_two, last_live_version_of, last_version_of,
+    last_version_with_id, put_text, put_version, some_versions_of_id, version_of, versions_of,
 };
 use sqlite::{Alter, Connection, Error, ErrorCode, Transaction};
 use std::alloc::Global;
@@ -59,7 +59,7 @@ fn fill<S: Alter>(alloc: Global, connection: &mut Connection<S>) -> Result<(), F
 }
 
 /// Looks up versions of s by their numbers.
-fn look_up_numbers<S: Alter>(db: &mut Idle<S>) -> Result<(), Fail> {
+fn look_up_numbers<S: Alter>(db: &mut AutocommitConnection<S>) -> Result<(), Fail> {
     last_version_of(db, "s")?;
     last_live_version_of(db, "s")?;
     version_of(db, "s", 1)?;
@@ -67,7 +67,7 @@ fn look_up_numbers<S: Alter>(db: &mut Idle<S>) -> Result<(), Fail> {
 }
 
 /// Looks up the last version by its id, and an id that few versions have.
-fn look_up_ids<S: Alter>(alloc: Global, db: &mut Idle<S>) -> Result<(), Fail> {
+fn look_up_ids<S: Alter>(alloc: Global, db: &mut AutocommitConnection<S>) -> Result<(), Fail> {
     last_version_with_id(db, "s", VERSIONS, false)?;
     some_versions_of_id(alloc, db, VERSIONS)?;
     some_versions_of_id(alloc, db, OTHER)?;
@@ -76,7 +76,7 @@ fn look_up_ids<S: Alter>(alloc: Global, db: &mut Idle<S>) -> Result<(), Fail> {
 
 /// Looks up an id that many versions have. The same number of steps isn't enough to list the
 /// versions of s.
-fn look_up_many<S: Alter>(alloc: Global, db: &mut Idle<S>) -> Result<(), Fail> {
+fn look_up_many<S: Alter>(alloc: Global, db: &mut AutocommitConnection<S>) -> Result<(), Fail> {
     some_versions_of_id(alloc, db, 1)?;
     match versions_of(alloc, db, "s") {
         Ok(_) => Err("the limit is not kept".into()),
@@ -95,7 +95,7 @@ fn lookups_take_few_steps(rt: HostRuntime) -> Result<(), Fail> {
     if !connection.is_autocommit() {
         return Err("a transaction is open".into());
     }
-    let mut db = Idle { conn: connection };
+    let mut db = AutocommitConnection { conn: connection };
     look_up_numbers(&mut db)?;
     look_up_ids(alloc, &mut db)?;
     db.conn.set_step_limit(Some(70));

@@ -6,7 +6,7 @@ use super::faults::Fault;
 use reg_core::{OutOfMemory, Reply};
 use reg_service::Service;
 use reg_testing::{
-    OnDatabase, Row, WRITES, answered, answers, answers_in_turn, connection_of, contents, created,
+    DatabaseTask, Row, WRITES, answer_each, answered, answers, connection_of, contents, created,
     deliveries_of, empty_disk, on_disk, opened,
 };
 use sqlite::{Alter, Connection, Files};
@@ -31,7 +31,7 @@ fn replies<S: Alter + Drop>(
 ) -> Result<Vec<Reply>, OutOfMemory> {
     let list = deliveries_of(alloc, rows)?;
     match way {
-        Way::InTurn => answers_in_turn(alloc, service, &list),
+        Way::InTurn => answer_each(alloc, service, &list),
         Way::InOneRun => answers(service, &list),
     }
 }
@@ -61,7 +61,7 @@ impl Stop {
     }
 }
 
-impl OnDatabase for Stop {
+impl DatabaseTask for Stop {
     fn work<S: Alter + Drop>(
         &mut self,
         alloc: Global,
@@ -105,7 +105,7 @@ impl Again {
     }
 }
 
-impl OnDatabase for Again {
+impl DatabaseTask for Again {
     fn work<S: Alter + Drop>(
         &mut self,
         alloc: Global,

@@ -10,5 +10,5 @@ use Rattle.avro_nodes.proofs.identity.identity_of.Goals as goal
 pub returns : goal.returns
 returns c =
     let value = identity_value (nodes_view c.args.nodes.now) in
-    let written = subst (λ (ts : List Token). WritesValue value ts c.write_at.new.out) c.in_ok-out.ensures c.in_ok-write_at.ensures.value.0 in
-    record { text = λ bare. c.into_string.ensures.text ∙ print_is_compact value c.write_at.new.out written c.into_string.ensures.reads_back (identity_has_no_float (nodes_view c.args.nodes.now) bare) }
+    let written = subst (λ (ts : List Token). WritesValue value ts c.write_type.new.out) c.in_ok-out.ensures c.in_ok-write_type.ensures.value.0 in
+    record { text = λ bare. c.into_string.ensures.text ∙ print_is_compact value c.write_type.new.out written c.into_string.ensures.reads_back (identity_has_no_float (nodes_view c.args.nodes.now) bare) }

@@ -1,5 +1,5 @@
 use Rattle.std.proofs.Common.{inl, inr, arith, ◌∙◌}
-use Rattle.avro_nodes.proofs.NameLemmas.{Stops, stop_boundary, part_behind}
+use Rattle.avro_nodes.proofs.NameLemmas.{Stops, stop_boundary, part_after_dot}
 use Rattle.avro_nodes.proofs.names.last_part.Goals as goal
 use Rattle.avro_nodes.proofs.names.last_part.Goals.{then-loop-start-test+else-bytes-start-ne46, else-loop-start-test}
 
@@ -17,4 +17,4 @@ returns c =
       | then-loop-start-test+else-bytes-start-ne46 w ↦ inr (w.loop-start-test.true, rw c.as_bytes-bytes.ensures.value at w.if-bytes-start-ne46.false)
       | else-loop-start-test w ↦ inl (let done = w.loop-start-test.false in omega arith)
     ] in
-    c.range_from.ensures.value ∙ part_behind c.args.name.now c.loop-start.start (rw c.as_bytes-bytes.ensures.value at c.loop-start.invariant.within) (rw c.as_bytes-bytes.ensures.value at c.loop-start.invariant.passed) stops
+    c.range_from.ensures.value ∙ part_after_dot c.args.name.now c.loop-start.start (rw c.as_bytes-bytes.ensures.value at c.loop-start.invariant.within) (rw c.as_bytes-bytes.ensures.value at c.loop-start.invariant.passed) stops

@@ -7,7 +7,7 @@ use Rattle.avro_nodes.proofs.plain.next_outside.Goals as goal
 pub returns-then-bytes-at-eq34-clause-pieces : goal.returns-then-bytes-at-eq34-clause-pieces
 returns-then-bytes-at-eq34-clause-pieces c =
     let quote : (get_or c.args.bytes.now c.args.at 0 == 34) ≡ true = grind (arith, nat_tests) in
-    string_skipped c.args.bytes.now c.args.at c.string_end.result c.requires.0 c.requires.1 quote c.string_end.ensures.place.0 c.string_end.ensures.pieces
+    string_skipped c.args.bytes.now c.args.at c.string_end.result c.requires.0 c.requires.1 quote c.string_end.ensures.bounds.0 c.string_end.ensures.pieces
 
 pub returns-else-bytes-at-eq34-clause-pieces : goal.returns-else-bytes-at-eq34-clause-pieces
 returns-else-bytes-at-eq34-clause-pieces c =

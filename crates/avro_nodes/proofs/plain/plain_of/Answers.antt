@@ -6,15 +6,15 @@ use Rattle.avro_nodes.proofs.plain.plain_of.Goals as goal
 
 pub loop-at-init : goal.loop-at-init
 loop-at-init c = record {
-  text = rw (c.in_ok-push_str.ensures.bytes, c.in_ok-out.ensures.bytes, c.range.ensures.value, front_range c.args.text.now c.kept_up_to-at.result) c.kept_up_to-at.ensures.kept;
-  place = c.kept_up_to-at.ensures.place;
-  cut = c.kept_up_to-at.ensures.cut;
+  text = rw (c.in_ok-push_str.ensures.bytes, c.in_ok-out.ensures.bytes, c.range.ensures.value, front_range c.args.text.now c.unchanged_len-at.result) c.unchanged_len-at.ensures.kept;
+  bounds = c.unchanged_len-at.ensures.bounds;
+  cut = c.unchanged_len-at.ensures.cut;
 }
 
 pub range-requires-in-loop-at-clause-end_boundary : goal.range-requires-in-loop-at-clause-end_boundary
 range-requires-in-loop-at-clause-end_boundary c =
     let same = c.as_bytes-bytes.ensures.value in
-    run_cut c.args.text.now c.run_start-start.result c.run_end-end.result c.utf8.text (rw same at c.run_start-start.ensures.place.1) (rw same at c.run_start-start.ensures.found) (rw same at c.run_end-end.ensures)
+    run_cut c.args.text.now c.run_start-start.result c.run_end-end.result c.utf8.text (rw same at c.run_start-start.ensures.bounds.1) (rw same at c.run_start-start.ensures.found) (rw same at c.run_end-end.ensures)
 
 pub returns-in_default : goal.returns-in_default
 returns-in_default c =
@@ -30,10 +30,10 @@ loop-at-preserved c =
     turn_done c.args.text.now (string_bytes c.loop-at.out) (plain c.args.text.now) c.loop-at.at c.run_start-start.result c.run_end-end.result
     c.loop-at.invariant.text (rw same at c.run_start-start.ensures.pieces) (rw same at c.run_start-start.ensures.found) (rw same at c.run_end-end.ensures)
     c.in-Some.number.now (rw c.range-in-loop-at.ensures.value at c.in-Some.ensures) in
-    let cut = run_cut c.args.text.now c.run_start-start.result c.run_end-end.result c.utf8.text (rw same at c.run_start-start.ensures.place.1) (rw same at c.run_start-start.ensures.found) (rw same at c.run_end-end.ensures) in
+    let cut = run_cut c.args.text.now c.run_start-start.result c.run_end-end.result c.utf8.text (rw same at c.run_start-start.ensures.bounds.1) (rw same at c.run_start-start.ensures.found) (rw same at c.run_end-end.ensures) in
     record {
       text = rw (c.in_ok-push_str-3.ensures.bytes, c.in_ok-push_str-2.ensures.bytes, c.range-in-loop-at-2.ensures.value) done;
-      place = cut.0;
+      bounds = cut.0;
       cut = cut;
     }
 

@@ -7,7 +7,7 @@ abbrev pub invariant-loop-at : goal.invariant-loop-at
 invariant-loop-at l =
     record {
       text : before (string_bytes l.out) (joined (pieces Outside (drop l.at l.text))) ≡ plain l.text;
-      place : l.at ≤ length l.text;
+      bounds : l.at ≤ length l.text;
       cut : IsCharBoundary l.text l.at;
     }
 

@@ -5,12 +5,12 @@ use Rattle.avro_nodes.proofs.plain.run_start.Goals as goal
 
 pub loop-at-init : goal.loop-at-init
 loop-at-init c = record {
-  place = (omega arith, omega arith);
+  bounds = (omega arith, omega arith);
   skipped = nothing_skipped c.args.bytes.now c.args.from Outside;
 }
 
 pub loop-at-preserved : goal.loop-at-preserved
 loop-at-preserved c = record {
-  place = (omega arith, omega arith);
-  skipped = c.loop-at.invariant.skipped ∙ joined_more Outside Outside c.args.bytes.now c.args.from c.loop-at.at c.next_outside-at.result c.loop-at.invariant.place.0 (omega arith) c.next_outside-at.ensures.pieces;
+  bounds = (omega arith, omega arith);
+  skipped = c.loop-at.invariant.skipped ∙ joined_more Outside Outside c.args.bytes.now c.args.from c.loop-at.at c.next_outside-at.result c.loop-at.invariant.bounds.0 (omega arith) c.next_outside-at.ensures.pieces;
 }

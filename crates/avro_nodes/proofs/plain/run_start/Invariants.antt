@@ -6,7 +6,7 @@ use Rattle.avro_nodes.proofs.plain.run_start.Given as goal
 abbrev pub invariant-loop-at : goal.invariant-loop-at
 invariant-loop-at l =
     record {
-      place : (l.from ≤ l.at) × (l.at ≤ length l.bytes);
+      bounds : (l.from ≤ l.at) × (l.at ≤ length l.bytes);
       skipped : joined (pieces Outside (drop l.from l.bytes)) ≡ before (slice_range l.bytes l.from l.at) (joined (pieces Outside (drop l.at l.bytes)));
     }
 

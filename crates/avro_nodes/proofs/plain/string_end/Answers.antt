@@ -9,20 +9,20 @@ returns-then-bytes-at-eq34-clause-pieces c =
     let bs = c.args.bytes.now in
     let at = c.loop-at.at in
     c.loop-at.invariant.skipped
-    ∙ joined_more Inside Outside bs c.args.from at (at + 1) c.loop-at.invariant.place.0 (omega arith)
+    ∙ joined_more Inside Outside bs c.args.from at (at + 1) c.loop-at.invariant.bounds.0 (omega arith)
     (inside_next bs at Inside Outside c.loop-at-test.true refl (quote_ends (get_or bs at 0) c.if-bytes-at-eq34.true))
 
 pub loop-at-preserved : goal.loop-at-preserved
 loop-at-preserved c =
     let bs = c.args.bytes.now in
-    let behind = c.escape_end.result in
-    let next = c.next_mark-at-in-loop-at.result in
+    let after_escape = c.escape_end.result in
+    let next = c.next_quote_or_backslash-at-in-loop-at.result in
     record {
-      place = (omega arith, omega arith);
-      found = c.next_mark-at-in-loop-at.ensures.found;
+      bounds = (omega arith, omega arith);
+      found = c.next_quote_or_backslash-at-in-loop-at.ensures.found;
       skipped = c.loop-at.invariant.skipped
-          ∙ joined_more Inside Inside bs c.args.from c.loop-at.at behind c.loop-at.invariant.place.0 (omega arith) c.escape_end.ensures.pieces
-          ∙ joined_more Inside Inside bs c.args.from behind next (omega arith) (omega arith) c.next_mark-at-in-loop-at.ensures.pieces;
+          ∙ joined_more Inside Inside bs c.args.from c.loop-at.at after_escape c.loop-at.invariant.bounds.0 (omega arith) c.escape_end.ensures.pieces
+          ∙ joined_more Inside Inside bs c.args.from after_escape next (omega arith) (omega arith) c.next_quote_or_backslash-at-in-loop-at.ensures.pieces;
     }
 
 pub returns-clause-pieces : goal.returns-clause-pieces

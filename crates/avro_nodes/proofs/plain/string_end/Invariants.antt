@@ -6,7 +6,7 @@ use Rattle.avro_nodes.proofs.plain.string_end.Given as goal
 abbrev pub invariant-loop-at : goal.invariant-loop-at
 invariant-loop-at l =
     record {
-      place : (l.from ≤ l.at) × (l.at ≤ length l.bytes);
+      bounds : (l.from ≤ l.at) × (l.at ≤ length l.bytes);
       found : l.at < length l.bytes → (get_or l.bytes l.at 0 ≡ 34) ⊎ (get_or l.bytes l.at 0 ≡ 92);
       skipped : joined (pieces Inside (drop l.from l.bytes)) ≡ before (slice_range l.bytes l.from l.at) (joined (pieces Inside (drop l.at l.bytes)));
     }

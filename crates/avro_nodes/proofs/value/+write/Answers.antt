@@ -6,7 +6,7 @@ use Rattle.serde_json.specs.View.{view, number_view, items_view, members_view}
 use Rattle.serde_json.specs.Written.{WritesValue, WritesItems}
 use Rattle.serde_json.specs.declared.value.Value.{Value, the_lemmas}
 use Rattle.serde_json.proofs.Views.{Entry, view-Array, view-Object}
-use Rattle.avro_nodes.specs.Inside.Objects.{Ends}
+use Rattle.avro_nodes.specs.Inside.Objects.{EndsObject}
 use Rattle.avro_nodes.proofs.Written.{items_ended, items_on, array_ended, members_ended, members_on, object_ended, ordered_entries, null_written, boolean_written, number_written, string_written}
 use Rattle.avro_nodes.proofs.value.+write.Goals as goal
 
@@ -32,14 +32,14 @@ pub write_object-loop-name-preserved : goal.write_object-loop-name-preserved
 write_object-loop-name-preserved t c = λ end rest.
     let l = c.loop-name in
     let named = rw c.as_str.ensures.value at (c.in_ok-write_member.ensures (members_view c.next.new.self) end rest) in
-    l.invariant end (subst (λ (es : List Entry). Ends (members_view es) l.out end) (sym c.in-Some.ensures.steps) named)
+    l.invariant end (subst (λ (es : List Entry). EndsObject (members_view es) l.out end) (sym c.in-Some.ensures.steps) named)
 
 pub write_object-returns : goal.write_object-returns
 write_object-returns t c =
     let l = c.loop-name in
     on_ok_weaker c.end_object.result (λ e.
     object_ended _ _ _ _ c.in_ok-begin_object.ensures
-    (l.invariant _ (subst (λ (es : List Entry). Ends (members_view es) l.out c.end_object.new.self) (sym c.in-None.ensures.steps.0) (members_ended _ _ e)))
+    (l.invariant _ (subst (λ (es : List Entry). EndsObject (members_view es) l.out c.end_object.new.self) (sym c.in-None.ensures.steps.0) (members_ended _ _ e)))
     (ordered_entries _ c.iter-name-items.ensures.ordered)) c.end_object.ensures
 
 pub write_value-returns-in-Null : goal.write_value-returns-in-Null

@@ -2,10 +2,10 @@ use Rattle.std.proofs.Common.{true≢false, ℕ, List, sym, subst}
 use Rattle.std.specs.List.Sorted.{IsStrictlyIncreasing}
 use Rattle.std.proofs.lemmas.Option.{slice_get_within}
 use Rattle.avro_nodes.specs.Nodes.{node_view}
-use Rattle.avro_schema.specs.Index.{AreRisingRanks}
+use Rattle.avro_schema.specs.Index.{AreSortedRanks}
 use Rattle.avro_resolve.specs.Inside.Agreeing.{symbol_ranks, symbols_of}
 use Rattle.avro_resolve.specs.Inside.Sides.{columns, names_of, rows}
-use Rattle.avro_resolve.proofs.Meeting.{none_known, ranks_tell}
+use Rattle.avro_resolve.proofs.RankMaps.{none_known, ranks_decide}
 use Rattle.avro_resolve.proofs.Matching.{node_ranks, symbols_ranked}
 use Rattle.avro_resolve.proofs.agreeing.agree.Goals as goal
 
@@ -21,8 +21,8 @@ alike-requires c = c.names_match.ensures (node_view c.args.a.now) (node_view c.a
 pub returns-in-Some : goal.returns-in-Some
 returns-in-Some c = rw c.in-Some.is at c.alike.ensures
 
-pub met_symbols-requires-clause-i_in : goal.met_symbols-requires-clause-i_in
-met_symbols-requires-clause-i_in c = slice_get_within (rows c.args.sides.now) c.args.at.0 (node_view c.args.a.now) c.requires.a_at
+pub mapped_symbols-requires-clause-i_in : goal.mapped_symbols-requires-clause-i_in
+mapped_symbols-requires-clause-i_in c = slice_get_within (rows c.args.sides.now) c.args.at.0 (node_view c.args.a.now) c.requires.a_at
 
 pub ranks-requires-clause-within : goal.ranks-requires-clause-within
 ranks-requires-clause-within c = slice_get_within (columns c.args.sides.now) c.args.at.1 (node_view c.args.b.now) c.requires.b_at
@@ -32,7 +32,7 @@ has_all-requires c =
     let r = names_of c.args.sides.now.reader in let a = node_view c.args.a.now in let b = node_view c.args.b.now in
     let own = rw c.in-Some-2.is at (c.in_ok-symbols.ensures a c.requires.a_at) in
     record {
-      list = (subst (λ (xs : List ℕ). AreRisingRanks r (symbols_of b) xs) (sym c.symbols_of.ensures) (symbols_ranked r b c.ranks.result.now (c.ranks.ensures b c.requires.b_at))).rise;
+      list = (subst (λ (xs : List ℕ). AreSortedRanks r (symbols_of b) xs) (sym c.symbols_of.ensures) (symbols_ranked r b c.ranks.result.now (c.ranks.ensures b c.requires.b_at))).rise;
       numbers = subst IsStrictlyIncreasing (sym c.deref.ensures.value) own.rise;
     }
 
@@ -41,11 +41,11 @@ returns-in-Some-2 c =
     let r = names_of c.args.sides.now.reader in let b = node_view c.args.b.now in let a = node_view c.args.a.now in
     let same = rw c.in_default.is at c.alike.ensures in
     let known = c.symbols_of.result.now in
-    let ranked = subst (λ (xs : List ℕ). AreRisingRanks r (symbols_of b) xs) (sym c.symbols_of.ensures) (symbols_ranked r b c.ranks.result.now (c.ranks.ensures b c.requires.b_at)) in
+    let ranked = subst (λ (xs : List ℕ). AreSortedRanks r (symbols_of b) xs) (sym c.symbols_of.ensures) (symbols_ranked r b c.ranks.result.now (c.ranks.ensures b c.requires.b_at)) in
     let own = rw c.in-Some-2.is at (c.in_ok-symbols.ensures a c.requires.a_at) in
-    let told = ranks_tell r (symbols_of a) (symbols_of b) known ranked c.in-Some-2.symbols.items c.requires.sides.reader.index.names.rise own in
+    let decided = ranks_decide r (symbols_of a) (symbols_of b) known ranked c.in-Some-2.symbols.items c.requires.sides.reader.index.names.rise own in
     let has = rw c.deref.ensures.value at c.has_all.ensures in
-    ((λ yes. same.1 (told.0 (has.0 yes))), (λ both. has.1 (told.1 (same.0 both))))
+    ((λ yes. same.1 (decided.0 (has.0 yes))), (λ both. has.1 (decided.1 (same.0 both))))
 
 pub returns-in-None : goal.returns-in-None
 returns-in-None c =

@@ -7,7 +7,7 @@ use Rattle.std.proofs.lemmas.List.Elements.{All-contains_itself, All-more, Conta
 use Rattle.std.proofs.lemmas.List.Kept.{AllPairs-from_increasing}
 use Rattle.avro_resolve.proofs.Merges.{not_there, passed, rises}
 use Rattle.avro_resolve.proofs.agreeing.has_numbered.Goals as goal
-use Rattle.avro_resolve.proofs.agreeing.has_numbered.Goals.{then-boxes-known, else-boxes-known}
+use Rattle.avro_resolve.proofs.agreeing.has_numbered.Goals.{then-slots-known, else-slots-known}
 
 pub returns-then-eq : goal.returns-then-eq
 returns-then-eq c =
@@ -17,32 +17,32 @@ returns-then-eq c =
 
 pub loop-known-preserved : goal.loop-known-preserved
 loop-known-preserved c =
-    let list = c.args.list.now in let symbols = c.args.symbols.now in let boxes = c.args.boxes.now in let i = c.loop-known.known-index in let next = c.loop-known.next in let met = next - 1 in
-    let inv = c.loop-known.invariant in let one : next ≡ met + 1 = (let b = inv.begun in omega arith) in let here = get_or list i 0 in
-    elim c.if-boxes-known.branch [
-      | then-boxes-known w ↦ (
-          let at = c.requires.numbered.only here met (w.if-boxes-known.true ∙ one) in
-          let within : met < length symbols = at.1 in
-          let same : get_or symbols met 0 ≡ here = at.2 in
+    let list = c.args.list.now in let symbols = c.args.symbols.now in let slots = c.args.slots.now in let i = c.loop-known.known-index in let next = c.loop-known.next in let matched_count = next - 1 in
+    let inv = c.loop-known.invariant in let one : next ≡ matched_count + 1 = (let b = inv.begun in omega arith) in let here = get_or list i 0 in
+    elim c.if-slots-known.branch [
+      | then-slots-known w ↦ (
+          let at = c.requires.numbered.only here matched_count (w.if-slots-known.true ∙ one) in
+          let within : matched_count < length symbols = at.1 in
+          let same : get_or symbols matched_count 0 ≡ here = at.2 in
           rw w.next-is (record {
             begun = omega arith;
             within = omega (arith, within, one);
-            seen = subst (λ (n : ℕ). All (Contains list) (take n symbols)) (let n : met + 1 ≡ (next + 1) - 1 = omega (arith, one) in n) (All-more (Contains list) symbols met 0 within inv.seen (subst (λ (n : ℕ). Contains list n) (sym same) (Contains-get_or list i 0 c.loop-known-test.true)));
-            before = λ all k m lk later lm. passed list symbols i met (inv.before all) (met + 1) (omega arith) (λ m later lm. let b = AllPairs-from_increasing symbols c.requires.rise met m 0 (omega arith) lm in omega (arith, same, b)) k m lk (omega (arith, later, one)) lm;
+            seen = subst (λ (n : ℕ). All (Contains list) (take n symbols)) (let n : matched_count + 1 ≡ (next + 1) - 1 = omega (arith, one) in n) (All-more (Contains list) symbols matched_count 0 within inv.seen (subst (λ (n : ℕ). Contains list n) (sym same) (Contains-get_or list i 0 c.loop-known-test.true)));
+            before = λ all k m lk later lm. passed list symbols i matched_count (inv.before all) (matched_count + 1) (omega arith) (λ m later lm. let b = AllPairs-from_increasing symbols c.requires.rise matched_count m 0 (omega arith) lm in omega (arith, same, b)) k m lk (omega (arith, later, one)) lm;
           }))
-      | else-boxes-known w ↦ rw w.next-is (record {
+      | else-slots-known w ↦ rw w.next-is (record {
         begun = inv.begun;
         within = inv.within;
         seen = inv.seen;
-        before = λ all. passed list symbols i met (inv.before all) met (omega arith) (λ m later lm.
-            (let within : met < length symbols = omega (arith, later, lm) in
-            let up = rises symbols c.requires.rise met m later lm in
-            let other : get_or symbols met 0 ≡ here → ⊥ = λ e. w.if-boxes-known.false (ap (λ (x : ℕ). get_or boxes x 0) (sym e) ∙ c.requires.numbered.each met (omega arith) within ∙ sym one) in
-            elim (cases_lt here (get_or symbols met 0)) [
-              | inl g ↦ omega (arith, g, up)
-              | inr g ↦ elim (cases_lt (get_or symbols met 0) here) [
-                | inl less ↦ absurd (not_there list symbols i met (inv.before all) c.requires.list within (λ _. less) (all met 0 within))
-                | inr more ↦ (let e : get_or symbols met 0 ≡ here = omega (arith, g, more) in absurd (other e))
+        before = λ all. passed list symbols i matched_count (inv.before all) matched_count (omega arith) (λ m later lm.
+            (let within : matched_count < length symbols = omega (arith, later, lm) in
+            let one_if = rises symbols c.requires.rise matched_count m later lm in
+            let other : get_or symbols matched_count 0 ≡ here → ⊥ = λ e. w.if-slots-known.false (ap (λ (x : ℕ). get_or slots x 0) (sym e) ∙ c.requires.numbered.each matched_count (omega arith) within ∙ sym one) in
+            elim (cases_lt here (get_or symbols matched_count 0)) [
+              | inl g ↦ omega (arith, g, one_if)
+              | inr g ↦ elim (cases_lt (get_or symbols matched_count 0) here) [
+                | inl less ↦ absurd (not_there list symbols i matched_count (inv.before all) c.requires.list within (λ _. less) (all matched_count 0 within))
+                | inr more ↦ (let e : get_or symbols matched_count 0 ≡ here = omega (arith, g, more) in absurd (other e))
               ]
             ]));
       })
@@ -50,11 +50,11 @@ loop-known-preserved c =
 
 pub returns : goal.returns
 returns c =
-    let list = c.args.list.now in let symbols = c.args.symbols.now in let next = c.loop-known.next in let met = next - 1 in let inv = c.loop-known.invariant in
-    let one : next ≡ met + 1 = (let b = inv.begun in omega arith) in (
-      (λ h. let t = ltb-true (length symbols) next h in let l : length symbols ≤ met = omega (arith, t, one) in subst (λ (xs : List ℕ). All (Contains list) xs) (take_all met symbols l) inv.seen),
-      (λ all. elim (cases_lt met (length symbols)) [
-        | inl g ↦ absurd (not_there list symbols c.loop-known.known-index met (inv.before all) c.requires.list g (λ l. absurd (omega (arith, l, c.loop-known-test.false))) (all met 0 g))
+    let list = c.args.list.now in let symbols = c.args.symbols.now in let next = c.loop-known.next in let matched_count = next - 1 in let inv = c.loop-known.invariant in
+    let one : next ≡ matched_count + 1 = (let b = inv.begun in omega arith) in (
+      (λ h. let t = ltb-true (length symbols) next h in let l : length symbols ≤ matched_count = omega (arith, t, one) in subst (λ (xs : List ℕ). All (Contains list) xs) (take_all matched_count symbols l) inv.seen),
+      (λ all. elim (cases_lt matched_count (length symbols)) [
+        | inl g ↦ absurd (not_there list symbols c.loop-known.known-index matched_count (inv.before all) c.requires.list g (λ l. absurd (omega (arith, l, c.loop-known-test.false))) (all matched_count 0 g))
         | inr g ↦ lt-ltb (length symbols) next (omega (arith, g, one))
       ]),
     )

@@ -10,7 +10,7 @@ use Rattle.std.proofs.lemmas.List.Sorted.{Contains-permutation, IsPermutation-sy
 use Rattle.avro_nodes.specs.Nodes.{node_view}
 use Rattle.avro_resolve.specs.declared.links.Link.{Link}
 use Rattle.avro_resolve.specs.declared.readable.Aliased.{Aliased}
-use Rattle.avro_resolve.specs.Inside.Askers.{HasUnions, IsPlaceLinked, ranks_of}
+use Rattle.avro_resolve.specs.Inside.Referrers.{HasUnions, IsPlaceLinked, ranks_of}
 use Rattle.avro_resolve.specs.Inside.Sides.{names_of, nodes_of}
 use Rattle.avro_resolve.specs.Inside.Lists.{list_at}
 use Rattle.avro_resolve.proofs.LinkLemmas.{of_node_on, place_on}
@@ -29,8 +29,8 @@ loop-i-init c = record {
 pub loop-i-preserved : goal.loop-i-preserved
 loop-i-preserved c =
     let inv = c.loop-i.invariant in let at = c.loop-i.i in let side = c.args.side.now in let nodes = side.schema.now in
-    let xs = c.loop-i.links in let ys = c.note_at.new.links in let more = c.in_ok-note_at.ensures.notes in
-    let names = names_of side in let met = ranks_of c.args.met in
+    let xs = c.loop-i.links in let ys = c.add_node_links.new.links in let more = c.in_ok-add_node_links.ensures.notes in
+    let names = names_of side in let rank_map = ranks_of c.args.rank_map in
     let view : length (nodes_of side) ≡ length nodes = length-map nodes node_view in
     let below : at < length nodes = omega (arith, c.loop-i-test.true, c.places-i-end.ensures.places) in
     record {
@@ -38,12 +38,12 @@ loop-i-preserved c =
       long = more.adds.long ∙ inv.long;
       within = λ x p l. elim (more.adds.only x p l) [ inl m ↦ inv.within x p m | inr h ↦ subst (λ (i : ℕ). i < length nodes) (sym h.0) below ];
       named = λ i a l e. elim (cases_lt i at) [
-        | inl g ↦ place_on xs ys more.adds.kept more.kept names met i a (inv.named i a g e)
+        | inl g ↦ place_on xs ys more.adds.kept more.kept names rank_map i a (inv.named i a g e)
         | inr g ↦ (let s : i ≡ at = omega arith in
-            subst (λ (x : ℕ). IsPlaceLinked names met ys x a) (sym s) (c.in_ok-note_at.ensures.there a (subst (λ (x : ℕ). slice_get (nodes_of side) x ≡ Some a) s e)))
+            subst (λ (x : ℕ). IsPlaceLinked names rank_map ys x a) (sym s) (c.in_ok-add_node_links.ensures.there a (subst (λ (x : ℕ). slice_get (nodes_of side) x ≡ Some a) s e)))
       ];
       meant = λ x p l a e. elim (more.adds.only x p l) [
-        | inl m ↦ of_node_on xs.aliased.items ys.aliased.items more.kept met x names a p (inv.meant x p m a e)
+        | inl m ↦ of_node_on xs.aliased.items ys.aliased.items more.kept rank_map x names a p (inv.meant x p m a e)
         | inr h ↦ h.1 a (subst (λ (i : ℕ). slice_get (nodes_of side) i ≡ Some a) h.0 e)
       ];
     }
@@ -80,15 +80,15 @@ returns c =
     record {
       unions = subst (λ (v : Vec (Vec ℕ Global) Global). HasUnions (nodes_of side) v.items) (sym c.loop-place.invariant.unions) inv.unions;
       links = record {
-        within = λ x p h. subst (λ (n : ℕ). x.asker < n) (sym view) (inv.within x p (same.back x p h));
+        within = λ x p h. subst (λ (n : ℕ). x.referrer < n) (sym view) (inv.within x p (same.back x p h));
         sorted = λ place. elim (cases_lt place (length ys.lists.items)) [
           | inl g ↦ c.loop-place.invariant.sorted place (omega (arith, c.loop-place.invariant.long, c.loop-place-test.false))
           | inr g ↦ subst (λ (ls : List Link). IsNonDecreasingBy (λ (x : Link). x.label) ls) (sym (list_past ys.lists.items place g)) (λ i j d le l. absurd (omega arith))
         ];
         named = λ i a e. (
             let l : i < length (nodes_of side) = slice_get_within (nodes_of side) i a e in
-            place_on xs ys same.there kept (names_of side) (ranks_of c.args.met) i a (inv.named i a (omega arith) e)
+            place_on xs ys same.there kept (names_of side) (ranks_of c.args.rank_map) i a (inv.named i a (omega arith) e)
             );
-        meant = λ x p h a e. of_node_on xs.aliased.items ys.aliased.items kept (ranks_of c.args.met) x (names_of side) a p (inv.meant x p (same.back x p h) a e);
+        meant = λ x p h a e. of_node_on xs.aliased.items ys.aliased.items kept (ranks_of c.args.rank_map) x (names_of side) a p (inv.meant x p (same.back x p h) a e);
       };
     }

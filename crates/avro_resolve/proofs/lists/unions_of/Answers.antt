@@ -8,9 +8,9 @@ use Rattle.std.proofs.lemmas.Option.{same_Some, slice_get_within}
 use Rattle.avro_nodes.specs.Nodes.{NodeView, union, node_view, nodes_view}
 use Rattle.avro_nodes.specs.declared.node.Node.{Node}
 use Rattle.avro_nodes.specs.declared.node.Node.TheVariants.{Primitive, Array, Map, Union, Enum, Fixed, Rec}
-use Rattle.avro_resolve.specs.Inside.Lists.{StandsAt}
-use Rattle.avro_resolve.specs.Inside.Places.{Names}
-use Rattle.avro_resolve.specs.Inside.Askers.{HasBranch, IsUnionListed}
+use Rattle.avro_resolve.specs.Inside.Lists.{IsListedAt}
+use Rattle.avro_resolve.specs.Inside.Places.{RefersBelow}
+use Rattle.avro_resolve.specs.Inside.Referrers.{HasBranch, IsUnionListed}
 use Rattle.avro_resolve.proofs.Monotone.{at_place}
 use Rattle.avro_resolve.proofs.LinkLemmas.{union_listed_on}
 use Rattle.avro_resolve.proofs.ListLemmas.{adds_none, adds_then, get_or_any}
@@ -53,24 +53,24 @@ loop-i-preserved-in_default c =
 pub loop-branch-init : goal.loop-branch-init
 loop-branch-init c = record { adds = adds_none _ c.loop-i.lists.items; there = λ k d l. absurd (omega arith) }
 
-pub note-requires : goal.note-requires
-note-requires c =
+pub add_at-requires : goal.add_at-requires
+add_at-requires c =
     let nodes = nodes_view c.args.schema.now in let n = length nodes in let at = c.loop-i.i in let ps = c.deref-branch-items.result.now in let k = c.loop-branch.branch-index in
     let here : slice_get nodes at ≡ Some (union c.in-Union.branches.items) = view_got node_view c.args.schema.now at c.node.result.now c.node.ensures ∙ ap (λ (x : Node). Some (node_view x)) c.in-Union.is in
-    let all : All (λ p. p < n) ps = subst (λ (ls : List ℕ). All (λ p. p < n) ls) (sym c.deref-branch-items.ensures.value) (at_place nodes (Names n) at (union c.in-Union.branches.items) c.requires here) in
+    let all : All (λ p. p < n) ps = subst (λ (ls : List ℕ). All (λ p. p < n) ls) (sym c.deref-branch-items.ensures.value) (at_place nodes (RefersBelow n) at (union c.in-Union.branches.items) c.requires here) in
     let l = all k 0 c.loop-branch-test.true in let view = length-map c.args.schema.now node_view in
     omega (arith, l, view, c.loop-i.invariant.long, c.loop-branch.invariant.adds.long)
 
 pub loop-branch-preserved : goal.loop-branch-preserved
 loop-branch-preserved c =
-    let inv = c.loop-branch.invariant in let more = c.in_ok-note.ensures.adds in let ps = c.deref-branch-items.result.now in let at = c.loop-branch.branch-index in
-    let xs = c.note.new.lists.items in let a = c.loop-i.i in
+    let inv = c.loop-branch.invariant in let more = c.in_ok-add_at.ensures.adds in let ps = c.deref-branch-items.result.now in let at = c.loop-branch.branch-index in
+    let xs = c.add_at.new.lists.items in let a = c.loop-i.i in
     let within : at < length ps = c.loop-branch-test.true in
     record {
       adds = adds_then _ _ _ (λ i p h. h) (λ i p h. (h.0, subst (λ (x : ℕ). Contains ps x) (sym h.1) (Contains-get_or ps at 0 within))) c.loop-i.lists.items c.loop-branch.lists.items xs inv.adds more;
       there = λ k d l. elim (cases_lt k at) [
         | inl g ↦ more.kept a (get_or ps k d) (inv.there k d g)
-        | inr g ↦ (let e : at ≡ k = omega arith in subst (λ (x : ℕ). StandsAt xs a (get_or ps x d)) e (subst (λ (x : ℕ). StandsAt xs a x) (get_or_any ps at 0 d within) c.in_ok-note.ensures.there))
+        | inr g ↦ (let e : at ≡ k = omega arith in subst (λ (x : ℕ). IsListedAt xs a (get_or ps x d)) e (subst (λ (x : ℕ). IsListedAt xs a x) (get_or_any ps at 0 d within) c.in_ok-add_at.ensures.there))
       ];
     }
 
@@ -82,8 +82,8 @@ loop-i-preserved c =
     let below : at < length nodes = omega (arith, c.loop-i-test.true, c.places-i-end.ensures.places) in
     let past : length ps ≤ c.loop-branch.branch-index = c.loop-branch-test.false in
     let here : slice_get (nodes_view nodes) at ≡ Some (union branches) = view_got node_view nodes at c.node.result.now c.node.ensures ∙ ap (λ (x : Node). Some (node_view x)) c.in-Union.is in
-    let each : All (StandsAt ys at) ps = λ k d l. c.loop-branch.invariant.there k d (omega arith) in
-    let listed : IsUnionListed ys at (union branches) = subst (λ (ls : List ℕ). All (StandsAt ys at) ls) value each in
+    let each : All (IsListedAt ys at) ps = λ k d l. c.loop-branch.invariant.there k d (omega arith) in
+    let listed : IsUnionListed ys at (union branches) = subst (λ (ls : List ℕ). All (IsListedAt ys at) ls) value each in
     record {
       long = more.long ∙ inv.long;
       within = λ i p l. elim (more.only i p l) [ inl m ↦ inv.within i p m | inr h ↦ subst (λ (x : ℕ). x < length nodes) (sym h.0) below ];

@@ -1,9 +1,9 @@
 use Rattle.std.proofs.Common.{◌*◌, ◌+◌, ◌-◌, ◌≡◌, ◌≤◌, length, take, All, IsTrue, map}
 use Rattle.avro_nodes.specs.Nodes.{field_view}
 use Rattle.avro_resolve.specs.Resolution.{Readable}
-use Rattle.avro_resolve.specs.Witnesses.{member, Differ}
+use Rattle.avro_resolve.specs.Witnesses.{member, AreDistinct}
 use Rattle.avro_resolve.specs.Inside.Sides.{columns, rows}
-use Rattle.avro_resolve.specs.Inside.Walking.{Marks, Ready, HasGrown}
+use Rattle.avro_resolve.specs.Inside.Walking.{Represents, IsReady, ExtendsWalk}
 use Rattle.avro_resolve.proofs.recursion.+walk.Given as goal
 
 abbrev pub decreases-ask : goal.decreases-ask
@@ -22,8 +22,8 @@ abbrev pub invariant-ask-loop-walk : goal.invariant-ask-loop-walk
 invariant-ask-loop-walk l = record {
   front : take (length l.walk.assumed.items) l.initial.walk.assumed.items ≡ l.walk.assumed.items;
   low : l.mark ≤ length l.walk.assumed.items;
-  differ : Differ l.walk.assumed.items;
-  marks : Marks (length (columns l.sides)) l.walk.assumed_set l.walk.assumed.items;
+  differ : AreDistinct l.walk.assumed.items;
+  marks : Represents (length (columns l.sides)) l.walk.assumed_set l.walk.assumed.items;
   failed : l.walk.failed ≡ l.initial.walk.failed;
   failed_set : l.walk.failed_set ≡ l.initial.walk.failed_set;
   visits : l.walk.visits ≡ l.initial.walk.visits;
@@ -34,21 +34,21 @@ decreases-ask-loop-walk l = length l.walk.assumed.items
 
 abbrev pub invariant-fits-loop-p : goal.invariant-fits-loop-p
 invariant-fits-loop-p l = record {
-  ready : Ready (rows l.sides) (columns l.sides) l.depth l.walk;
-  grown : HasGrown (rows l.sides) (columns l.sides) l.initial.walk l.walk;
+  ready : IsReady (rows l.sides) (columns l.sides) l.depth l.walk;
+  grown : ExtendsWalk (rows l.sides) (columns l.sides) l.initial.walk l.walk;
   held : All (λ p. IsTrue (member l.walk.assumed.items p l.at.1)) (take l.p-index l.p-items);
 }
 
 abbrev pub invariant-fits-loop-q : goal.invariant-fits-loop-q
 invariant-fits-loop-q l = record {
-  ready : Ready (rows l.sides) (columns l.sides) l.depth l.walk;
-  grown : HasGrown (rows l.sides) (columns l.sides) l.initial.walk l.walk;
+  ready : IsReady (rows l.sides) (columns l.sides) l.depth l.walk;
+  grown : ExtendsWalk (rows l.sides) (columns l.sides) l.initial.walk l.walk;
   lost : All (λ p. IsTrue (member l.walk.failed.items l.at.0 p)) (take l.q-index l.q-items);
 }
 
 abbrev pub invariant-all_readable-loop-index : goal.invariant-all_readable-loop-index
 invariant-all_readable-loop-index l = record {
-  ready : Ready (rows l.sides) (columns l.sides) l.depth l.walk;
-  grown : HasGrown (rows l.sides) (columns l.sides) l.initial.walk l.walk;
+  ready : IsReady (rows l.sides) (columns l.sides) l.depth l.walk;
+  grown : ExtendsWalk (rows l.sides) (columns l.sides) l.initial.walk l.walk;
   held : All (λ f. Readable (member l.walk.assumed.items) (map field_view l.fields) (field_view f)) (take l.index l.wanted);
 }

@@ -3,16 +3,16 @@ use Rattle.std.specs.Prelude.{◌↔◌, IsTrue}
 use Rattle.std.proofs.lemmas.List.{length-map}
 use Rattle.avro_nodes.specs.Nodes.{NodeView, node_view, nodes_view}
 use Rattle.avro_resolve.specs.declared.recursion.Walk.{Walk}
-use Rattle.avro_resolve.specs.Asking.{HoldsAsked}
+use Rattle.avro_resolve.specs.Asking.{ContainsAsked}
 use Rattle.avro_resolve.specs.Witnesses.{Pair, HasClosedSet, HasRefutation}
 use Rattle.avro_resolve.specs.Resolution.{Resolves}
-use Rattle.avro_resolve.specs.Inside.Walking.{Good, Marks, Ready, Shows}
+use Rattle.avro_resolve.specs.Inside.Walking.{WalkInvariant, Represents, IsReady, AnswerShows}
 use Rattle.avro_resolve.specs.Inside.Sides.{columns, rows}
 use Rattle.avro_resolve.proofs.Denoted.{some_node, is_whole}
 use Rattle.avro_resolve.proofs.MarkLemmas.{marks_none}
 use Rattle.avro_resolve.proofs.Reaching.{is_small}
 use Rattle.avro_resolve.proofs.ViewLemmas.{both}
-use Rattle.avro_resolve.proofs.WalkLemmas.{roots_asked}
+use Rattle.avro_resolve.proofs.WalkLemmas.{roots_reachable}
 use Rattle.avro_resolve.proofs.WalkEnds.{good_start, ended, reached_hold}
 use Rattle.avro_resolve.proofs.resolving.resolves.Goals as goal
 use Rattle.avro_resolve.proofs.resolving.resolves.Goals.{in-Yes, in-No, in-Unfinished+in_ok-yes-in-Unfinished}
@@ -26,32 +26,32 @@ ask-requires-clause-ready c =
     let few_rows : length w < 65536 = omega (arith, lw, c.places-rows.ensures.places, c.places-rows.ensures.few) in
     let few_columns : length r < 65536 = omega (arith, lr, c.places-columns.ensures.places, c.places-columns.ensures.few) in
     let m : c.places-columns.result ≡ length r = c.places-columns.ensures.places ∙ sym lr in
-    let walk : Walk = record { alloc = c.args.alloc; assumed = c.new.result; failed = c.new-2.result; assumed_set = c.none.result; failed_set = c.none-2.result; visits = 0; looks = c.none-3.result } in
-    let ready : Ready w r 0 walk = record {
+    let walk : Walk = record { alloc = c.args.alloc; assumed = c.new.result; failed = c.new-2.result; assumed_set = c.none.result; failed_set = c.none-2.result; visits = 0; meter = c.none-3.result } in
+    let ready : IsReady w r 0 walk = record {
       writer = ww;
       reader = wr;
       small = is_small w r ww wr (some_node w c.places-rows.ensures.schema) (some_node r c.places-columns.ensures.schema) few_rows few_columns;
       low = omega arith;
       opened = omega arith;
-      good = subst (λ (x : List Pair). Good w r x c.new-2.result.items 0) (sym c.new.ensures.items) (subst (λ (x : List Pair). Good w r [] x 0) (sym c.new-2.ensures.items) (good_start w r));
-      assumed = subst (λ (x : List Pair). Marks (length r) c.none.result x) (sym c.new.ensures.items) (marks_none (length r) c.none.result (c.none.ensures.readers ∙ m) c.none.ensures.empty);
-      failed = subst (λ (x : List Pair). Marks (length r) c.none-2.result x) (sym c.new-2.ensures.items) (marks_none (length r) c.none-2.result (c.none-2.ensures.readers ∙ m) c.none-2.ensures.empty);
+      good = subst (λ (x : List Pair). WalkInvariant w r x c.new-2.result.items 0) (sym c.new.ensures.items) (subst (λ (x : List Pair). WalkInvariant w r [] x 0) (sym c.new-2.ensures.items) (good_start w r));
+      assumed = subst (λ (x : List Pair). Represents (length r) c.none.result x) (sym c.new.ensures.items) (marks_none (length r) c.none.result (c.none.ensures.readers ∙ m) c.none.ensures.empty);
+      failed = subst (λ (x : List Pair). Represents (length r) c.none-2.result x) (sym c.new-2.ensures.items) (marks_none (length r) c.none-2.result (c.none-2.ensures.readers ∙ m) c.none-2.ensures.empty);
     } in
-    (c.in_ok-sides.ensures.sides, both (λ x y. Ready x y 0 walk) w (rows c.in_ok-sides.sides) r (columns c.in_ok-sides.sides) (ap nodes_view (sym c.in_ok-sides.ensures.writer)) (ap nodes_view (sym c.in_ok-sides.ensures.reader)) ready)
+    (c.in_ok-sides.ensures.sides, both (λ x y. IsReady x y 0 walk) w (rows c.in_ok-sides.sides) r (columns c.in_ok-sides.sides) (ap nodes_view (sym c.in_ok-sides.ensures.writer)) (ap nodes_view (sym c.in_ok-sides.ensures.reader)) ready)
 
-pub ask-requires-clause-asked : goal.ask-requires-clause-asked
-ask-requires-clause-asked c = record {
+pub ask-requires-clause-reachable : goal.ask-requires-clause-reachable
+ask-requires-clause-reachable c = record {
   row = subst (λ (x : List NodeView). 0 < length x) (ap nodes_view (sym c.in_ok-sides.ensures.writer)) (some_node (nodes_view c.args.writer.now) c.places-rows.ensures.schema);
   column = subst (λ (x : List NodeView). 0 < length x) (ap nodes_view (sym c.in_ok-sides.ensures.reader)) (some_node (nodes_view c.args.reader.now) c.places-columns.ensures.schema);
-  reached = roots_asked (rows c.in_ok-sides.sides) (columns c.in_ok-sides.sides);
+  reached = roots_reachable (rows c.in_ok-sides.sides) (columns c.in_ok-sides.sides);
 }
 
 pub returns : goal.returns
 returns c =
     let w = rows c.in_ok-sides.sides in let r = columns c.in_ok-sides.sides in let wn = nodes_view c.args.writer.now in let rn = nodes_view c.args.reader.now in
-    let s : Walk = record { alloc = c.args.alloc; assumed = c.new.result; failed = c.new-2.result; assumed_set = c.none.result; failed_set = c.none-2.result; visits = 0; looks = c.none-3.result } in
+    let s : Walk = record { alloc = c.args.alloc; assumed = c.new.result; failed = c.new-2.result; assumed_set = c.none.result; failed_set = c.none-2.result; visits = 0; meter = c.none-3.result } in
     let t = c.ask.new.walk in let answer = c.in_ok-answer.answer in let n = t.visits in let yes = c.match-answer.yes in
-    let end = both (λ x y. Shows x y n answer × (1 ≤ n) × ((ps : List Pair) → HoldsAsked x y ps → n ≤ length ps * length ps)) w wn r rn (ap nodes_view c.in_ok-sides.ensures.writer) (ap nodes_view c.in_ok-sides.ensures.reader)
+    let end = both (λ x y. AnswerShows x y n answer × (1 ≤ n) × ((ps : List Pair) → ContainsAsked x y ps → n ≤ length ps * length ps)) w wn r rn (ap nodes_view c.in_ok-sides.ensures.writer) (ap nodes_view c.in_ok-sides.ensures.reader)
     (ended w r s t c.new.ensures.items c.new-2.ensures.items answer c.in_ok-answer.ensures) in
     let told : (IsTrue yes ↔ Resolves wn rn) × (IsTrue yes → n < 1000 → HasClosedSet wn rn n) × (yes ≡ false → n < 1000 → HasRefutation wn rn n) = elim c.match-answer.branch [
       | in-Yes q ↦ (let shows = rw q.in-Yes.is at end.0 in rw q.yes-is (((λ h. shows.0), (λ h. refl)), (λ h l. shows.1), (λ h l. absurd (true≢false h))))

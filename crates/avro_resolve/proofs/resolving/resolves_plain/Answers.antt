@@ -5,12 +5,12 @@ use Rattle.avro_resolve.proofs.Ends.{ends}
 use Rattle.avro_resolve.proofs.resolving.resolves_plain.Goals as goal
 
 pub has-requires-clause-i_in : goal.has-requires-clause-i_in
-has-requires-clause-i_in c = let some = some_node (nodes_view c.args.writer.now) c.in_ok-left.ensures.writer in omega (arith, c.in_ok-left.ensures.rest.writers)
+has-requires-clause-i_in c = let some = some_node (nodes_view c.args.writer.now) c.in_ok-table.ensures.writer in omega (arith, c.in_ok-table.ensures.rest.writers)
 
 pub has-requires-clause-j_in : goal.has-requires-clause-j_in
-has-requires-clause-j_in c = let some = some_node (nodes_view c.args.reader.now) c.in_ok-left.ensures.reader in omega (arith, c.in_ok-left.ensures.rest.readers)
+has-requires-clause-j_in c = let some = some_node (nodes_view c.args.reader.now) c.in_ok-table.ensures.reader in omega (arith, c.in_ok-table.ensures.rest.readers)
 
 pub returns : goal.returns
 returns c =
-    let end = ends (nodes_view c.args.writer.now) (nodes_view c.args.reader.now) c.in_ok-left.left c.in_ok-left.ensures.writer c.in_ok-left.ensures.reader c.in_ok-left.ensures.rest c.in_ok-left.ensures.closed in
+    let end = ends (nodes_view c.args.writer.now) (nodes_view c.args.reader.now) c.in_ok-table.table c.in_ok-table.ensures.writer c.in_ok-table.ensures.reader c.in_ok-table.ensures.rest c.in_ok-table.ensures.closed in
     ((λ h. end.0 (sym c.has.ensures ∙ h)), (λ h. c.has.ensures ∙ end.1 h))

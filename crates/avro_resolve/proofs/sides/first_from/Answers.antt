@@ -9,7 +9,7 @@ use Rattle.std.proofs.lemmas.Map.Lookups.{exact_bytes}
 use Rattle.std.proofs.lemmas.Option.{get_or_from_slice_get, same_Some, slice_get_within}
 use Rattle.avro_nodes.specs.Nodes.{texts_view}
 use Rattle.avro_schema.proofs.Rising.{order, level, less_not_equal}
-use Rattle.avro_resolve.proofs.Meeting.{name_at}
+use Rattle.avro_resolve.proofs.RankMaps.{name_at}
 use Rattle.avro_resolve.proofs.sides.first_from.Goals as goal
 
 -- how the name at a rank compares
@@ -31,7 +31,7 @@ returns-in-Equal c =
       within = omega arith;
       below = c.loop-at.invariant;
       at = λ _ less. less_not_equal (order (get_or r at []) name) less level;
-      met = is ∙ ap (λ (x : List ℕ). Some x) (exact_bytes here name (sym c.cmp.ensures ∙ c.in-Equal.is));
+      mapped = is ∙ ap (λ (x : List ℕ). Some x) (exact_bytes here name (sym c.cmp.ensures ∙ c.in-Equal.is));
     }
 
 pub returns-in-Greater : goal.returns-in-Greater
@@ -43,7 +43,7 @@ returns-in-Greater c =
       within = omega arith;
       below = c.loop-at.invariant;
       at = λ _ less. less_not_greater (order (get_or r at []) name) less above;
-      met = λ same. equal_not_greater (order here name) (level here name (same_Some here name (sym is ∙ same))) (sym c.cmp.ensures ∙ c.in-Greater.is);
+      mapped = λ same. equal_not_greater (order here name) (level here name (same_Some here name (sym is ∙ same))) (sym c.cmp.ensures ∙ c.in-Greater.is);
     }
 
 pub loop-at-preserved : goal.loop-at-preserved
@@ -61,7 +61,7 @@ returns c = record {
   within = omega arith;
   below = λ k l m. c.loop-at.invariant k l (omega (arith, m, c.loop-at-test.false));
   at = λ l. absurd (omega (arith, l));
-  met = λ e. (
+  mapped = λ e. (
       let r = texts_view c.args.names.now in
       let l = slice_get_within r (length c.args.names.now) c.args.name.now e in
       let long : length r ≡ length c.args.names.now = length-map _ _ in

@@ -20,6 +20,6 @@ returns c value =
     let here : slice_get xs c.in-Some.at ≡ Some m = slice_get-get_or xs c.in-Some.at m c.in-Some.ensures.0 ∙ ap (λ (y : Entry). Some y) (sym c.remove.ensures.value) in
     let named : m.0.now ≡ key = same_Some m.0.now key (sym (ap (option_map (λ (y : Entry). y.0.now)) here) ∙ c.in-Some.ensures.1) in
     let none = none_reserved key kept (reserved_is key c.requires) old.others.unreserved in
-    ap (λ ys. put key value (put_all (read_of ys) kept)) (c.leave_out.ensures ∙ ap (others key) c.remove.ensures.items)
+    ap (λ ys. put key value (put_all (read_of ys) kept)) (c.remove_members.ensures ∙ ap (others key) c.remove.ensures.items)
     ∙ ap (put key value) (taken_out key xs c.in-Some.at m kept here named none ordered)
     ∙ put_again key value (members_data old) (ordered_all xs kept ordered)

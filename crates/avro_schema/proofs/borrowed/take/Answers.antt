@@ -27,4 +27,4 @@ returns-clause-rest c =
     let here : slice_get xs c.in-Some.at ≡ Some m = slice_get-get_or xs c.in-Some.at m c.in-Some.ensures.0 ∙ ap (λ (y : Entry). Some y) (sym c.remove-value.ensures.value) in
     let named : m.0.now ≡ key = same_Some m.0.now key (sym (ap (option_map (λ (y : Entry). y.0.now)) here) ∙ c.in-Some.ensures.1) in
     let none = none_reserved key kept (reserved_is key c.requires) c.args.attributes.now.others.unreserved in
-    ap (λ ys. put_all (read_of ys) kept) (c.leave_out.ensures ∙ ap (others key) c.remove-value.ensures.items) ∙ taken_out key xs c.in-Some.at m kept here named none (in_order kept c.args.attributes.now.others.in_order)
+    ap (λ ys. put_all (read_of ys) kept) (c.remove_members.ensures ∙ ap (others key) c.remove-value.ensures.items) ∙ taken_out key xs c.in-Some.at m kept here named none (in_order kept c.args.attributes.now.others.in_order)

@@ -4,11 +4,11 @@ use Rattle.avro_nodes.specs.Nodes.{named_view, field_view, node_view}
 use Rattle.std.proofs.Common.{map, refl, sym, ◌∙◌, arith}
 use Rattle.avro_schema.proofs.defaults.+fit.Goals as goal
 
-pub table_fits-returns-then-always_fit : goal.table_fits-returns-then-always_fit
-table_fits-returns-then-always_fit t c = c.named_fit.ensures ∙ last_decides _ _ _ (sym c.always_fit.ensures ∙ c.if-always_fit.true) (table_decides _ _ _ c.args.table.now c.requires.table)
+pub table_fits-returns-then-required_fit : goal.table_fits-returns-then-required_fit
+table_fits-returns-then-required_fit t c = c.named_fit.ensures ∙ last_decides _ _ _ (sym c.required_fit.ensures ∙ c.if-required_fit.true) (table_decides _ _ _ c.args.table.now c.requires.table)
 
-pub table_fits-returns-else-always_fit : goal.table_fits-returns-else-always_fit
-table_fits-returns-else-always_fit t c = c.always_fit.ensures ∙ first_decides _ _ _ (sym c.always_fit.ensures ∙ c.if-always_fit.false) (table_decides _ _ _ c.args.table.now c.requires.table)
+pub table_fits-returns-else-required_fit : goal.table_fits-returns-else-required_fit
+table_fits-returns-else-required_fit t c = c.required_fit.ensures ∙ first_decides _ _ _ (sym c.required_fit.ensures ∙ c.if-required_fit.false) (table_decides _ _ _ c.args.table.now c.requires.table)
 
 pub node_fits-table_fits-requires : goal.node_fits-table_fits-requires
 node_fits-table_fits-requires t c = (

@@ -28,8 +28,8 @@ decreases-field_fits l = 8 * l.depth + 2
 abbrev pub decreases-table_fits : goal.decreases-table_fits
 decreases-table_fits l = 8 * l.depth + 6
 
-abbrev pub decreases-always_fit : goal.decreases-always_fit
-decreases-always_fit l = 8 * l.depth + 4
+abbrev pub decreases-required_fit : goal.decreases-required_fit
+decreases-required_fit l = 8 * l.depth + 4
 
 abbrev pub decreases-named_fit : goal.decreases-named_fit
 decreases-named_fit l = 8 * l.depth + 5
@@ -51,8 +51,8 @@ invariant-fields_fit-loop-field l =
     fields_fit (fits l.depth (nodes_view l.nodes)) (members_view l.members.entries) (map field_view (drop l.field-index l.field-items))
     ≡ fields_fit (fits l.depth (nodes_view l.nodes)) (members_view l.members.entries) (map field_view l.field-items)
 
-abbrev pub invariant-always_fit-loop-at : goal.invariant-always_fit-loop-at
-invariant-always_fit-loop-at l =
+abbrev pub invariant-required_fit-loop-at : goal.invariant-required_fit-loop-at
+invariant-required_fit-loop-at l =
     list_all (λ i. fits_if_any (fits l.depth (nodes_view l.nodes)) (members_view l.members.entries) (slice_get (map field_view l.fields.items) i)) (drop l.at-index l.at-items)
     ≡ list_all (λ i. fits_if_any (fits l.depth (nodes_view l.nodes)) (members_view l.members.entries) (slice_get (map field_view l.fields.items) i)) l.at-items
 

@@ -6,8 +6,8 @@ use Rattle.avro_nodes.specs.Nodes.{texts_view}
 use Rattle.avro_schema.specs.Inside.NodeTexts.{borrowed}
 use Rattle.avro_schema.proofs.indexing.named_ranks.Goals as goal
 
-pub rising_ranks_of-requires-clause-known : goal.rising_ranks_of-requires-clause-known
-rising_ranks_of-requires-clause-known c =
+pub sorted_ranks_of-requires-clause-known : goal.sorted_ranks_of-requires-clause-known
+sorted_ranks_of-requires-clause-known c =
     let P = Contains (borrowed c.args.names.now) in let full = string_bytes c.args.named.now.name in let aliases = texts_view c.args.named.now.aliases.items in
     rw c.deref.ensures.value (All-tail P full aliases (All-tail P (last_part full) (full ∷ aliases) c.requires.known))
 

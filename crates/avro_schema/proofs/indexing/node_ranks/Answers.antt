@@ -10,8 +10,8 @@ named_ranks-requires-clause-known c =
     let P = Contains (borrowed c.args.names.now) in
     all_left P (named_texts (named_view c.in-Enum.named)) (texts_view c.in-Enum.symbols.items) (rw c.in-Enum.is at c.requires.known)
 
-pub rising_ranks_of-requires-clause-known : goal.rising_ranks_of-requires-clause-known
-rising_ranks_of-requires-clause-known c =
+pub sorted_ranks_of-requires-clause-known : goal.sorted_ranks_of-requires-clause-known
+sorted_ranks_of-requires-clause-known c =
     let P = Contains (borrowed c.args.names.now) in
     rw c.deref.ensures.value (all_right P (named_texts (named_view c.in-Enum.named)) (texts_view c.in-Enum.symbols.items) (rw c.in-Enum.is at c.requires.known))
 

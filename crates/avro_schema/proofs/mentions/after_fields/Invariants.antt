@@ -4,4 +4,4 @@ use Rattle.avro_schema.specs.Inside.Mentions.{fields_mentions}
 use Rattle.avro_schema.proofs.mentions.after_fields.Given as goal
 
 abbrev pub invariant-loop-field : goal.invariant-loop-field
-invariant-loop-field l = l.rest - fields_mentions (nodes_view l.nodes) (map field_view (drop l.field-index l.field-items)) ≡ l.left - fields_mentions (nodes_view l.nodes) (map field_view l.field-items)
+invariant-loop-field l = l.rest - fields_mentions (nodes_view l.nodes) (map field_view (drop l.field-index l.field-items)) ≡ l.budget - fields_mentions (nodes_view l.nodes) (map field_view l.field-items)

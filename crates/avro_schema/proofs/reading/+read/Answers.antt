@@ -12,7 +12,7 @@ use Rattle.avro_schema.proofs.AttributeLemmas.{nothing_left}
 use Rattle.avro_schema.proofs.BorrowedMembers.{key_reserved}
 use Rattle.avro_schema.proofs.DistinctLemmas.{field_names}
 use Rattle.avro_schema.proofs.ReaderErrors.{fails_from, reads_exit, same_reads}
-use Rattle.avro_schema.proofs.PlaceLemmas.{all_kept, keeps_same, keeps_then, still_numbered}
+use Rattle.avro_schema.proofs.NameTableLemmas.{all_kept, keeps_same, keeps_then, still_numbered}
 use Rattle.avro_schema.proofs.Sequence.{at_start, one_more, nodes_push, length-nodes, new_nodes, still_there, goes_on, fails_at, is_over}
 use Rattle.avro_schema.proofs.ReaderCases.{too_deep, type_string, type_array, type_object, type_null, type_boolean, type_number, no_word, object_is, reference_unbound, reference_is}
 use Rattle.avro_schema.proofs.ReaderCases.{container_past, nothing_held, container_unbound, held_fails, container_done, union_past, branches_fail, branches_alike, union_done, branch_fails, is_no_branch, is_branch}
@@ -109,25 +109,25 @@ pub container_at-returns-in_err-place-clause-read : goal.container_at-returns-in
 container_at-returns-in_err-place-clause-read t c = reads_exit _ _ _ _ _ _ _ c.from_residual.ensures.1 (fails_from _ _ _ (container_past _ _ _ _ _) c.in_err-place.ensures.room)
 
 pub container_at-returns-in_default-clause-read : goal.container_at-returns-in_default-clause-read
-container_at-returns-in_default-clause-read t c = nothing_held _ _ _ _ _ _ c.in_ok-place.ensures.room (rw c.key_of.ensures at (sym c.in_default.ensures.value))
+container_at-returns-in_default-clause-read t c = nothing_held _ _ _ _ _ _ c.in_ok-place.ensures.room (rw c.member_name.ensures at (sym c.in_default.ensures.value))
 
 pub container_at-returns-in_err-extra-clause-read : goal.container_at-returns-in_err-extra-clause-read
 container_at-returns-in_err-extra-clause-read t c =
-    let holds = rw c.key_of.ensures at (sym c.in-Some.ensures.value) in
-    let rest = rw c.key_of.ensures at c.in-Some.ensures.rest in
+    let holds = rw c.member_name.ensures at (sym c.in-Some.ensures.value) in
+    let rest = rw c.member_name.ensures at c.in-Some.ensures.rest in
     reads_exit _ _ _ _ _ _ _ c.from_residual-in_err-extra.ensures.1
     (fails_from _ _ _ (container_unbound _ _ _ _ _ _ c.in_ok-place.ensures.room _ holds) (rw rest at c.in_err-extra.ensures))
 
 pub container_at-returns-in_err-within-clause-read : goal.container_at-returns-in_err-within-clause-read
 container_at-returns-in_err-within-clause-read t c =
-    let holds = rw c.key_of.ensures at (sym c.in-Some.ensures.value) in
-    let rest = rw c.key_of.ensures at c.in-Some.ensures.rest in
+    let holds = rw c.member_name.ensures at (sym c.in-Some.ensures.value) in
+    let rest = rw c.member_name.ensures at c.in-Some.ensures.rest in
     let next = one_more _ _ _ c.in_ok-push.ensures.items in
     reads_exit _ _ _ _ _ _ _ c.from_residual-in_err-within.ensures.1
     (fails_from _ _ _ (held_fails _ _ _ _ _ _ c.in_ok-place.ensures.room _ holds _ (rw rest at c.in_ok-extra.ensures)) (rw next at c.in_err-within.ensures.read))
 
 pub container_at-take-requires : goal.container_at-take-requires
-container_at-take-requires t c = rw c.key_of.ensures (key_reserved c.args.container)
+container_at-take-requires t c = rw c.member_name.ensures (key_reserved c.args.container)
 
 pub container_at-fill_blank-requires : goal.container_at-fill_blank-requires
 container_at-fill_blank-requires t c =
@@ -136,8 +136,8 @@ container_at-fill_blank-requires t c =
 
 pub container_at-returns-clause-read : goal.container_at-returns-clause-read
 container_at-returns-clause-read t c =
-    let holds = rw c.key_of.ensures at (sym c.in-Some.ensures.value) in
-    let rest = rw c.key_of.ensures at c.in-Some.ensures.rest in
+    let holds = rw c.member_name.ensures at (sym c.in-Some.ensures.value) in
+    let rest = rw c.member_name.ensures at c.in-Some.ensures.rest in
     let next = one_more _ _ _ c.in_ok-push.ensures.items in
     rw (c.fill_blank.ensures, c.container_node.ensures)
     (container_done _ _ _ _ _ _ c.in_ok-place.ensures.room _ holds _ (rw rest at c.in_ok-extra.ensures) _ _ _ _ _ _ (c.in_ok-place.ensures.place ∙ sym (length-nodes _)) (nodes_push _ _ _ c.in_ok-push.ensures.items) (rw next at c.in_ok-within.ensures.read))

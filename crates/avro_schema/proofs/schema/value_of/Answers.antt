@@ -4,7 +4,7 @@ use Rattle.json.specs.Json as json
 use Rattle.json.specs.Lex.{tokens}
 use Rattle.json.specs.Reads.{token_of}
 use Rattle.serde_json.specs.Read.{of_json, converted, max_depth}
-use Rattle.avro_schema.specs.declared.error.Unread.{Unread}
+use Rattle.avro_schema.specs.declared.error.JsonError.{JsonError}
 use Rattle.avro_schema.specs.Inside.Borrowed.{value_data}
 use Rattle.avro_schema.proofs.BorrowedReads.{value_is, more_follows, no_json, nothing_more, something_more, json_refused}
 use Rattle.avro_schema.proofs.schema.value_of.Goals as goal
@@ -12,7 +12,7 @@ use Rattle.avro_schema.proofs.schema.value_of.Goals as goal
 pub returns-in_err-value : goal.returns-in_err-value
 returns-in_err-value c = λ text p.
     let q = err_from_is_err_and c.from_residual-in_err-value.result c.from_residual-in_err-value.ensures.1 in
-    rw q.1 (json_refused c.in_err-value.field-0.0 q.0 _ q.2.0 q.2.1 (λ is. no_json text c.args.respelt.now p (rw c.in_ok-reader.ensures.ok at (c.in_err-value.ensures.invalid (ap (λ (e : Unread). Err e) is)))))
+    rw q.1 (json_refused c.in_err-value.field-0.0 q.0 _ q.2.0 q.2.1 (λ is. no_json text c.args.respelt.now p (rw c.in_ok-reader.ensures.ok at (c.in_err-value.ensures.invalid (ap (λ (e : JsonError). Err e) is)))))
 
 pub returns-then-is_some : goal.returns-then-is_some
 returns-then-is_some c = λ text p.

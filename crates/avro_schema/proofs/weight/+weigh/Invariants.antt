@@ -25,8 +25,8 @@ abbrev pub decreases-after_object : goal.decreases-after_object
 decreases-after_object l = 6 * l.depth + 5
 
 abbrev pub invariant-after_branches-loop-item : goal.invariant-after_branches-loop-item
-invariant-after_branches-loop-item l = l.rest - items_weight (weight l.depth l.space) (items_data (drop l.item-index l.item-items)) ≡ l.left - items_weight (weight l.depth l.space) (items_data l.item-items)
+invariant-after_branches-loop-item l = l.rest - items_weight (weight l.depth l.space) (items_data (drop l.item-index l.item-items)) ≡ l.budget - items_weight (weight l.depth l.space) (items_data l.item-items)
 
 abbrev pub invariant-after_fields-loop-field : goal.invariant-after_fields-loop-field
 invariant-after_fields-loop-field l =
-    l.rest - items_weight (field_weight (weight l.depth l.space)) (items_data (drop l.field-index l.field-items)) ≡ l.left - items_weight (field_weight (weight l.depth l.space)) (items_data l.field-items)
+    l.rest - items_weight (field_weight (weight l.depth l.space)) (items_data (drop l.field-index l.field-items)) ≡ l.budget - items_weight (field_weight (weight l.depth l.space)) (items_data l.field-items)

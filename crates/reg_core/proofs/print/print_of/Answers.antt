@@ -3,5 +3,5 @@ use Rattle.std.proofs.lemmas.Result.{IfOk-weaker}
 use Rattle.reg_core.proofs.CommandTextLemmas.{command_text-injective}
 use Rattle.reg_core.proofs.print.print_of.Goals as goal
 
-pub returns-clause-one : goal.returns-clause-one
-returns-clause-one c = IfOk-weaker c.text_of.result _ _ (λ text h other v w e. command_text-injective other c.args.command.now w v (e ∙ h)) c.text_of.ensures
+pub returns-clause-unique : goal.returns-clause-unique
+returns-clause-unique c = IfOk-weaker c.text_of.result _ _ (λ text h other v w e. command_text-injective other c.args.command.now w v (e ∙ h)) c.text_of.ensures

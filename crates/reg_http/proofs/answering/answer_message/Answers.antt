@@ -4,12 +4,12 @@ use denote.Ref.{Bor}
 use Rattle.std.specs.Io.KnownBytes.{Appends}
 use Rattle.reg_core.specs.declared.delivery.Delivery.{Delivery}
 use Rattle.reg_service.specs.Crashes.{ServesDurably}
-use Rattle.reg_messages.specs.Answers.{answer_bytes}
+use Rattle.reg_messages.specs.Responses.{answer_bytes}
 use Rattle.reg_messages.specs.Closing.{closes}
-use Rattle.reg_routes.specs.Deliveries.{Refusal, allow_beside}
-use Rattle.reg_http.specs.Output.{answer_to}
-use Rattle.reg_http.specs.Inside.Replying.{ReplyLeads}
-use Rattle.reg_http.proofs.ReplyLemmas.{asked_of_borrowed, closes_of_borrowed}
+use Rattle.reg_routes.specs.Deliveries.{Rejection, allow_field}
+use Rattle.reg_http.specs.Output.{response_to}
+use Rattle.reg_http.specs.Inside.Replying.{IsReplyTo}
+use Rattle.reg_http.proofs.ReplyLemmas.{requested_of_borrowed, closes_of_borrowed}
 use Rattle.reg_http.proofs.SessionLemmas.{Next-message}
 use Rattle.reg_http.proofs.answering.answer_message.Goals as goal
 
@@ -21,12 +21,12 @@ returns-clause-next g c clean was over =
     let request = c.of-request.result in
     let borrowed = c.of-request.ensures m w in
     let reply = c.reply_to-reply.result.0 in
-    let what = asked_of_borrowed request m borrowed in
+    let what = requested_of_borrowed request m borrowed in
     let closing : closes m ≡ c.closes-close.result = sym (c.closes-close.ensures ∙ closes_of_borrowed request m borrowed) in
-    let P : Result Delivery Refusal → Type 0 = λ asked. ReplyLeads (ServesDurably c.args.service.now c.reply_to-reply.new.service was r.stored) asked reply in
+    let P : Result Delivery Rejection → Type 0 = λ requested. IsReplyTo (ServesDurably c.args.service.now c.reply_to-reply.new.service was r.stored) requested reply in
     let replies = subst P what r.holds in
-    let bytes : answer_bytes reply (option_map (λ (text : Bor (List ℕ)). text.now) c.reply_to-reply.result.1) c.closes-close.result ≡ answer_to m reply =
-    (λ i. answer_bytes reply (c.reply_to-reply.ensures.allow i) (sym closing i)) ∙ ap (λ asked. answer_bytes reply (allow_beside asked reply) (closes m)) what in
+    let bytes : answer_bytes reply (option_map (λ (text : Bor (List ℕ)). text.now) c.reply_to-reply.result.1) c.closes-close.result ≡ response_to m reply =
+    (λ i. answer_bytes reply (c.reply_to-reply.ensures.allow i) (sym closing i)) ∙ ap (λ requested. answer_bytes reply (allow_field requested reply) (closes m)) what in
     let front = c.send-sent.ensures.front in
     let Q : List ℕ → Type 0 = λ out. Appends (g.W.Write.contents c.args.writer.now) (g.W.Write.contents c.send-sent.new.writer) out in
     let next = Next-message _ _ _ c.args.bytes.now (c.args.whole.head.len + c.args.whole.body) m reply c.send-sent.result c.closes-close.result

@@ -6,8 +6,8 @@ use Rattle.reg_http.specs.declared.answering.Stop.TheVariants.{Waiting}
 use Rattle.reg_http.proofs.SessionLemmas.{AnswersAs-nil}
 use Rattle.reg_http.proofs.serving.answer_more.Goals as goal
 
-pub returns-then-held-needs-clause-answers : goal.returns-then-held-needs-clause-answers
-returns-then-held-needs-clause-answers g c clean was over =
+pub returns-then-held-needs-clause-responses : goal.returns-then-held-needs-clause-responses
+returns-then-held-needs-clause-responses g c clean was over =
     let few = rw c.held.ensures at c.if-held-needs.true in
     record {
       stored = was;

@@ -6,8 +6,8 @@ use Rattle.reg_service.proofs.CrashLemmas.{leaves_open}
 use Rattle.reg_service.proofs.FoundLists.{durable_none, durable_both}
 use Rattle.reg_http.specs.declared.answering.Stop.TheVariants.{Waiting, AtClose, AtFault, NotWritten, OutOfMemory}
 use Rattle.reg_http.specs.declared.serving.Ended.TheVariants.{Closed, WriteFailed, Malformed, Memory}
-use Rattle.reg_http.proofs.SessionLemmas.{Served-none}
-use Rattle.reg_http.proofs.EndLemmas.{AnswersAs-read, Session-ended, Session-failed, Session-stopped, Served-waiting, Waits-nothing}
+use Rattle.reg_http.proofs.SessionLemmas.{AnsweredSoFar-none}
+use Rattle.reg_http.proofs.EndLemmas.{AnswersAs-read, Session-ended, Session-failed, Session-stopped, AnsweredSoFar-waiting, Waits-nothing}
 use Rattle.reg_http.proofs.serving.serve_with.Goals as goal
 
 pub loop-init : goal.loop-init
@@ -16,7 +16,7 @@ loop-init g c = record {
   input = [];
   reads = Consumes-nil (g.R.Read.remaining c.args.reader.now);
   clean = λ h. h;
-  served = λ h was over. record { stored = was; spells = over; holds = rw c.requires (Served-none _ _ [] (durable_none c.args.service.now was [] refl (leaves_open (state_in c.args.service.now) (g.met.S.Store.settled c.args.service.now.store.db.idle.conn.store)))) };
+  served = λ h was over. record { stored = was; spells = over; holds = rw c.requires (AnsweredSoFar-none _ _ [] (durable_none c.args.service.now was [] refl (leaves_open (state_in c.args.service.now) (g.met.S.Store.settled c.args.service.now.store.db.idle.conn.store)))) };
 }
 
 pub loop-preserved : goal.loop-preserved
@@ -30,12 +30,12 @@ loop-preserved g c =
       clean = λ h. inv.clean (c.answer_more.ensures.clean h);
       served = λ h was over.
           let before = inv.served (c.answer_more.ensures.clean h) was over in
-          let after = c.in-Waiting.ensures.answers h before.stored before.spells in
+          let after = c.in-Waiting.ensures.responses h before.stored before.spells in
           let joins = durable_both c.args.service.now c.loop.service c.answer_more.new.service was before.stored after.stored h before.spells in
           record {
             stored = after.stored;
             spells = after.spells;
-            holds = Served-waiting _ _ _ _ _ c.in-Waiting.more (AnswersAs-read _ _ _ joins _ _ _ inv.input _ _ more _ (Waiting c.in-Waiting.more) before.holds is after.holds);
+            holds = AnsweredSoFar-waiting _ _ _ _ _ c.in-Waiting.more (AnswersAs-read _ _ _ joins _ _ _ inv.input _ _ more _ (Waiting c.in-Waiting.more) before.holds is after.holds);
           };
     }
 
@@ -70,7 +70,7 @@ returns-in-AtClose-clause-session g c clean was over =
     let inv = c.loop.invariant in
     let (more, is, read) = c.in-Bytes.ensures in
     let before = inv.served (c.answer_more.ensures.clean clean) was over in
-    let after = c.in-AtClose.ensures.answers clean before.stored before.spells in
+    let after = c.in-AtClose.ensures.responses clean before.stored before.spells in
     let joins = durable_both c.args.service.now c.loop.service c.answer_more.new.service was before.stored after.stored clean before.spells in
     let all = AnswersAs-read _ _ _ joins _ _ _ inv.input _ _ more _ AtClose before.holds is after.holds in
     record {
@@ -84,7 +84,7 @@ returns-in-AtFault-clause-session g c clean was over =
     let inv = c.loop.invariant in
     let (more, is, read) = c.in-Bytes.ensures in
     let before = inv.served (c.answer_more.ensures.clean clean) was over in
-    let after = c.in-AtFault.ensures.answers clean before.stored before.spells in
+    let after = c.in-AtFault.ensures.responses clean before.stored before.spells in
     let joins = durable_both c.args.service.now c.loop.service c.answer_more.new.service was before.stored after.stored clean before.spells in
     let all = AnswersAs-read _ _ _ joins _ _ _ inv.input _ _ more _ AtFault before.holds is after.holds in
     record {
@@ -98,7 +98,7 @@ returns-in-NotWritten-clause-session g c clean was over =
     let inv = c.loop.invariant in
     let (more, is, read) = c.in-Bytes.ensures in
     let before = inv.served (c.answer_more.ensures.clean clean) was over in
-    let after = c.in-NotWritten.ensures.answers clean before.stored before.spells in
+    let after = c.in-NotWritten.ensures.responses clean before.stored before.spells in
     let joins = durable_both c.args.service.now c.loop.service c.answer_more.new.service was before.stored after.stored clean before.spells in
     let all = AnswersAs-read _ _ _ joins _ _ _ inv.input _ _ more _ NotWritten before.holds is after.holds in
     record {
@@ -112,7 +112,7 @@ returns-in-OutOfMemory-clause-session g c clean was over =
     let inv = c.loop.invariant in
     let (more, is, read) = c.in-Bytes.ensures in
     let before = inv.served (c.answer_more.ensures.clean clean) was over in
-    let after = c.in-OutOfMemory.ensures.answers clean before.stored before.spells in
+    let after = c.in-OutOfMemory.ensures.responses clean before.stored before.spells in
     let joins = durable_both c.args.service.now c.loop.service c.answer_more.new.service was before.stored after.stored clean before.spells in
     let all = AnswersAs-read _ _ _ joins _ _ _ inv.input _ _ more _ OutOfMemory before.holds is after.holds in
     record {

@@ -3,8 +3,8 @@ use Rattle.std.specs.Io.KnownBytes.{Consumes}
 use Rattle.sqlite.specs.State.{HasCleanDisk}
 use Rattle.reg_service.specs.Crashes.{ServesDurably}
 use Rattle.reg_service.specs.Services.{state_in}
-use Rattle.reg_http.specs.OverTables.{Over}
-use Rattle.reg_http.specs.Inside.SessionSteps.{Served, Waits}
+use Rattle.reg_http.specs.Transitions.{StoredTransition}
+use Rattle.reg_http.specs.Inside.SessionSteps.{AnsweredSoFar, Waits}
 use Rattle.reg_http.proofs.serving.serve_with.Given as goal
 
 abbrev pub invariant-loop : goal.invariant-loop
@@ -13,6 +13,6 @@ invariant-loop g l = record {
   input : List ℕ;
   reads : Consumes (g.R.Read.remaining l.initial.reader) (g.R.Read.remaining l.reader) input;
   clean : HasCleanDisk (state_in l.service) → HasCleanDisk (state_in l.initial.service);
-  served : HasCleanDisk (state_in l.service) → Over (state_in l.initial.service) (state_in l.service)
-      (λ was now. Served (ServesDurably l.initial.service l.service was now) (g.W.Write.contents l.initial.writer) (g.W.Write.contents l.writer) input l.buffer);
+  served : HasCleanDisk (state_in l.service) → StoredTransition (state_in l.initial.service) (state_in l.service)
+      (λ was now. AnsweredSoFar (ServesDurably l.initial.service l.service was now) (g.W.Write.contents l.initial.writer) (g.W.Write.contents l.writer) input l.buffer);
 }

@@ -10,7 +10,7 @@ pub returns-clause-audits : goal.returns-clause-audits
 returns-clause-audits g c clean was spells =
     let still = subst (λ held. HasCleanDisk (state g.S.Store held)) c.into_connection.ensures.same clean in
     let it = c.audit-audited.ensures.tells still in
-    AuditsAs-told was (state_of c.args.store) (state_of c.audit-audited.new.self) _ _ c.audit-audited.result c.tell_evidence.result c.requires (it.answers was spells) c.tell_evidence.ensures
+    AuditsAs-told was (state_of c.args.store) (state_of c.audit-audited.new.self) _ _ c.audit-audited.result c.print_audit.result c.requires (it.answers was spells) c.print_audit.ensures
 
 pub returns-clause-same : goal.returns-clause-same
 returns-clause-same g c clean was spells =

@@ -5,4 +5,4 @@ pub returns-in-Ok : goal.returns-in-Ok
 returns-in-Ok g c = ReportsAcceptFailures-none g.E.Write.contents 1 c.args.errors.now
 
 pub returns : goal.returns
-returns g c = ReportsAcceptFailures-once g.E.Write.contents _ _ (rw c.on.ensures at c.tell.ensures)
+returns g c = ReportsAcceptFailures-once g.E.Write.contents _ _ (rw c.on.ensures at c.put_job_error.ensures)

@@ -6,4 +6,4 @@ pub loop-preserved : goal.loop-preserved
 loop-preserved c =
     let rest = c.loop.rest.now in
     let e : c.args.count - c.loop.counter ≡ suc (c.args.count - (c.loop.counter + 1)) = omega arith in
-    rw c.cut.ensures.after (sym (ap (λ k. part_at k rest) e) ∙ c.loop.invariant)
+    rw c.split_at_byte.ensures.after (sym (ap (λ k. part_at k rest) e) ∙ c.loop.invariant)

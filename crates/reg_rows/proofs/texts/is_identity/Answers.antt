@@ -19,7 +19,7 @@ returns-in_ok-text-in-Ok c =
     let tests : c.eq.result ≡ bytes_eq c.as_str.result.now c.args.text.now = search rules in (
       λ same. record { nodes = nodes; schema = (c.args.text.now, c.in-Ok.ensures.ok); is = sym ((bytes_eq-Decides c.as_str.result.now c.args.text.now).0 (sym tests ∙ same)) ∙ shown },
       λ it.
-          let one : it.nodes ≡ nodes = c.in-Ok.ensures.alone it.nodes (denotes_itself c.args.text.now it) in
+          let one : it.nodes ≡ nodes = c.in-Ok.ensures.unique it.nodes (denotes_itself c.args.text.now it) in
           tests ∙ (bytes_eq-Decides c.as_str.result.now c.args.text.now).1 (shown ∙ ap identity (sym one) ∙ sym it.is),
     )
 

@@ -4,11 +4,11 @@ use Rattle.std.proofs.lemmas.Bool.{both_ways}
 use Rattle.sqlite.specs.Held.{state}
 use Rattle.sqlite.specs.State.{HasCleanDisk}
 use Rattle.reg_store.specs.Spells.{Spells}
-use Rattle.reg_store.specs.Changes.{made_of}
+use Rattle.reg_store.specs.Changes.{stored_after_changes}
 use Rattle.reg_tables.proofs.Transactions.{keeps_then, survives_both}
 use Rattle.reg_tables.proofs.WriteFaults.{erred_with}
 use Rattle.reg_store.specs.Inside.Making.{IsFaultOfChanges}
-use Rattle.reg_store.proofs.Spelling.{made_of-more, fits_at}
+use Rattle.reg_store.proofs.Spelling.{stored_after_changes-more, fits_at}
 use Rattle.reg_store.proofs.Writing.{fault_later, nonempty}
 use Rattle.reg_store.proofs.changes.make_all.Goals as goal
 
@@ -26,9 +26,9 @@ loop-change-preserved g c =
     record {
       same = it.frame.keeps.same_reference ∙ before.same;
       made = λ clean was s fits.
-          let before_this = made_of (take i changes) was in
+          let before_this = stored_after_changes (take i changes) was in
           let step = it.made clean before_this (before.made (early clean) was s fits) (fits_at changes i item was.registry c.loop-change-test.true c.change-item.is fits) in
-          let more = ap (λ d. made_of (d ∷ []) before_this) c.change-item.is ∙ sym (made_of-more changes i item was (omega arith)) in
+          let more = ap (λ d. stored_after_changes (d ∷ []) before_this) c.change-item.is ∙ sym (stored_after_changes-more changes i item was (omega arith)) in
           subst (Spells new.now) more step;
       was_open = λ clean _. (before.commit_stays (early clean)).was_open (it.frame.was_open clean);
       goes_on = λ clean ended. absurd (both_ways _ ended (it.frame.inside clean));
@@ -38,7 +38,7 @@ loop-change-preserved g c =
 
 pub returns-clause-made : goal.returns-clause-made
 returns-clause-made g c clean was s fits =
-    subst (λ l. Spells (state g.S.Store c.loop-change.tx.conn.now).now (made_of l was)) (take_all c.loop-change.change-index c.args.changes.now (omega arith)) (c.loop-change.invariant.made clean was s fits)
+    subst (λ l. Spells (state g.S.Store c.loop-change.tx.conn.now).now (stored_after_changes l was)) (take_all c.loop-change.change-index c.args.changes.now (omega arith)) (c.loop-change.invariant.made clean was s fits)
 
 pub returns-in_err-make-clause-fault : goal.returns-in_err-make-clause-fault
 returns-in_err-make-clause-fault g c clean =
@@ -50,7 +50,7 @@ returns-in_err-make-clause-fault g c clean =
     let changes = c.args.changes.now in
     let i = c.loop-change.change-index in
     erred_with c.from_residual.result e (IsFaultOfChanges old (state g.S.Store c.make.new.tx.conn.now) changes) c.from_residual.ensures.1 (λ was spells fits. fault_later old mid (state g.S.Store c.make.new.tx.conn.now) before.survives early c.make.ensures.frame.keeps.survives.counts (before.goes_on early) e
-    (c.in_err-make.ensures.fault clean (made_of (take i changes) was) (λ is_open. before.made early was (spells ((before.commit_stays early).was_open is_open)) fits)
+    (c.in_err-make.ensures.fault clean (stored_after_changes (take i changes) was) (λ is_open. before.made early was (spells ((before.commit_stays early).was_open is_open)) fits)
     (fits_at changes i c.change-item.result was.registry c.loop-change-test.true c.change-item.is fits)))
 
 pub returns-clause-was_open : goal.returns-clause-was_open

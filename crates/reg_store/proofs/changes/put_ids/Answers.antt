@@ -4,7 +4,7 @@ use Rattle.std.proofs.lemmas.Bool.{both_ways}
 use Rattle.sqlite.specs.Held.{state}
 use Rattle.sqlite.specs.State.{HasCleanDisk}
 use Rattle.reg_core.specs.Registry.{RowKey}
-use Rattle.reg_tables.specs.Contents.{HoldsIn}
+use Rattle.reg_tables.specs.Contents.{HoldsContents}
 use Rattle.reg_tables.proofs.Transactions.{keeps_then, survives_both}
 use Rattle.reg_tables.proofs.WriteFaults.{erred_with}
 use Rattle.reg_store.specs.Inside.Making.{IsFaultOfIds, with_ids}
@@ -30,7 +30,7 @@ loop-id-preserved g c =
       few = search rules;
       puts = λ clean schema known contents holds free.
           let put = it.put clean schema known (with_ids key 1 (take i ids) contents) (before.puts (early clean) schema known contents holds free) (next_is_free key ids contents i c.in-Some.next c.loop-id-test.true position free) in
-          subst (HoldsIn schema new.now) (next_is_put key ids contents i c.in-Some.next c.loop-id-test.true position) put;
+          subst (HoldsContents schema new.now) (next_is_put key ids contents i c.in-Some.next c.loop-id-test.true position) put;
       goes_on = λ clean ended. absurd (both_ways _ ended (it.frame.inside clean));
       commit_stays = λ clean. keeps_then old mid new (before.commit_stays (early clean)) (it.frame.keeps.commit_stays clean);
       survives = survives_both old mid new before.survives it.frame.keeps.survives;
@@ -59,5 +59,5 @@ returns-clause-put g c clean =
     record {
       few = omega (arith, c.loop-id-test.false, c.loop-id.invariant.few);
       puts = λ schema known contents holds free.
-          subst (λ l. HoldsIn schema (state g.S.Store c.loop-id.tx.conn.now).now (with_ids key 1 l contents)) (take_all c.loop-id.id-index ids c.loop-id-test.false) (c.loop-id.invariant.puts clean schema known contents holds free);
+          subst (λ l. HoldsContents schema (state g.S.Store c.loop-id.tx.conn.now).now (with_ids key 1 l contents)) (take_all c.loop-id.id-index ids c.loop-id-test.false) (c.loop-id.invariant.puts clean schema known contents holds free);
     }

@@ -5,7 +5,7 @@ use Rattle.reg_tables.specs.Layout.{IsLayoutOne}
 use Rattle.reg_tables.proofs.Statements.{one_has_five}
 use Rattle.reg_tables.proofs.Transactions.{if_err}
 use Rattle.reg_store.specs.declared.layout.Layout.TheVariants.{One}
-use Rattle.reg_store.specs.Failures.{IsTold}
+use Rattle.reg_store.specs.Failures.{HasDiskCause}
 use Rattle.reg_store.proofs.Failing.{if_err_each, passed}
 use Rattle.reg_store.proofs.MetaLemmas.{not_other}
 use Rattle.reg_store.proofs.Bases.{some_of_one}
@@ -26,16 +26,16 @@ returns-clause-found g c clean =
     let tests = returns-clause-tests g c in
     finds_one old (state g.S.Store c.test_rest.new.db.idle.conn) c.test_rest.result (search rules) (tests.frame.was_open clean) (λ is_open. (c.schema-live.ensures.live is_open).0) (tests.tells clean)
 
-pub returns-clause-told : goal.returns-clause-told
-returns-clause-told g c clean =
+pub returns-clause-disk_cause : goal.returns-clause-disk_cause
+returns-clause-disk_cause g c clean =
     let known : IsLayoutOne (state g.S.Store c.args.db.now.idle.conn).now.schema = search rules in
-    if_err c.test_rest.result (λ e told. told (λ _. one_has_five (state g.S.Store c.args.db.now.idle.conn).now.schema known)) ((returns-clause-tests g c).told clean)
+    if_err c.test_rest.result (λ e told. told (λ _. one_has_five (state g.S.Store c.args.db.now.idle.conn).now.schema known)) ((returns-clause-tests g c).disk_cause clean)
 
-pub returns-in_err-allow-clause-told : goal.returns-in_err-allow-clause-told
-returns-in_err-allow-clause-told g c clean =
+pub returns-in_err-allow-clause-disk_cause : goal.returns-in_err-allow-clause-disk_cause
+returns-in_err-allow-clause-disk_cause g c clean =
     let old = state g.S.Store c.args.db.now.idle.conn in
     let new = state g.S.Store c.test_meta.new.db.idle.conn in
-    passed (IsTold old new) c.from_residual-in_err-allow.result c.in_err-allow.field-0.0 c.from_residual-in_err-allow.ensures.1 (subst (IsTold old new) (sym c.in_err-allow.ensures.err.0) tt)
+    passed (HasDiskCause old new) c.from_residual-in_err-allow.result c.in_err-allow.field-0.0 c.from_residual-in_err-allow.ensures.1 (subst (HasDiskCause old new) (sym c.in_err-allow.ensures.err.0) tt)
 
 pub returns-clause-other : goal.returns-clause-other
 returns-clause-other g c clean =

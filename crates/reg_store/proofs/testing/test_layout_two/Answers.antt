@@ -4,7 +4,7 @@ use Rattle.sqlite.specs.State.{HasCleanDisk}
 use Rattle.reg_tables.specs.Layout.{IsOpenable}
 use Rattle.reg_tables.proofs.Transactions.{if_err}
 use Rattle.reg_store.specs.declared.layout.Layout.TheVariants.{Two}
-use Rattle.reg_store.specs.Failures.{IsTold}
+use Rattle.reg_store.specs.Failures.{HasDiskCause}
 use Rattle.reg_store.proofs.Failing.{if_err_each, passed}
 use Rattle.reg_store.proofs.MetaLemmas.{not_other}
 use Rattle.reg_tables.proofs.Tables.{openable_has_eight, eight_has_five}
@@ -18,16 +18,16 @@ returns-clause-tests g c =
     let t = tests_then g.S.Store c.args.db.now.idle.conn c.test_meta.new.db.idle.conn c.test_all.new.db.idle.conn (c.is_autocommit-idle.ensures.settled idle) c.test_all.result meta c.test_all.ensures.tests in
     test_says g.S.Store c.args.db.now.idle.conn c.test_all.new.db.idle.conn c.test_all.result t (λ x db p. record { base = record { meta = p.0; rest = p.1.0 }; added = p.1.1 })
 
-pub returns-clause-told : goal.returns-clause-told
-returns-clause-told g c clean =
+pub returns-clause-disk_cause : goal.returns-clause-disk_cause
+returns-clause-disk_cause g c clean =
     let known : IsOpenable (state g.S.Store c.args.db.now.idle.conn).now.schema = search rules in
-    if_err c.test_all.result (λ e told. told (λ _. openable_has_eight (state g.S.Store c.args.db.now.idle.conn).now.schema known)) ((returns-clause-tests g c).told clean)
+    if_err c.test_all.result (λ e told. told (λ _. openable_has_eight (state g.S.Store c.args.db.now.idle.conn).now.schema known)) ((returns-clause-tests g c).disk_cause clean)
 
-pub returns-in_err-allow-clause-told : goal.returns-in_err-allow-clause-told
-returns-in_err-allow-clause-told g c clean =
+pub returns-in_err-allow-clause-disk_cause : goal.returns-in_err-allow-clause-disk_cause
+returns-in_err-allow-clause-disk_cause g c clean =
     let old = state g.S.Store c.args.db.now.idle.conn in
     let new = state g.S.Store c.test_meta.new.db.idle.conn in
-    passed (IsTold old new) c.from_residual-in_err-allow.result c.in_err-allow.field-0.0 c.from_residual-in_err-allow.ensures.1 (subst (IsTold old new) (sym c.in_err-allow.ensures.err.0) tt)
+    passed (HasDiskCause old new) c.from_residual-in_err-allow.result c.in_err-allow.field-0.0 c.from_residual-in_err-allow.ensures.1 (subst (HasDiskCause old new) (sym c.in_err-allow.ensures.err.0) tt)
 
 pub returns-clause-other : goal.returns-clause-other
 returns-clause-other g c clean =

@@ -3,7 +3,7 @@ use Rattle.std.specs.FinMap.{get, insert, empty, get-empty, get-insert}
 use Rattle.std.proofs.lemmas.Cmp.{nat_list_cmp_total}
 use Rattle.sqlite.specs.declared.types.Value.TheVariants.{Text}
 use Rattle.reg_tables.specs.Contents.{text_cmp}
-use Rattle.reg_tables.specs.Changes.{numbered_meta, numbered_contents}
+use Rattle.reg_tables.specs.Changes.{meta_before_level, contents_before_level}
 use Rattle.reg_tables.specs.Layout.{meta}
 use Rattle.reg_tables.specs.Rooms.{CanBeStored}
 use Rattle.reg_tables.proofs.Steps.{turns_failed, turns_from, turns_then}
@@ -11,7 +11,7 @@ use Rattle.reg_tables.proofs.StoredRows.{meta_is_keyed, can_be_stored}
 use Rattle.reg_tables.proofs.WriteFaults.{write_fault_later}
 use Rattle.reg_tables.proofs.creation.create_as.Goals as goal
 
-lacks_global : (number : List ℕ) → get (numbered_meta number) (codes "global") ≡ None
+lacks_global : (number : List ℕ) → get (meta_before_level number) (codes "global") ≡ None
 lacks_global number =
     get-insert nat_list_cmp_total (insert empty (codes "format") (codes "avroreg")) (codes "layout") number (codes "global")
     ∙ get-insert nat_list_cmp_total empty (codes "format") (codes "avroreg") (codes "global")
@@ -25,4 +25,4 @@ returns-in_err-make_numbered g c = turns_failed c.in_err-make_numbered.ensures c
 
 pub returns : goal.returns
 returns g c = turns_then write_fault_later c.in_ok-make_numbered.ensures
-    (turns_from (λ _. (numbered_contents c.args.number.now, 1)) (λ _ db held. (held.0, lacks_global c.args.number.now, held.1, global_fits)) c.put_meta.ensures)
+    (turns_from (λ _. (contents_before_level c.args.number.now, 1)) (λ _ db held. (held.0, lacks_global c.args.number.now, held.1, global_fits)) c.put_meta.ensures)

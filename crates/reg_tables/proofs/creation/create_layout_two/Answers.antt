@@ -3,7 +3,7 @@ use Rattle.std.specs.FinMap.{get, insert, empty, get-empty, get-insert}
 use Rattle.std.proofs.lemmas.Cmp.{nat_list_cmp_total}
 use Rattle.sqlite.specs.declared.types.Value.TheVariants.{Text}
 use Rattle.reg_tables.specs.Contents.{text_cmp}
-use Rattle.reg_tables.specs.Changes.{meta_as, contents_as, with_meta}
+use Rattle.reg_tables.specs.Changes.{meta_of_layout, contents_of_layout, with_meta}
 use Rattle.reg_tables.specs.Layout.{meta}
 use Rattle.reg_tables.specs.Rooms.{CanBeStored}
 use Rattle.reg_tables.proofs.Steps.{turns_failed, turns_from, turns_then}
@@ -11,7 +11,7 @@ use Rattle.reg_tables.proofs.StoredRows.{meta_is_keyed, can_be_stored}
 use Rattle.reg_tables.proofs.WriteFaults.{write_fault_later}
 use Rattle.reg_tables.proofs.creation.create_layout_two.Goals as goal
 
-lacks_mode : get (meta_as (codes "2") (codes "BACKWARD")) (codes "mode") ≡ None
+lacks_mode : get (meta_of_layout (codes "2") (codes "BACKWARD")) (codes "mode") ≡ None
 lacks_mode =
     get-insert nat_list_cmp_total (insert (insert empty (codes "format") (codes "avroreg")) (codes "layout") (codes "2")) (codes "global") (codes "BACKWARD") (codes "mode")
     ∙ get-insert nat_list_cmp_total (insert empty (codes "format") (codes "avroreg")) (codes "layout") (codes "2") (codes "mode")
@@ -26,11 +26,11 @@ returns-in_err-create_as g c = turns_failed c.in_err-create_as.ensures c.from_re
 
 pub returns-in_err-put_meta : goal.returns-in_err-put_meta
 returns-in_err-put_meta g c =
-    let mode = turns_from (λ _. (contents_as (codes "2"), 0)) (λ _ db held. (held.0, lacks_mode, held.1, mode_fits)) c.in_err-put_meta.ensures in
+    let mode = turns_from (λ _. (contents_of_layout (codes "2"), 0)) (λ _ db held. (held.0, lacks_mode, held.1, mode_fits)) c.in_err-put_meta.ensures in
     turns_failed (turns_then write_fault_later c.in_ok-create_as.ensures mode) c.from_residual-in_err-put_meta.ensures.1
 
 pub returns : goal.returns
 returns g c =
-    let mode = turns_from (λ _. (contents_as (codes "2"), 0)) (λ _ db held. (held.0, lacks_mode, held.1, mode_fits)) c.in_ok-put_meta.ensures in
-    let added = turns_from (λ _. with_meta (codes "mode") (codes "READWRITE") (contents_as (codes "2"))) (λ _ db held. held.0) c.add_tables.ensures in
-    turns_then write_fault_later (turns_then write_fault_later c.in_ok-create_as.ensures mode) added
+    let mode = turns_from (λ _. (contents_of_layout (codes "2"), 0)) (λ _ db held. (held.0, lacks_mode, held.1, mode_fits)) c.in_ok-put_meta.ensures in
+    let added_tables = turns_from (λ _. with_meta (codes "mode") (codes "READWRITE") (contents_of_layout (codes "2"))) (λ _ db held. held.0) c.add_tables.ensures in
+    turns_then write_fault_later (turns_then write_fault_later c.in_ok-create_as.ensures mode) added_tables

@@ -17,8 +17,8 @@ returns-in_err-found-clause-fault g c clean =
     let new = state g.S.Store c.first.new.db.conn in
     if_passed (λ e. CanBeReadIn HasEightTables old → IsFault old new e) c.from_residual.result c.in_err-found.field-0.0 c.from_residual.ensures.1 (λ can. asked_fault count_sql _ _ new IsReadableCount c.in_err-found.field-0.0 [] why.1 (λ is_open. let known = of_eight _ (can is_open) in (asks_count _ known, readable_count _ _ known)))
 
-pub returns-in_err-found-clause-told : goal.returns-in_err-found-clause-told
-returns-in_err-found-clause-told g c clean =
+pub returns-in_err-found-clause-fault_or_unreadable : goal.returns-in_err-found-clause-fault_or_unreadable
+returns-in_err-found-clause-fault_or_unreadable g c clean =
     let why = c.in_err-found.ensures.failed clean in
     let old = state g.S.Store c.args.db.now.conn in
     let new = state g.S.Store c.first.new.db.conn in

@@ -11,6 +11,6 @@ returns g c = record {
   listed = λ clean. if_ok c.list.result (λ lines read. lists_ids (c.args.subject.now, c.args.number) _ _ lines.items read.1 (rw (c.params-to_sql.ensures, c.params-to_sql-2.ensures) at read.2) read.3) (c.list.ensures.read clean);
   fault = λ clean. if_err c.list.result (λ e why. λ can. asked_fault ids_sql _ _ (state g.S.Store c.list.new.db.conn) IsReadableAgainst e (of_version (c.args.subject.now, c.args.number)) (rw (c.params-to_sql.ensures, c.params-to_sql-2.ensures) at why.1)
       (λ is_open. reads_ids (c.args.subject.now, c.args.number) _ _ (can is_open))) (c.list.ensures.failed clean);
-  told = λ clean. if_err c.list.result (λ e why. λ known. asked_told ids_sql _ _ (state g.S.Store c.list.new.db.conn) IsReadableAgainst e (of_version (c.args.subject.now, c.args.number)) (rw (c.params-to_sql.ensures, c.params-to_sql-2.ensures) at why.1)
+  fault_or_unreadable = λ clean. if_err c.list.result (λ e why. λ known. asked_told ids_sql _ _ (state g.S.Store c.list.new.db.conn) IsReadableAgainst e (of_version (c.args.subject.now, c.args.number)) (rw (c.params-to_sql.ensures, c.params-to_sql-2.ensures) at why.1)
       (λ is_open. asks_ids (c.args.subject.now, c.args.number) _ (known is_open))) (c.list.ensures.failed clean);
 }

@@ -1,7 +1,7 @@
 use Rattle.std.proofs.Common.{inl, arith, subst}
 use Rattle.sqlite.specs.Held.{state}
 use Rattle.sqlite.specs.State.{HasCleanDisk}
-use Rattle.reg_tables.specs.Contents.{HoldsIn}
+use Rattle.reg_tables.specs.Contents.{HoldsContents}
 use Rattle.reg_tables.specs.Inside.Keyed.{without_entry}
 use Rattle.reg_tables.proofs.KeyedWrites.{free_once_dropped, set_by_both}
 use Rattle.reg_tables.proofs.Transactions.{on_ok, if_err, if_err_is}
@@ -13,7 +13,7 @@ returns-clause-set g c clean =
     let early : HasCleanDisk (state g.S.Store c.drop.new.tx.conn.now) = omega (arith, c.put.ensures.frame.keeps.survives.clean) in
     on_ok c.put.result (λ put schema written key value by cells contents holds.
     let name = g.T.KeyedTable.name in
-    subst (HoldsIn schema (state g.S.Store c.put.new.tx.conn.now).now) (set_by_both name contents key value)
+    subst (HoldsContents schema (state g.S.Store c.put.new.tx.conn.now).now) (set_by_both name contents key value)
     (put schema written key value cells (without_entry name key contents) (c.in_ok-drop.ensures.dropped early schema written key by contents holds) (free_once_dropped name contents key))) (c.put.ensures.put clean)
 
 pub returns-in_err-drop-clause-fault : goal.returns-in_err-drop-clause-fault

@@ -4,7 +4,7 @@ use Rattle.serde_json.specs.Data.{array}
 use Rattle.serde_json.specs.View.{members_view}
 use Rattle.avro_nodes.specs.Nodes.{named_view, texts_view}
 use Rattle.avro_nodes.specs.Identity.{texts, enum_value}
-use Rattle.avro_nodes.proofs.Forms.{made, enum_parts, enum_put}
+use Rattle.avro_nodes.proofs.Forms.{made, enum_attributes, enum_put}
 use Rattle.avro_nodes.proofs.identity.types.write_enum.Goals as goal
 
 pub returns : goal.returns
@@ -14,7 +14,7 @@ returns c =
     let symbols = texts_view c.args.symbols.now in
     let fallback = option_map string_bytes c.args.fallback.now in
     let space = c.args.enclosing.now in
-    let ps = enum_parts space named symbols fallback in
+    let ps = enum_attributes space named symbols fallback in
     let aliases = rw c.deref.ensures.value at c.in_ok-write_aliases.ensures in
     let name = rw c.as_str-name.ensures.value at c.in_ok-write_text.ensures in
     let namespace = rw c.as_str-name.ensures.value at c.in_ok-write_namespace.ensures in

@@ -6,7 +6,7 @@ use Rattle.avro_nodes.specs.Nodes.{named_view}
 use Rattle.avro_nodes.specs.Identity.{fixed_value}
 use Rattle.avro_nodes.proofs.Written.{number_written}
 use Rattle.avro_nodes.proofs.Digits.{unsigned_text}
-use Rattle.avro_nodes.proofs.Forms.{made, fixed_parts, fixed_put}
+use Rattle.avro_nodes.proofs.Forms.{made, fixed_attributes, fixed_put}
 use Rattle.avro_nodes.proofs.identity.types.write_fixed.Goals as goal
 
 pub returns : goal.returns
@@ -17,7 +17,7 @@ returns c =
     let aliases = rw c.deref.ensures.value at c.in_ok-write_aliases.ensures in
     let name = rw c.as_str-name.ensures.value at c.in_ok-write_text.ensures in
     let namespace = rw c.as_str-name.ensures.value at c.in_ok-write_namespace.ensures in
-    let ps = fixed_parts space named c.args.size in
+    let ps = fixed_attributes space named c.args.size in
     let wide : c.from.result ≡ c.args.size = search rules in
     let spells = unsigned_text (unsigned c.args.size) c.args.size refl (omega arith) in
     let size = number_written (unsigned c.args.size) c.write_name.new.out c.unsigned.new.self (decimal c.args.size, rw wide at c.in_ok-unsigned.ensures, spells.0, spells.1) in

@@ -9,7 +9,7 @@ use Rattle.avro_schema.proofs.schema.Schema.read.Goals as goal
 pub returns-in_err-nodes : goal.returns-in_err-nodes
 returns-in_err-nodes c =
     let p = err_from_is_err_and c.from_residual.result c.from_residual.ensures.1 in
-    rw p.1 (record { ok = tt; alone = tt; err = λ other. none_typed _ (refused _ _ (λ is. other (p.2 ∙ is)) c.in_err-nodes.ensures) })
+    rw p.1 (record { ok = tt; unique = tt; err = λ other. none_typed _ (refused _ _ (λ is. other (p.2 ∙ is)) c.in_err-nodes.ensures) })
 
 pub returns-then-not-mentions_fit-clause-err : goal.returns-then-not-mentions_fit-clause-err
 returns-then-not-mentions_fit-clause-err c =
@@ -44,4 +44,4 @@ returns c =
     let short : length (identity (nodes_view c.in_ok-nodes.nodes.items)) ≤ max_text = omega arith in
     let fit = rw c.deref-2.ensures.value at (sym c.in_ok-defaults_fit.ensures ∙ c.if-not-branch.false) in
     let here = denoted_says _ _ c.in_ok-nodes.ensures fit short in
-    record { ok = here; alone = λ nodes t. one_schema _ _ _ t here; err = tt }
+    record { ok = here; unique = λ nodes t. one_schema _ _ _ t here; err = tt }

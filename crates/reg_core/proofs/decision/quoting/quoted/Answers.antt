@@ -8,10 +8,10 @@ loop-mark-init c =
     let same = c.as_bytes-bytes.ensures.value in
     let begun : string_bytes c.push_str.new.self ≡ 34 ∷ [] = search rules in
     record {
-      place = (omega arith, rw same at c.next_mark-mark.ensures.place.1);
+      place = (omega arith, rw same at c.next_escape-mark.ensures.place.1);
       cut = IsCharBoundary-start c.args.text.now c.utf8.text;
-      found = rw same at c.next_mark-mark.ensures.found;
-      so_far = first_run c.args.text.now _ c.next_mark-mark.result begun (rw same at c.next_mark-mark.ensures.plain);
+      found = rw same at c.next_escape-mark.ensures.found;
+      so_far = first_run c.args.text.now _ c.next_escape-mark.result begun (rw same at c.next_escape-mark.ensures.plain);
     }
 
 pub range-requires-clause-end_boundary : goal.range-requires-clause-end_boundary
@@ -25,7 +25,7 @@ loop-mark-preserved c =
     let same = c.as_bytes-bytes.ensures.value in
     let text = c.args.text.now in
     let mark = c.loop-mark.mark in
-    let next = c.next_mark-mark-in-loop-mark in
+    let next = c.next_escape-mark-in-loop-mark in
     let within : mark < length text = omega arith in
     let escaped = mark_escaped (get_or text mark 0) (c.loop-mark.invariant.found within) (omega (arith, rw same at c.if-bytes-mark-lt32.false)) in
     let step = next_run text (string_bytes c.loop-mark.out) c.loop-mark.from mark next.result c.loop-mark.invariant.place.0 within next.ensures.place.0 escaped (rw same at next.ensures.plain) c.loop-mark.invariant.so_far in

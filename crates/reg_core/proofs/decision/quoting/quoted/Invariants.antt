@@ -2,7 +2,7 @@ use Rattle.std.proofs.Common.{◌≡◌, ◌≤◌, ◌<◌, ◌-◌, ◌∷◌,
 use Rattle.std.specs.Prelude.{slice_range}
 use Rattle.std.specs.Str.{IsCharBoundary}
 use Rattle.json.specs.Print.{escape}
-use Rattle.reg_core.proofs.Quoting.{is_mark}
+use Rattle.reg_core.proofs.Quoting.{needs_escape}
 use Rattle.reg_core.proofs.decision.quoting.quoted.Given as goal
 
 -- with the run that begins last, the text up to the mark
@@ -11,7 +11,7 @@ invariant-loop-mark l =
     record {
       place : (l.from ≤ l.mark) × (l.mark ≤ length l.text);
       cut : IsCharBoundary l.text l.from;
-      found : l.mark < length l.text → is_mark (get_or l.text l.mark 0) ≡ true;
+      found : l.mark < length l.text → needs_escape (get_or l.text l.mark 0) ≡ true;
       so_far : string_bytes l.out ++ slice_range l.text l.from l.mark ≡ 34 ∷ escape (take l.mark l.text);
     }
 

@@ -2,23 +2,23 @@ use Rattle.std.proofs.Common.{◌≡◌, map, Bool, Some, None, refl, sym, ap, s
 use Rattle.std.specs.Prelude.{option_map, option_copied}
 use Rattle.std.proofs.lemmas.Result.{IfOk-weaker}
 use Rattle.avro_nodes.specs.Nodes.{nodes_view}
-use Rattle.reg_core.specs.Replies.{Told, IsOwnReply, answer}
+use Rattle.reg_core.specs.Replies.{ReplyView, IsCommandReply, answer}
 use Rattle.reg_core.specs.Bodies.{verdict_body}
 use Rattle.reg_core.specs.Registry.{Registry, Row}
 use Rattle.reg_core.specs.Rows.{live_rows}
 use Rattle.std.specs.Borrow.{Bor}
-use Rattle.reg_core.proofs.OwnReplies.{invalid_schema-IsOwnReply}
+use Rattle.reg_core.proofs.OwnReplies.{invalid_schema-IsCommandReply}
 use Rattle.reg_core.proofs.CheckLemmas.{check_all_none, check_all_shown}
 use Rattle.reg_core.proofs.VersionVerdicts.{verdict_of}
 use Rattle.reg_core.proofs.decision.registering.check_all.Goals as goal
 
 pub returns-in_default-clause-reply : goal.returns-in_default-clause-reply
-returns-in_default-clause-reply c = λ g subject text supported ground.
+returns-in_default-clause-reply c = λ g subject text supported input.
     let none : option_map nodes_view (option_copied c.args.schema) ≡ None = rw c.in_default.is refl in
-    c.fault.ensures ∙ ap (λ (s : Registry × Told). s.1) (sym (check_all_none g subject text supported c.args.view.now _ ground none))
+    c.fault.ensures ∙ ap (λ (s : Registry × ReplyView). s.1) (sym (check_all_none g subject text supported c.args.view.now _ input none))
 
 pub returns-in_default-clause-own : goal.returns-in_default-clause-own
-returns-in_default-clause-own c = subst IsOwnReply (sym c.fault.ensures) invalid_schema-IsOwnReply
+returns-in_default-clause-own c = subst IsCommandReply (sym c.fault.ensures) invalid_schema-IsCommandReply
 
 pub returns-clause-reply : goal.returns-clause-reply
 returns-clause-reply c =
@@ -29,7 +29,7 @@ returns-clause-reply c =
     ap (map (λ (row : Bor Row). row.now)) c.deref-2.ensures.value ∙ (c.in_ok-live.ensures ∙ ap live_rows c.deref.ensures.value) in
     let fits = verdict_of view new c.level_in_force.result (map (λ (row : Bor Row). row.now) c.deref-2.result.now) (live_rows view.rows.items) c.level_in_force.ensures live c.in_ok-fits.fits c.in_ok-fits.ensures in
     IfOk-weaker c.verdict_reply.result _ _
-    (λ reply h g subject text supported ground.
+    (λ reply h g subject text supported input.
     h ∙ (ap (λ (b : Bool). answer (verdict_body b)) fits
-    ∙ ap (λ (s : Registry × Told). s.1) (sym (check_all_shown g subject text supported view _ ground new some))))
+    ∙ ap (λ (s : Registry × ReplyView). s.1) (sym (check_all_shown g subject text supported view _ input new some))))
     c.verdict_reply.ensures

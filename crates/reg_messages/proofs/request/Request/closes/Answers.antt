@@ -2,7 +2,7 @@ use Rattle.std.proofs.Common.{◌≡◌, ◌≢◌, refl, ℕ, Bool, true, false
 use Rattle.std.specs.Prelude.{◌==◌}
 use Rattle.std.proofs.lemmas.Bool.Decides.{Decides-eqb}
 use Rattle.http1.specs.Fields.{known_fields, has_option, elements_named}
-use Rattle.reg_messages.specs.Fields.{Pair}
+use Rattle.reg_messages.specs.Fields.{HeaderField}
 use Rattle.reg_messages.specs.BorrowedRequests.{fields_in}
 use Rattle.reg_messages.specs.Closing.{closes_by}
 use Rattle.reg_messages.proofs.request.Request.closes.Goals as goal
@@ -17,11 +17,11 @@ is_not_0 minor h = by (minor == 0) (Decides-eqb minor 0)
     by true d = absurd (h (d.0 refl))
     by false d = refl
 
-old_version : (minor : ℕ) (fields : List Pair) → minor == 0 ≡ true → minor == 0 ≡ closes_by minor fields
+old_version : (minor : ℕ) (fields : List HeaderField) → minor == 0 ≡ true → minor == 0 ≡ closes_by minor fields
 unfolding closes_by
 old_version minor fields e = e ∙ sym (ap (λ b. b || has_option (codes "close") (elements_named (codes "connection") fields)) e)
 
-listed : (minor : ℕ) (fields : List Pair) → minor == 0 ≡ false → (known_fields fields).close ≡ closes_by minor fields
+listed : (minor : ℕ) (fields : List HeaderField) → minor == 0 ≡ false → (known_fields fields).close ≡ closes_by minor fields
 unfolding closes_by known_fields
 listed minor fields e = sym (ap (λ b. b || has_option (codes "close") (elements_named (codes "connection") fields)) e)
 

@@ -28,7 +28,7 @@ unread path bad = by (is_utf8 path) refl
     by false e = refl
 
 pub returns-in-Ok : goal.returns-in-Ok
-returns-in-Ok c = let read = c.in-Ok.ensures.cases in looked_up c.args.path.now c.look.result read.1 (rw read.0 at c.look.ensures)
+returns-in-Ok c = let read = c.in-Ok.ensures.cases in looked_up c.args.path.now c.lookup.result read.1 (rw read.0 at c.lookup.ensures)
 
 pub returns-in-Err : goal.returns-in-Err
 returns-in-Err c = unread c.args.path.now c.in-Err.ensures.cases.0

@@ -2,9 +2,9 @@ use Rattle.std.proofs.Common.{rules, ◌≡◌, ◌∙◌, ap}
 use Rattle.std.specs.Prelude.{OnOk, option_copied, option_map}
 use Rattle.avro_nodes.specs.Nodes.{nodes_view}
 use Rattle.avro_nodes.specs.Identity.{identity}
-use Rattle.reg_core.specs.Machine.{schema_sent}
-use Rattle.reg_core.specs.Views.{IsGround, schema_taken}
-use Rattle.reg_core.proofs.ViewLemmas.{taken-sent}
+use Rattle.reg_core.specs.Machine.{command_schema}
+use Rattle.reg_core.specs.Views.{IsDecisionInput, used_schema}
+use Rattle.reg_core.proofs.ViewLemmas.{used_schema-sent}
 use Rattle.reg_store.proofs.EvidenceOwners.{is_of_versions}
 use Rattle.reg_service.proofs.StoreCalls.{decided_for}
 use Rattle.reg_service.proofs.OpenConnections.{goes_on, keeps_reading}
@@ -13,12 +13,12 @@ use Rattle.reg_service.proofs.service.Service.decision.Goals as goal
 pub returns-clause-decided : goal.returns-clause-decided
 returns-clause-decided g c clean was over =
     let command = c.args.command.now in
-    let text : option_copied c.as_deref.result ≡ option_map identity (schema_sent command) = search rules in
-    let sent : option_map nodes_view (option_copied c.as_ref-2.result) ≡ schema_sent command = search rules in
+    let text : option_copied c.as_deref.result ≡ option_map identity (command_schema command) = search rules in
+    let sent : option_map nodes_view (option_copied c.as_ref-2.result) ≡ command_schema command = search rules in
     let spells = (over (c.in_ok-view.ensures.frame.was_open clean)).spells in
-    let ground : IsGround was.registry command (schema_taken command (option_map nodes_view (option_copied c.as_ref-2.result))) c.in_ok-view.view = record {
+    let ground : IsDecisionInput was.registry command (used_schema command (option_map nodes_view (option_copied c.as_ref-2.result))) c.in_ok-view.view = record {
       registry = spells.spelled.base.registry;
-      sent = ap (schema_taken command) sent ∙ taken-sent command;
+      sent = ap (used_schema command) sent ∙ used_schema-sent command;
       shows = (c.in_ok-view.ensures.tells clean).answers was over (λ _. text);
     } in
     decided_for was command _ c.in_ok-view.view c.in_ok-decision.decision c.in_ok-decision.ensures ground (is_of_versions _ was spells)

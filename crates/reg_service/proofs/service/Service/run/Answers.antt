@@ -6,15 +6,15 @@ use Rattle.reg_core.specs.Replies.{fault}
 use Rattle.reg_core.specs.declared.delivery.Delivery.{Delivery}
 use Rattle.reg_store.specs.Stores.{has_failed}
 use Rattle.reg_service.specs.Deliveries.{Exchange, served}
-use Rattle.reg_service.specs.Crashes.{IsFoundAfter}
+use Rattle.reg_service.specs.Crashes.{RecoversAcknowledged}
 use Rattle.reg_service.specs.Processing.{ProcessesEach}
 use Rattle.reg_service.proofs.Chains.{processes_next}
 use Rattle.reg_service.proofs.DueReplies.{repeats_agree, no_other_answers}
-use Rattle.reg_service.specs.Services.{store_in, state_in, AreUnanswered, FailsAt, KeepsService}
+use Rattle.reg_service.specs.Services.{store_in, state_in, AreBackendFaults, FailsAt, PreservesService}
 use Rattle.reg_service.proofs.OverTables.{none_over, next_over}
 use Rattle.reg_service.proofs.AdmissionLemmas.{all_admitted}
 use Rattle.reg_service.proofs.CrashLemmas.{leaves_open}
-use Rattle.reg_service.proofs.FoundLists.{fails_next, found_next, found_none, passes_next, zip_next}
+use Rattle.reg_service.proofs.RecoveredLists.{fails_next, found_next, found_none, passes_next, zip_next}
 use Rattle.reg_service.proofs.OpenConnections.{keeps_still, keeps_next}
 use Rattle.reg_service.proofs.service.Service.run.Goals as goal
 
@@ -26,7 +26,7 @@ loop-delivery-init g c =
       count = ap length new.items;
       each = refl;
       room = new.capacity;
-      frame = subst (λ items. KeepsService c.args.self.now c.args.self.now (AreUnanswered items)) (sym new.items) (keeps_still c.args.self.now (AreUnanswered []) (All-nil (λ reply. reply ≡ fault BackendFault)));
+      frame = subst (λ items. PreservesService c.args.self.now c.args.self.now (AreBackendFaults items)) (sym new.items) (keeps_still c.args.self.now (AreBackendFaults []) (All-nil (λ reply. reply ≡ fault BackendFault)));
       passed = keeps_still c.args.self.now ([] ≡ []) refl;
       fails = λ failed. inl failed;
       served = λ h. none_over _;
@@ -40,7 +40,7 @@ loop-delivery-preserved g c =
     let one = c.answer-reply.ensures in
     let all = zip (take c.loop-delivery.delivery-index c.args.list.now) c.loop-delivery.replies.items in
     let next = sym (zip_next c.args.list.now c.loop-delivery.delivery-index c.delivery-item.result c.loop-delivery.replies.items c.push_reserved.new.self.items c.answer-reply.result c.loop-delivery-test.true c.delivery-item.is i.count more.items) in
-    let Passed : List Exchange → Type 0 = λ xs. KeepsService c.args.self.now c.answer-reply.new.self (served xs ≡ []) in
+    let Passed : List Exchange → Type 0 = λ xs. PreservesService c.args.self.now c.answer-reply.new.self (served xs ≡ []) in
     let Fails : List Exchange → Type 0 = λ xs. IsTrue (has_failed (store_in c.args.self.now)) ⊎ FailsAt c.args.self.now c.answer-reply.new.self xs in
     record {
       len = omega (arith, i.len, more.len);
@@ -51,13 +51,13 @@ loop-delivery-preserved g c =
       passed = subst Passed next (passes_next c.args.self.now c.loop-delivery.self c.answer-reply.new.self all c.delivery-item.result c.answer-reply.result i.passed one.frame);
       fails = λ failed. subst Fails next (fails_next c.args.self.now c.loop-delivery.self c.answer-reply.new.self all c.delivery-item.result c.answer-reply.result i.passed one.frame one.fails i.fails failed);
       served = λ h. next_over _ _ _ c.args.list.now c.loop-delivery.delivery-index c.delivery-item.result c.loop-delivery.replies.items c.push_reserved.new.self.items c.answer-reply.result
-          c.loop-delivery-test.true c.delivery-item.is i.count more.items (i.served (one.frame.clean h)) (one.served h);
-      crash = λ h was over. subst (λ (xs : List Exchange). IsFoundAfter c.args.self.now c.answer-reply.new.self was xs) next
+          c.loop-delivery-test.true c.delivery-item.is i.count more.items (i.served (one.frame.clean h)) (one.exactly_once h);
+      crash = λ h was over. subst (λ (xs : List Exchange). RecoversAcknowledged c.args.self.now c.answer-reply.new.self was xs) next
           (found_next c.args.self.now c.loop-delivery.self c.answer-reply.new.self all c.delivery-item.result c.answer-reply.result was over (i.served (one.frame.clean h)) i.passed one.frame h (i.crash (one.frame.clean h) was over) (one.crash h));
     }
 
-pub returns-clause-served : goal.returns-clause-served
-returns-clause-served g c clean was over =
+pub returns-clause-exactly_once : goal.returns-clause-exactly_once
+returns-clause-exactly_once g c clean was over =
     let all : take c.loop-delivery.delivery-index c.args.list.now ≡ c.args.list.now = take_all c.loop-delivery.delivery-index c.args.list.now c.loop-delivery-test.false in
     rw all at (c.loop-delivery.invariant.served clean was over)
 
@@ -68,27 +68,27 @@ returns-clause-each g c =
 
 pub returns-clause-repeats : goal.returns-clause-repeats
 returns-clause-repeats g c clean was over =
-    repeats_agree _ (served (zip c.args.list.now c.loop-delivery.replies.items)) (returns-clause-served g c clean was over).serves.replies
+    repeats_agree _ (served (zip c.args.list.now c.loop-delivery.replies.items)) (returns-clause-exactly_once g c clean was over).serves.replies
 
 pub returns-clause-only : goal.returns-clause-only
 returns-clause-only g c clean was over =
-    no_other_answers _ (served (zip c.args.list.now c.loop-delivery.replies.items)) (returns-clause-served g c clean was over).serves.replies
+    no_other_answers _ (served (zip c.args.list.now c.loop-delivery.replies.items)) (returns-clause-exactly_once g c clean was over).serves.replies
 
 pub returns-clause-crash : goal.returns-clause-crash
 returns-clause-crash g c clean was over =
     let all : take c.loop-delivery.delivery-index c.args.list.now ≡ c.args.list.now = take_all c.loop-delivery.delivery-index c.args.list.now c.loop-delivery-test.false in
-    subst (λ (list : List Delivery). IsFoundAfter c.args.self.now c.loop-delivery.self was (zip list c.loop-delivery.replies.items)) all (c.loop-delivery.invariant.crash clean was over)
+    subst (λ (list : List Delivery). RecoversAcknowledged c.args.self.now c.loop-delivery.self was (zip list c.loop-delivery.replies.items)) all (c.loop-delivery.invariant.crash clean was over)
 
 pub returns-clause-fails : goal.returns-clause-fails
 returns-clause-fails g c failed =
     let all : take c.loop-delivery.delivery-index c.args.list.now ≡ c.args.list.now = take_all c.loop-delivery.delivery-index c.args.list.now c.loop-delivery-test.false in
     subst (λ (list : List Delivery). IsTrue (has_failed (store_in c.args.self.now)) ⊎ FailsAt c.args.self.now c.loop-delivery.self (zip list c.loop-delivery.replies.items)) all (c.loop-delivery.invariant.fails failed)
 
-pub returns-in_err-replies-clause-settled : goal.returns-in_err-replies-clause-settled
-returns-in_err-replies-clause-settled g c = leaves_open (state_in c.args.self.now) (g.met.S.Store.settled c.args.self.now.store.db.idle.conn.store)
+pub returns-in_err-replies-clause-crash_while_open : goal.returns-in_err-replies-clause-crash_while_open
+returns-in_err-replies-clause-crash_while_open g c = leaves_open (state_in c.args.self.now) (g.met.S.Store.settled c.args.self.now.store.db.idle.conn.store)
 
-pub returns-clause-settled : goal.returns-clause-settled
-returns-clause-settled g c = leaves_open (state_in c.loop-delivery.self) (g.met.S.Store.settled c.loop-delivery.self.store.db.idle.conn.store)
+pub returns-clause-crash_while_open : goal.returns-clause-crash_while_open
+returns-clause-crash_while_open g c = leaves_open (state_in c.loop-delivery.self) (g.met.S.Store.settled c.loop-delivery.self.store.db.idle.conn.store)
 
 pub returns-clause-admitted : goal.returns-clause-admitted
 returns-clause-admitted g c clean was over = all_admitted was over.spells.spelled.base.registry _

@@ -2,9 +2,9 @@ use Rattle.std.proofs.Common.{inl, inr, rules}
 use Rattle.std.specs.Prelude.{◌≡◌, ◌↔◌, Err, IsTrue}
 use Rattle.reg_store.specs.declared.error.StoreError.TheVariants.{Disk}
 use Rattle.sqlite.specs.Held.{state}
-use Rattle.reg_store.specs.Changes.{WhereTaken}
+use Rattle.reg_store.specs.Changes.{WhenApplicable}
 use Rattle.reg_store.specs.Failures.{is_fault}
-use Rattle.reg_store.specs.Stores.{LeavesBefore}
+use Rattle.reg_store.specs.Stores.{KeepsCrashStates}
 use Rattle.reg_store.proofs.Committing.{leaves_if_open, still_spells, on_ok_same, on_err_same}
 use Rattle.reg_store.proofs.Keeping.{keeps_store, opens_none}
 use Rattle.reg_store.proofs.Writing.{mapped_err}
@@ -27,7 +27,7 @@ returns-clause-crash g c clean was over takes acts db it =
 
 pub returns-clause-fault : goal.returns-clause-fault
 returns-clause-fault g c clean =
-    mapped_err (λ e. WhereTaken (state g.S.Store c.args.self.now.db.idle.conn) c.args.changes.now c.args.keep (λ was. IsTrue (is_fault e))) c.commit_all-done.result c.map_err-done.result c.map_err-done.ensures.cases
+    mapped_err (λ e. WhenApplicable (state g.S.Store c.args.self.now.db.idle.conn) c.args.changes.now c.args.keep (λ was. IsTrue (is_fault e))) c.commit_all-done.result c.map_err-done.result c.map_err-done.ensures.cases
     (c.commit_all-done.ensures.fault clean)
 
 pub returns-clause-frame : goal.returns-clause-frame
@@ -44,4 +44,4 @@ pub returns-clause-before : goal.returns-clause-before
 returns-clause-before g c clean =
     let old = state g.S.Store c.args.self.now.db.idle.conn in
     let new = state g.S.Store c.commit_all-done.new.db.idle.conn in
-    mapped_err (λ e. IsTrue old.is_open → LeavesBefore old new e) c.commit_all-done.result c.map_err-done.result c.map_err-done.ensures.cases (c.commit_all-done.ensures.before clean)
+    mapped_err (λ e. IsTrue old.is_open → KeepsCrashStates old new e) c.commit_all-done.result c.map_err-done.result c.map_err-done.ensures.cases (c.commit_all-done.ensures.before clean)

@@ -1,7 +1,7 @@
 use Rattle.std.proofs.Common.{◌⊎◌, IsTrue, subst, rules}
 use Rattle.sqlite.specs.Held.{state}
-use Rattle.reg_store.specs.Opening.{IsIndexed, OpensOver, LosesNothing}
-use Rattle.reg_store.specs.UnopenedFaults.{IsUnopened}
+use Rattle.reg_store.specs.Opening.{IsIndexed, OpensOver, CrashKeepsStored}
+use Rattle.reg_store.specs.OpenFailures.{IsOpenFailure}
 use Rattle.reg_store.proofs.OpenLemmas.{loses_nothing, leaves_unlimited}
 use Rattle.reg_store.proofs.store.Store.open.Goals as goal
 
@@ -14,8 +14,8 @@ pub returns-in-Ok-clause-crash_after : goal.returns-in-Ok-clause-crash_after
 returns-in-Ok-clause-crash_after g c clean db it =
     subst (λ h. (state g.S.Store h).may_leave db ⊎ IsIndexed (state g.S.Store h).now db) c.set_step_limit.ensures (c.in-Ok.ensures.survives.crash clean db it)
 
-pub returns-in-Err-clause-crash : goal.returns-in-Err-clause-crash
-returns-in-Err-clause-crash g c clean db it =
+pub returns-in-Err-clause-crash_failed : goal.returns-in-Err-clause-crash_failed
+returns-in-Err-clause-crash_failed g c clean db it =
     subst (λ h. (state g.S.Store h).may_leave db ⊎ IsIndexed (state g.S.Store h).now db) c.set_step_limit.ensures (c.in-Err.ensures.survives.crash clean db it)
 
 pub returns-in-Ok-clause-found_after : goal.returns-in-Ok-clause-found_after
@@ -23,15 +23,15 @@ returns-in-Ok-clause-found_after g c clean =
     let idle : IsTrue c.is_autocommit-idle.result = search rules in
     let old = state g.S.Store c.set_step_limit.new.self in
     let new = state g.S.Store c.make_ready.new.db.idle.conn in
-    subst (λ h. LosesNothing (state g.S.Store h) new) c.set_step_limit.ensures
+    subst (λ h. CrashKeepsStored (state g.S.Store h) new) c.set_step_limit.ensures
     (loses_nothing old new (c.is_autocommit-idle.ensures.settled idle) (λ db is_open it. g.met.S.Store.settled c.set_step_limit.new.self.store db is_open it) c.in-Ok.ensures.survives clean)
 
-pub returns-in-Err-clause-found : goal.returns-in-Err-clause-found
-returns-in-Err-clause-found g c clean =
+pub returns-in-Err-clause-found_failed : goal.returns-in-Err-clause-found_failed
+returns-in-Err-clause-found_failed g c clean =
     let idle : IsTrue c.is_autocommit-idle.result = search rules in
     let old = state g.S.Store c.set_step_limit.new.self in
     let new = state g.S.Store c.make_ready.new.db.idle.conn in
-    subst (λ h. LosesNothing (state g.S.Store h) new) c.set_step_limit.ensures
+    subst (λ h. CrashKeepsStored (state g.S.Store h) new) c.set_step_limit.ensures
     (loses_nothing old new (c.is_autocommit-idle.ensures.settled idle) (λ db is_open it. g.met.S.Store.settled c.set_step_limit.new.self.store db is_open it) c.in-Err.ensures.survives clean)
 
 pub returns-in-Err-clause-leaves : goal.returns-in-Err-clause-leaves
@@ -39,5 +39,5 @@ returns-in-Err-clause-leaves g c = leaves_unlimited g.S.Store c.args.connection 
 
 pub returns-in-Err-clause-fails : goal.returns-in-Err-clause-fails
 returns-in-Err-clause-fails g c clean =
-    let it = subst (λ h. IsUnopened (state g.S.Store h) (state g.S.Store c.make_ready.new.db.idle.conn) c.in-Err.error) c.set_step_limit.ensures (c.in-Err.ensures.fails clean) in
-    record { fault = it.fault; told = it.told; refused = it.refused; other = it.other }
+    let it = subst (λ h. IsOpenFailure (state g.S.Store h) (state g.S.Store c.make_ready.new.db.idle.conn) c.in-Err.error) c.set_step_limit.ensures (c.in-Err.ensures.fails clean) in
+    record { fault = it.fault; disk_cause = it.disk_cause; meta_number = it.meta_number; other = it.other }

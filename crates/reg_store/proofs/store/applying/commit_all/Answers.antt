@@ -8,10 +8,10 @@ use Rattle.sqlite.proofs.Callers.{survives_begin}
 use Rattle.reg_tables.proofs.Transactions.{on_ok, if_err, keeps_then, keeps_if_undone, survives_both}
 use Rattle.reg_tables.proofs.WriteFaults.{erred_with}
 use Rattle.reg_core.specs.Stored.{Stored}
-use Rattle.reg_store.specs.Spells.{Spells, Leaves, IsOpenOver, SpellsWhileOpen}
-use Rattle.reg_store.specs.Changes.{made_of, stored_after, CanTake, WhereTaken, IsTaken, ActsOn}
+use Rattle.reg_store.specs.Spells.{Spells, RecoversTo, IsOpenOver, SpellsWhileOpen}
+use Rattle.reg_store.specs.Changes.{stored_after_changes, stored_after_apply, CanApply, WhenApplicable, HoldsAfterChanges, HasWork}
 use Rattle.reg_store.specs.Failures.{failure_of, is_fault}
-use Rattle.reg_store.specs.Stores.{LeavesBefore}
+use Rattle.reg_store.specs.Stores.{KeepsCrashStates}
 use Rattle.reg_store.proofs.Failing.{fault_if_by}
 use Rattle.reg_store.proofs.Writing.{fault_later, is_fault_of_insert, fault_of_commit, begun_spells, still_inside}
 use Rattle.reg_store.proofs.Committing.{keeps_begin, keeps_if_failed, on_err, on_err_each, left_if_spelled, before_if_undone, before_if_failed}
@@ -26,12 +26,12 @@ returns-clause-done g c clean =
     let clean_last : HasCleanDisk last = omega (arith, c.commit.ensures.survives.clean) in
     let clean_mid : HasCleanDisk (state g.S.Store c.make_all.new.tx.conn.now) = omega (arith, c.keep_reply.ensures.frame.survives.clean) in
     on_ok c.commit.result (λ done was over takes.
-    let after = stored_after c.args.changes.now c.args.keep was in
+    let after = stored_after_apply c.args.changes.now c.args.keep was in
     let mid_open = (c.keep_reply.ensures.frame.commit_stays clean_last).was_open done.1.was_open in
     let begun_open = (c.make_all.ensures.frame.commit_stays clean_mid).was_open mid_open in
     let begun = begun_spells g.S.Store c.args.db.now.idle.conn c.transaction-tx.result.conn.now c.transaction-tx.ensures.begun was over begun_open in
     let made = c.in_ok-make_all.ensures.made clean_mid was begun takes.fit in
-    let put = c.in_ok-keep_reply.ensures.put clean_last (made_of c.args.changes.now was) made takes.fresh in
+    let put = c.in_ok-keep_reply.ensures.put clean_last (stored_after_changes c.args.changes.now was) made takes.fresh in
     let all : IsOpenOver (state g.S.Store end) after =
     record { is_open = done.1.is_open; settled = done.1.committed_is ∙ sym done.1.now_is; spells = subst (λ d. Spells d after) (sym done.1.now_is) put } in
     taken c.args.changes.now c.args.keep was (IsOpenOver (state g.S.Store end)) begun.spelled.base.registry takes.fit all) (c.commit.ensures.ok late)
@@ -43,9 +43,9 @@ returns-clause-survives g c =
     let begun = state g.S.Store c.transaction-tx.result.conn.now in
     let mid = state g.S.Store c.make_all.new.tx.conn.now in
     let last = state g.S.Store c.keep_reply.new.tx.conn.now in
-    let P = λ (db : Trees). WhereTaken first c.args.changes.now c.args.keep (λ was. IsTrue first.is_open ⊎ ActsOn c.args.changes.now c.args.keep → IsTaken c.args.changes.now c.args.keep was (Leaves db)) in
+    let P = λ (db : Trees). WhenApplicable first c.args.changes.now c.args.keep (λ was. IsTrue first.is_open ⊎ HasWork c.args.changes.now c.args.keep → HoldsAfterChanges c.args.changes.now c.args.keep was (RecoversTo db)) in
     let inside = survives_both begun mid last c.make_all.ensures.frame.survives c.keep_reply.ensures.frame.survives in
-    let commits = λ (clean : HasCleanDisk (state g.S.Store end)) (db : Trees) (is : db ≡ last.now.trees) (was : Stored) (over : SpellsWhileOpen first was) (takes : CanTake c.args.changes.now c.args.keep was) (acts : IsTrue first.is_open ⊎ ActsOn c.args.changes.now c.args.keep).
+    let commits = λ (clean : HasCleanDisk (state g.S.Store end)) (db : Trees) (is : db ≡ last.now.trees) (was : Stored) (over : SpellsWhileOpen first was) (takes : CanApply c.args.changes.now c.args.keep was) (acts : IsTrue first.is_open ⊎ HasWork c.args.changes.now c.args.keep).
     let clean_last : HasCleanDisk last = omega (arith, c.commit.ensures.survives.clean) in
     let clean_mid : HasCleanDisk mid = omega (arith, c.keep_reply.ensures.frame.survives.clean) in
     let opened = subst (λ h. IsTrue (state g.S.Store h).is_open) c.transaction-tx.ensures.begun in
@@ -58,9 +58,9 @@ returns-clause-survives g c =
     ] in
     let spelled = subst (λ h. Spells (state g.S.Store h).now was) (sym c.transaction-tx.ensures.begun) (over was_open).spells in
     let made = c.in_ok-make_all.ensures.made clean_mid was spelled takes.fit in
-    let put = c.in_ok-keep_reply.ensures.put clean_last (made_of c.args.changes.now was) made takes.fresh in
-    let left = left_if_spelled db last.now (stored_after c.args.changes.now c.args.keep was) is put in
-    taken c.args.changes.now c.args.keep was (Leaves db) spelled.spelled.base.registry takes.fit left in
+    let put = c.in_ok-keep_reply.ensures.put clean_last (stored_after_changes c.args.changes.now was) made takes.fresh in
+    let left = left_if_spelled db last.now (stored_after_apply c.args.changes.now c.args.keep was) is put in
+    taken c.args.changes.now c.args.keep was (RecoversTo db) spelled.spelled.base.registry takes.fit left in
     let whole = survives_then first last (state g.S.Store end) _ _ P (λ _ db none. absurd none) commits
     (survives_begin g.S.Store c.args.db.now.idle.conn last _ (rw c.transaction-tx.ensures.begun at inside)) c.commit.ensures.survives in
     whole
@@ -73,7 +73,7 @@ returns-in_err-make_all-clause-fault g c clean =
     let e = c.in_err-make_all.field-0.0 in
     let late : HasCleanDisk (state g.S.Store c.drop-tx.new.self.0) = search rules in
     let clean_mid : HasCleanDisk (state g.S.Store c.make_all.new.tx.conn.now) = omega (arith, c.drop-tx.ensures.survives.clean) in
-    erred_with c.from_residual.result e (λ e. WhereTaken first c.args.changes.now c.args.keep (λ was. IsTrue (is_fault (failure_of e)))) c.from_residual.ensures.1
+    erred_with c.from_residual.result e (λ e. WhenApplicable first c.args.changes.now c.args.keep (λ was. IsTrue (is_fault (failure_of e)))) c.from_residual.ensures.1
     (λ was over takes. is_fault_of_insert begun (state g.S.Store c.make_all.new.tx.conn.now) e (ap (λ (h : Held _). h.step_limit) is ∙ c.args.db.now.unlimited) (ap (λ (h : Held _). h.in_transaction) is)
     (c.in_err-make_all.ensures.fault clean_mid was (begun_spells g.S.Store c.args.db.now.idle.conn c.transaction-tx.result.conn.now is was over) takes.fit))
 
@@ -87,12 +87,12 @@ returns-in_err-keep_reply-clause-fault g c clean =
     let late : HasCleanDisk (state g.S.Store c.drop-tx-in_err-keep_reply.new.self.0) = search rules in
     let clean_last : HasCleanDisk (state g.S.Store c.keep_reply.new.tx.conn.now) = omega (arith, c.drop-tx-in_err-keep_reply.ensures.survives.clean) in
     let clean_mid : HasCleanDisk mid = omega (arith, c.keep_reply.ensures.frame.survives.clean) in
-    erred_with c.from_residual-in_err-keep_reply.result e (λ e. WhereTaken first c.args.changes.now c.args.keep (λ was. IsTrue (is_fault (failure_of e)))) c.from_residual-in_err-keep_reply.ensures.1
+    erred_with c.from_residual-in_err-keep_reply.result e (λ e. WhenApplicable first c.args.changes.now c.args.keep (λ was. IsTrue (is_fault (failure_of e)))) c.from_residual-in_err-keep_reply.ensures.1
     (λ was over takes.
     let spelled = begun_spells g.S.Store c.args.db.now.idle.conn c.transaction-tx.result.conn.now is was over in
     is_fault_of_insert begun (state g.S.Store c.keep_reply.new.tx.conn.now) e (ap (λ (h : Held _). h.step_limit) is ∙ c.args.db.now.unlimited) (ap (λ (h : Held _). h.in_transaction) is)
     (fault_later begun mid (state g.S.Store c.keep_reply.new.tx.conn.now) c.make_all.ensures.frame.survives clean_mid c.keep_reply.ensures.frame.survives.counts (c.in_ok-make_all.ensures.goes_on clean_mid) e
-    (c.in_err-keep_reply.ensures.fault clean_last (made_of c.args.changes.now was)
+    (c.in_err-keep_reply.ensures.fault clean_last (stored_after_changes c.args.changes.now was)
     (λ is_open. c.in_ok-make_all.ensures.made clean_mid was (spelled ((c.make_all.ensures.frame.commit_stays clean_mid).was_open is_open)) takes.fit) takes.fresh)))
 
 pub returns-clause-fault : goal.returns-clause-fault
@@ -170,7 +170,7 @@ returns-in_err-make_all-clause-before g c clean =
     let e = c.in_err-make_all.field-0.0 in
     let inside = survives_both begun mid end c.make_all.ensures.frame.survives c.drop-tx.ensures.survives in
     let whole = survives_begin g.S.Store c.args.db.now.idle.conn end _ (rw c.transaction-tx.ensures.begun at inside) in
-    erred_with c.from_residual.result e (λ x. IsTrue first.is_open → LeavesBefore first (state g.S.Store c.drop-tx.new.self.0) (failure_of x)) c.from_residual.ensures.1 (λ is_open. before_if_undone first end (failure_of e) whole late)
+    erred_with c.from_residual.result e (λ x. IsTrue first.is_open → KeepsCrashStates first (state g.S.Store c.drop-tx.new.self.0) (failure_of x)) c.from_residual.ensures.1 (λ is_open. before_if_undone first end (failure_of e) whole late)
 
 pub returns-in_err-keep_reply-clause-before : goal.returns-in_err-keep_reply-clause-before
 returns-in_err-keep_reply-clause-before g c clean =
@@ -183,7 +183,7 @@ returns-in_err-keep_reply-clause-before g c clean =
     let e = c.in_err-keep_reply.field-0.0 in
     let inside = survives_both begun last end (survives_both begun mid last c.make_all.ensures.frame.survives c.keep_reply.ensures.frame.survives) c.drop-tx-in_err-keep_reply.ensures.survives in
     let whole = survives_begin g.S.Store c.args.db.now.idle.conn end _ (rw c.transaction-tx.ensures.begun at inside) in
-    erred_with c.from_residual-in_err-keep_reply.result e (λ x. IsTrue first.is_open → LeavesBefore first (state g.S.Store c.drop-tx-in_err-keep_reply.new.self.0) (failure_of x)) c.from_residual-in_err-keep_reply.ensures.1
+    erred_with c.from_residual-in_err-keep_reply.result e (λ x. IsTrue first.is_open → KeepsCrashStates first (state g.S.Store c.drop-tx-in_err-keep_reply.new.self.0) (failure_of x)) c.from_residual-in_err-keep_reply.ensures.1
     (λ is_open. before_if_undone first end (failure_of e) whole late)
 
 pub returns-clause-before : goal.returns-clause-before

@@ -4,7 +4,7 @@ use Rattle.std.proofs.lemmas.List.{take_all}
 use Rattle.std.proofs.lemmas.List.Elements.{All-nil}
 use Rattle.sqlite.specs.Held.{state}
 use Rattle.avro_nodes.specs.Nodes.{nodes_view}
-use Rattle.reg_core.specs.Evidence.{GoesWith}
+use Rattle.reg_core.specs.Evidence.{IsCompatibleWith}
 use Rattle.reg_store.proofs.AuditLemmas.{named_at, more_here, one_here}
 use Rattle.reg_store.proofs.HandingLemmas.{all_taken}
 use Rattle.reg_store.proofs.ReadLemmas.{clean_at, may_both, may_go_on, may_stop, opened_by, unread}
@@ -12,7 +12,7 @@ use Rattle.reg_store.proofs.store.auditing.goes_with_all.Goals as goal
 
 pub loop-index-init : goal.loop-index-init
 loop-index-init g c = record {
-  so_far = unread c.args.db.now (λ was one had. All-nil (GoesWith was.registry.schemas c.args.level (nodes_view c.args.new.now)));
+  so_far = unread c.args.db.now (λ was one had. All-nil (IsCompatibleWith was.registry.schemas c.args.level (nodes_view c.args.new.now)));
   was_open = λ low clean. absurd (omega (arith, low));
 }
 
@@ -23,7 +23,7 @@ loop-index-preserved g c =
     let goes = c.in_ok-goes_with_id.ensures in
     record {
       so_far = may_go_on (may_both before.so_far id.may) goes.may (λ was over found goes one had.
-          more_here (GoesWith was.registry.schemas c.args.level (nodes_view c.args.new.now)) one.against c.loop-index.index c.in-Some.id
+          more_here (IsCompatibleWith was.registry.schemas c.args.level (nodes_view c.args.new.now)) one.against c.loop-index.index c.in-Some.id
           (sym (named_at was c.args.row.now.0 one c.loop-index.index had) ∙ sym (rw c.in-Some.is at found.1))
           (found.0 one had) (goes.0 (search rules)));
       was_open = λ low clean. opened_by before.so_far id (clean_at (state g.S.Store c.loop-index.db.idle.conn) (state g.S.Store c.id_named.new.db.idle.conn) (state g.S.Store c.goes_with_id.new.db.idle.conn) goes.may.rests clean);
@@ -36,7 +36,7 @@ pub returns-in_default : goal.returns-in_default
 returns-in_default g c =
     may_go_on c.loop-index.invariant.so_far c.in_ok-id.ensures.may (λ was over before found one had.
     let none = sym (rw c.in_default.is at found) in
-    (λ _. subst (All (GoesWith was.registry.schemas c.args.level (nodes_view c.args.new.now))) (all_taken one.against c.loop-index.index (sym none ∙ named_at was c.args.row.now.0 one c.loop-index.index had)) (before one had), λ _. refl))
+    (λ _. subst (All (IsCompatibleWith was.registry.schemas c.args.level (nodes_view c.args.new.now))) (all_taken one.against c.loop-index.index (sym none ∙ named_at was c.args.row.now.0 one c.loop-index.index had)) (before one had), λ _. refl))
 
 pub returns-in_err-goes_with_id : goal.returns-in_err-goes_with_id
 returns-in_err-goes_with_id g c = may_stop (may_both c.loop-index.invariant.so_far c.in_ok-id.ensures.may) c.in_err-goes_with_id.ensures.may c.from_residual-in_err-goes_with_id.ensures.1
@@ -46,7 +46,7 @@ returns-then-not-branch g c =
     may_go_on (may_both c.loop-index.invariant.so_far c.in_ok-id.ensures.may) c.in_ok-goes_with_id.ensures.may (λ was over found goes one had. (
       λ h. absurd (cc),
       λ all. absurd (
-          let said = goes.1 (one_here (GoesWith was.registry.schemas c.args.level (nodes_view c.args.new.now)) one.against c.loop-index.index c.in-Some.id
+          let said = goes.1 (one_here (IsCompatibleWith was.registry.schemas c.args.level (nodes_view c.args.new.now)) one.against c.loop-index.index c.in-Some.id
           (sym (named_at was c.args.row.now.0 one c.loop-index.index had) ∙ sym (rw c.in-Some.is at found.1)) all) in cc),
     ))
 
@@ -57,5 +57,5 @@ returns g c =
       rests = it.so_far.rests;
       answers = λ clean was over one had.
           (let few = (over (it.was_open (omega arith) clean)).spells.spelled.evidence.few c.args.row.now.0 one had in
-          (λ _. subst (All (GoesWith was.registry.schemas c.args.level (nodes_view c.args.new.now))) (take_all c.loop-index.index one.against (omega (arith, few))) (it.so_far.answers clean was over one had), λ _. refl));
+          (λ _. subst (All (IsCompatibleWith was.registry.schemas c.args.level (nodes_view c.args.new.now))) (take_all c.loop-index.index one.against (omega (arith, few))) (it.so_far.answers clean was over one had), λ _. refl));
     }

@@ -2,7 +2,7 @@ use Rattle.std.proofs.Common.{◌∙◌, subst}
 use Rattle.std.specs.Prelude.{◌↔◌, All, List, IsTrue}
 use Rattle.std.proofs.lemmas.Option.{none-some, same_Some}
 use Rattle.avro_nodes.specs.Nodes.{NodeView}
-use Rattle.reg_core.specs.Evidence.{GoesWith}
+use Rattle.reg_core.specs.Evidence.{IsCompatibleWith}
 use Rattle.reg_store.proofs.ReadLemmas.{fail, tell, go_on, match_each}
 use Rattle.reg_store.proofs.store.auditing.holds_under.Goals as goal
 
@@ -19,5 +19,5 @@ returns-in-Some g c =
     go_on c.in_ok-schema_under.ensures c.goes_with_all.ensures (λ was over found.
     match_each c.goes_with_all.result (λ yes told nodes one schema had.
     (let same = same_Some _ _ (rw (c.in-Some.is, c.id.ensures) at found ∙ schema) in
-    subst (λ (new : List NodeView). IsTrue yes ↔ All (GoesWith was.registry.schemas c.args.level new) one.against) same (told one had)))
+    subst (λ (new : List NodeView). IsTrue yes ↔ All (IsCompatibleWith was.registry.schemas c.args.level new) one.against) same (told one had)))
     (λ e h. h))

@@ -3,7 +3,7 @@ use Rattle.std.specs.Prelude.{option_map, option_copied}
 use Rattle.std.specs.FinMap.{entries}
 use Rattle.reg_core.specs.Registry.{Row}
 use Rattle.reg_tables.specs.Contents.{text_cmp}
-use Rattle.reg_store.specs.Handing.{is_behind, subject_in}
+use Rattle.reg_store.specs.NextLines.{is_after, subject_in}
 use Rattle.reg_store.proofs.HandingLemmas.{first_any}
 use Rattle.reg_store.proofs.ReadLemmas.{retell}
 use Rattle.reg_store.proofs.store.behind.next_subject.Goals as goal
@@ -11,7 +11,7 @@ use Rattle.reg_store.proofs.store.behind.next_subject.Goals as goal
 pub returns-in-None : goal.returns-in-None
 returns-in-None g c =
     retell c.first_of_all.ensures (λ was over found is.
-    is ∙ sym (first_any (entries was.registry.rows)) ∙ ap (λ o. find (λ (row : Row). is_behind text_cmp (option_map subject_in (option_copied o)) row.0.0) (entries was.registry.rows)) (sym c.in-None.is))
+    is ∙ sym (first_any (entries was.registry.rows)) ∙ ap (λ o. find (λ (row : Row). is_after text_cmp (option_map subject_in (option_copied o)) row.0.0) (entries was.registry.rows)) (sym c.in-None.is))
 
 pub returns-in-Some : goal.returns-in-Some
 returns-in-Some g c = retell c.first_behind.ensures (λ was over found is. search rules)

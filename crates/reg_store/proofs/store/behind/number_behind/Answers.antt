@@ -1,5 +1,5 @@
 use Rattle.std.proofs.Common.{◌∙◌, None, Some, ap}
-use Rattle.reg_tables.specs.Entries.{numbered}
+use Rattle.reg_tables.specs.Entries.{subject_version_view}
 use Rattle.reg_store.specs.Inside.Viewing.{row_numbered}
 use Rattle.reg_store.proofs.HandingLemmas.{next_told}
 use Rattle.reg_store.proofs.ReadLemmas.{read, read_refused, not_read}
@@ -24,5 +24,5 @@ returns-in_ok-owner-in-Some g c =
     read c.in_ok-next_version_of.ensures.frame (λ clean was over.
     let it = base_of over.spells in
     let found = rw (c.in-Some.is, c.as_str.ensures.text) at (c.in_ok-next_version_of.ensures.found clean it.schema it.first it.contents it.holds) in
-    ap Some (c.new.ensures ∙ ap (λ subject. row_numbered subject (numbered c.in-Some.line)) c.in_ok-owner-in-Some.ensures)
+    ap Some (c.new.ensures ∙ ap (λ subject. row_numbered subject (subject_version_view c.in-Some.line)) c.in_ok-owner-in-Some.ensures)
     ∙ next_told it.contents was.registry it.spelled.versions c.args.subject.now c.args.number (Some c.in-Some.line) found)

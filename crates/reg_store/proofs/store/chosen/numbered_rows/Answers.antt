@@ -1,9 +1,9 @@
 use Rattle.std.proofs.Common.{◌≡◌, ◌∙◌, [], ◌∷◌, Some, ap, subst}
-use Rattle.reg_core.specs.declared.number.Choice.TheVariants.{Numbered}
+use Rattle.reg_core.specs.declared.number.VersionChoice.TheVariants.{Numbered}
 use Rattle.reg_core.specs.ReadCommands.{found_row}
 use Rattle.reg_core.specs.Rows.{rows_of, shown_rows}
 use Rattle.reg_core.proofs.ChosenRows.{absent_told, number_told}
-use Rattle.reg_tables.specs.Entries.{numbered}
+use Rattle.reg_tables.specs.Entries.{subject_version_view}
 use Rattle.reg_store.specs.Inside.Viewing.{row_numbered}
 use Rattle.reg_store.proofs.ReadLemmas.{may_fail, tell, refuse, may_go_on, match_each}
 use Rattle.reg_store.proofs.store.chosen.numbered_rows.Goals as goal
@@ -18,7 +18,7 @@ pub returns-in_ok-row_list-in-Some : goal.returns-in_ok-row_list-in-Some
 returns-in_ok-row_list-in-Some g c =
     (tell c.in_ok-line.ensures (λ was over line.
     let subject = c.args.subject.now in
-    let row = row_numbered subject (numbered c.in-Some.line) in
+    let row = row_numbered subject (subject_version_view c.in-Some.line) in
     let rows = rows_of was.registry subject in
     let found = rw c.in-Some.is at line in
     let told = number_told was.registry subject c.in-Some.line.number c.args.deleted row.1 found.0 found.2 in

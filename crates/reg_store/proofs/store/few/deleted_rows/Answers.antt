@@ -1,6 +1,6 @@
 use Rattle.std.proofs.Common.{◌≡◌, ◌∙◌, Some, Bool, false, sym, ap, subst}
 use Rattle.std.specs.Prelude.{Option}
-use Rattle.reg_core.specs.declared.number.Choice.{Choice}
+use Rattle.reg_core.specs.declared.number.VersionChoice.{VersionChoice}
 use Rattle.reg_core.specs.DeletionCommands.{row_to_delete}
 use Rattle.reg_core.specs.Rows.{rows_of}
 use Rattle.reg_core.proofs.FewRows.{removes_shown, marks_shown}
@@ -18,12 +18,12 @@ returns-in-Latest g c =
     may_retell c.marked_rows.ensures.may (λ was rows told.
     let all = rows_of was.registry c.args.subject.now in
     subst (λ (b : Bool). row_to_delete b c.args.choice rows.items ≡ row_to_delete b c.args.choice all) (sym c.if-permanent.false)
-    (subst (λ (choice : Option Choice). row_to_delete false choice rows.items ≡ row_to_delete false choice all) (sym (c.in-Some.is ∙ ap Some c.in-Latest.is)) told))
+    (subst (λ (choice : Option VersionChoice). row_to_delete false choice rows.items ≡ row_to_delete false choice all) (sym (c.in-Some.is ∙ ap Some c.in-Latest.is)) told))
 
 pub returns-in-Numbered : goal.returns-in-Numbered
 returns-in-Numbered g c =
     may_retell c.numbered_rows.ensures (λ was rows told.
     let all = rows_of was.registry c.args.subject.now in
     subst (λ (b : Bool). row_to_delete b c.args.choice rows.items ≡ row_to_delete b c.args.choice all) (sym c.if-permanent.false)
-    (subst (λ (choice : Option Choice). row_to_delete false choice rows.items ≡ row_to_delete false choice all) (sym (c.in-Some.is ∙ ap Some c.in-Numbered.is))
+    (subst (λ (choice : Option VersionChoice). row_to_delete false choice rows.items ≡ row_to_delete false choice all) (sym (c.in-Some.is ∙ ap Some c.in-Numbered.is))
     (marks_shown c.in-Numbered.number rows.items all told)))

@@ -1,5 +1,5 @@
 use Rattle.std.proofs.Common.{◌≡◌, ◌∙◌, [], false, Some, sym, ap}
-use Rattle.reg_core.specs.declared.number.Choice.TheVariants.{Latest}
+use Rattle.reg_core.specs.declared.number.VersionChoice.TheVariants.{Latest}
 use Rattle.reg_core.specs.Compatibility.{latest}
 use Rattle.reg_core.specs.DeletionCommands.{row_to_delete}
 use Rattle.reg_core.specs.Rows.{live_rows, rows_of}

@@ -5,7 +5,7 @@ use Rattle.sqlite.specs.Held.{state}
 use Rattle.reg_core.specs.Stored.{new_stored}
 use Rattle.reg_tables.specs.Layout.{no_schema}
 use Rattle.reg_store.specs.Failures.{IsFaultBy}
-use Rattle.reg_store.specs.Stores.{LeavesConnection}
+use Rattle.reg_store.specs.Stores.{KeepsConnection}
 use Rattle.reg_store.proofs.Committing.{left_if_spelled}
 use Rattle.reg_store.proofs.OpenLemmas.{only_reads, leaves_unlimited, unmade_beside}
 use Rattle.reg_store.proofs.store.making.create_first.Goals as goal
@@ -29,7 +29,7 @@ returns-in-Err-clause-fails g c =
     let new = state g.S.Store c.make_in-made.new.db.idle.conn in
     record {
       fault = λ clean none. subst₂ (λ h e. IsFaultBy (state g.S.Store h) new e) c.set_step_limit.ensures (sym c.from.ensures) (c.in-Err.ensures.fault clean empty);
-      leaves = leaves_unlimited g.S.Store c.args.connection begun c.set_step_limit.ensures new c.from.result (subst (LeavesConnection (state g.S.Store begun) new) (sym c.from.ensures) (record {
+      leaves = leaves_unlimited g.S.Store c.args.connection begun c.set_step_limit.ensures new c.from.result (subst (KeepsConnection (state g.S.Store begun) new) (sym c.from.ensures) (record {
         nothing = λ clean. only_reads (state g.S.Store begun) new (c.in-Err.ensures.nothing clean) (c.is_autocommit-idle-2.ensures.settled idle);
         before = c.in-Err.ensures.before;
         closes = c.in-Err.ensures.survives.closes;

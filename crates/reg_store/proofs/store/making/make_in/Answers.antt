@@ -11,8 +11,8 @@ use Rattle.reg_tables.proofs.WriteFaults.{erred_with}
 use Rattle.reg_store.specs.Failures.{failure_of, IsFaultBy}
 use Rattle.reg_store.proofs.Writing.{fault_of_write, fault_of_commit, of_call}
 use Rattle.reg_store.proofs.Failing.{by_since}
-use Rattle.reg_store.specs.Inside.Making.{SpellsNew, LeavesNew}
-use Rattle.reg_store.specs.Stores.{LeavesBefore}
+use Rattle.reg_store.specs.Inside.Making.{SpellsNew, RecoversToNew}
+use Rattle.reg_store.specs.Stores.{KeepsCrashStates}
 use Rattle.reg_store.proofs.Committing.{keeps_begin, keeps_if_failed, is_new, leaves_new, before_if_undone, before_if_failed}
 use Rattle.reg_store.proofs.store.making.make_in.Goals as goal
 
@@ -32,7 +32,7 @@ returns-clause-survives g c =
     let end = c.commit.new.self.0 in
     let first = state g.S.Store c.args.db.now.idle.conn in
     let last = state g.S.Store c.make_tables.new.tx.conn.now in
-    let P = λ (db : Trees). first.now.schema ≡ no_schema → LeavesNew c.args.layout db in
+    let P = λ (db : Trees). first.now.schema ≡ no_schema → RecoversToNew c.args.layout db in
     let commits = λ (clean : HasCleanDisk (state g.S.Store end)) (db : Trees) (is : db ≡ last.now.trees) (none : first.now.schema ≡ no_schema).
     let clean_last : HasCleanDisk last = omega (arith, c.commit.ensures.survives.clean) in
     let made = c.in_ok-make_tables.ensures.made clean_last tt (ap (λ (h : Held _). h.schema) c.transaction-tx.ensures.begun ∙ none) in
@@ -79,7 +79,7 @@ returns-in_err-make_tables-clause-before g c clean =
     let e = c.in_err-make_tables.field-0.0 in
     let inside = survives_both begun last end c.make_tables.ensures.frame.keeps.survives c.drop-tx.ensures.survives in
     let whole = survives_begin g.S.Store c.args.db.now.idle.conn end _ (rw c.transaction-tx.ensures.begun at inside) in
-    erred_with c.from_residual.result e (λ x. IsTrue first.is_open → LeavesBefore first (state g.S.Store c.drop-tx.new.self.0) (failure_of x)) c.from_residual.ensures.1
+    erred_with c.from_residual.result e (λ x. IsTrue first.is_open → KeepsCrashStates first (state g.S.Store c.drop-tx.new.self.0) (failure_of x)) c.from_residual.ensures.1
     (λ is_open. before_if_undone first end (failure_of e) whole late)
 
 pub returns-clause-before : goal.returns-clause-before

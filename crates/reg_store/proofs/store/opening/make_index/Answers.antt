@@ -7,12 +7,12 @@ use Rattle.sqlite.specs.State.{HasCleanDisk}
 use Rattle.sqlite.proofs.StateLemmas.{survives_then}
 use Rattle.sqlite.proofs.Callers.{survives_begin}
 use Rattle.reg_tables.specs.Layout.{layout_two_unindexed, layout_two_indexed_last}
-use Rattle.reg_tables.specs.Contents.{Contents, HoldsIn}
+use Rattle.reg_tables.specs.Contents.{Contents, HoldsContents}
 use Rattle.reg_tables.proofs.Transactions.{on_ok, if_err, keeps_then, survives_both}
 use Rattle.reg_tables.proofs.WriteFaults.{erred_with}
-use Rattle.reg_store.specs.Inside.Making.{TakesIndex}
+use Rattle.reg_store.specs.Inside.Making.{HoldsWithIndex}
 use Rattle.reg_store.specs.Failures.{failure_of, IsFaultBy}
-use Rattle.reg_store.specs.Stores.{LeavesBefore}
+use Rattle.reg_store.specs.Stores.{KeepsCrashStates}
 use Rattle.reg_store.proofs.Committing.{keeps_begin, keeps_if_failed, left_if_held, before_if_undone, before_if_failed}
 use Rattle.reg_tables.specs.FailedCalls.{IsWriteFault}
 use Rattle.reg_store.proofs.Writing.{fault_of_write, fault_of_commit}
@@ -29,9 +29,9 @@ returns-clause-done g c clean =
     on_ok c.commit.result (λ done.
     let begun_open = (c.index_versions.ensures.frame.keeps.commit_stays clean_last).was_open done.1.was_open in
     let was_open = subst (λ h. IsTrue (state g.S.Store h).is_open) c.transaction-tx.ensures.begun begun_open in
-    let held = λ (contents : Contents) (holds : HoldsIn layout_two_unindexed first.now contents).
-    let begun = subst (λ h. HoldsIn layout_two_unindexed (state g.S.Store h).now contents) (sym c.transaction-tx.ensures.begun) holds in
-    subst (λ d. HoldsIn layout_two_indexed_last d contents) (sym done.1.now_is) (c.in_ok-index_versions.ensures.made clean_last (layout_two_unindexed, layout_two_indexed_last, contents) (inr (refl, refl), begun)) in
+    let held = λ (contents : Contents) (holds : HoldsContents layout_two_unindexed first.now contents).
+    let begun = subst (λ h. HoldsContents layout_two_unindexed (state g.S.Store h).now contents) (sym c.transaction-tx.ensures.begun) holds in
+    subst (λ d. HoldsContents layout_two_indexed_last d contents) (sym done.1.now_is) (c.in_ok-index_versions.ensures.made clean_last (layout_two_unindexed, layout_two_indexed_last, contents) (inr (refl, refl), begun)) in
     (was_open, done.1.is_open, done.1.committed_is ∙ sym done.1.now_is, held)) (c.commit.ensures.ok late)
 
 pub returns-clause-survives : goal.returns-clause-survives
@@ -39,12 +39,12 @@ returns-clause-survives g c =
     let end = c.commit.new.self.0 in
     let first = state g.S.Store c.args.db.now.idle.conn in
     let last = state g.S.Store c.index_versions.new.tx.conn.now in
-    let P = λ (db : Trees). IsTrue first.is_open × TakesIndex first.now db in
+    let P = λ (db : Trees). IsTrue first.is_open × HoldsWithIndex first.now db in
     let commits = λ (clean : HasCleanDisk (state g.S.Store end)) (db : Trees) (is : db ≡ last.now.trees).
     let clean_last : HasCleanDisk last = omega (arith, c.commit.ensures.survives.clean) in
     let was_open = subst (λ h. IsTrue (state g.S.Store h).is_open) c.transaction-tx.ensures.begun (c.in_ok-index_versions.ensures.frame.was_open clean_last) in
-    let indexed = λ (contents : Contents) (holds : HoldsIn layout_two_unindexed first.now contents).
-    let begun = subst (λ h. HoldsIn layout_two_unindexed (state g.S.Store h).now contents) (sym c.transaction-tx.ensures.begun) holds in
+    let indexed = λ (contents : Contents) (holds : HoldsContents layout_two_unindexed first.now contents).
+    let begun = subst (λ h. HoldsContents layout_two_unindexed (state g.S.Store h).now contents) (sym c.transaction-tx.ensures.begun) holds in
     left_if_held layout_two_indexed_last db last.now contents is (c.in_ok-index_versions.ensures.made clean_last (layout_two_unindexed, layout_two_indexed_last, contents) (inr (refl, refl), begun)) in
     let both : P db = (was_open, indexed) in
     both in
@@ -81,11 +81,11 @@ returns-in_err-index_versions-clause-fault g c clean =
     let fault = λ (f : IsWriteFault begun last e).
     let until = by_until begun last (state g.S.Store end) c.drop-tx.ensures.survives.counts _ (fault_of_write begun last e unlimited inside f) in
     subst (λ h. IsFaultBy (state g.S.Store h) (state g.S.Store end) (failure_of e)) c.transaction-tx.ensures.begun until in
-    let Held : Error → Type 0 = λ x. (IsTrue first.is_open → (contents : Contents) × HoldsIn layout_two_unindexed first.now contents) → IsFaultBy first (state g.S.Store c.drop-tx.new.self.0) (failure_of x) in
+    let Held : Error → Type 0 = λ x. (IsTrue first.is_open → (contents : Contents) × HoldsContents layout_two_unindexed first.now contents) → IsFaultBy first (state g.S.Store c.drop-tx.new.self.0) (failure_of x) in
     erred_with c.from_residual.result e Held c.from_residual.ensures.1 (λ held. elim (err.frame.shut clean_last) [
       | inl is_open ↦
           let it = held (subst (λ h. IsTrue (state g.S.Store h).is_open) c.transaction-tx.ensures.begun is_open) in
-          fault (err.fault clean_last (layout_two_unindexed, layout_two_indexed_last, it.0) (inr (refl, refl), subst (λ h. HoldsIn layout_two_unindexed (state g.S.Store h).now it.0) (sym c.transaction-tx.ensures.begun) it.1))
+          fault (err.fault clean_last (layout_two_unindexed, layout_two_indexed_last, it.0) (inr (refl, refl), subst (λ h. HoldsContents layout_two_unindexed (state g.S.Store h).now it.0) (sym c.transaction-tx.ensures.begun) it.1))
       | inr shut ↦ fault shut
     ])
 
@@ -99,7 +99,7 @@ returns-in_err-index_versions-clause-before g c clean =
     let e = c.in_err-index_versions.field-0.0 in
     let inside = survives_both begun last end c.index_versions.ensures.frame.keeps.survives c.drop-tx.ensures.survives in
     let whole = survives_begin g.S.Store c.args.db.now.idle.conn end _ (rw c.transaction-tx.ensures.begun at inside) in
-    erred_with c.from_residual.result e (λ x. IsTrue first.is_open → LeavesBefore first (state g.S.Store c.drop-tx.new.self.0) (failure_of x)) c.from_residual.ensures.1 (λ is_open. before_if_undone first end (failure_of e) whole late)
+    erred_with c.from_residual.result e (λ x. IsTrue first.is_open → KeepsCrashStates first (state g.S.Store c.drop-tx.new.self.0) (failure_of x)) c.from_residual.ensures.1 (λ is_open. before_if_undone first end (failure_of e) whole late)
 
 pub returns-clause-before : goal.returns-clause-before
 returns-clause-before g c clean =

@@ -5,12 +5,12 @@ use Rattle.sqlite.specs.Held.{state}
 use Rattle.sqlite.specs.State.{HasCleanDisk}
 use Rattle.sqlite.proofs.StateLemmas.{survives_then}
 use Rattle.reg_tables.specs.Layout.{layout_two_unindexed}
-use Rattle.reg_tables.specs.Contents.{HoldsIn}
+use Rattle.reg_tables.specs.Contents.{HoldsContents}
 use Rattle.reg_tables.proofs.Tables.{openable_has_eight}
 use Rattle.reg_store.specs.declared.layout.Layout.TheVariants.{Two}
 use Rattle.reg_store.specs.Failures.{failure_of}
-use Rattle.reg_store.specs.Stores.{LeavesConnection}
-use Rattle.reg_store.specs.UnopenedFaults.{IsUnopened}
+use Rattle.reg_store.specs.Stores.{KeepsConnection}
+use Rattle.reg_store.specs.OpenFailures.{IsOpenFailure}
 use Rattle.reg_store.specs.Opening.{IsIndexed}
 use Rattle.reg_store.proofs.Failing.{passed, by_since, if_err_each, told_if_by, plain_if_by, numberless, refused_if_plain}
 use Rattle.reg_store.proofs.MetaLemmas.{not_other}
@@ -56,8 +56,8 @@ returns-then-not-is_unindexed_two-clause-fails g c clean =
     let since = by_since old mid new (frame.closes early) frame.counts asked.counts e by in
     record {
       fault = λ was over. since;
-      told = told_if_by old new e since;
-      refused = refused_if_plain 2 old.now e (plain_if_by mid new e by);
+      disk_cause = told_if_by old new e since;
+      meta_number = refused_if_plain 2 old.now e (plain_if_by mid new e by);
       other = λ number is_open out. absurd (not_other Two old.now number passes.base.meta out);
     }) (c.require_open.ensures.fault clean)
 
@@ -135,13 +135,13 @@ returns-in_err-made-clause-fails g c clean =
     let passes = t.tests.tells early (openable_has_eight old.now.schema t.known) in
     let there = λ (mid_open : IsTrue mid.is_open). bare_contents old.now (bare_tables old mid (frame.only_reads early) settled t.known (c.schema-live.ensures.live (frame.was_open early)).0 passes is mid_open) in
     let since = by_since old mid new (frame.survives.closes early) frame.survives.counts c.make_index-made.ensures.survives.counts (failure_of e) in
-    passed (IsUnopened old new) c.from_residual-in_err-made.result (failure_of e) c.from_residual-in_err-made.ensures.1
+    passed (IsOpenFailure old new) c.from_residual-in_err-made.result (failure_of e) c.from_residual-in_err-made.ensures.1
     (record {
       fault = λ was over. since (c.in_err-made.ensures.fault clean (λ mid_open.
           let spells = spells_bare old.now was (sym (ap (λ (d : Database). d.schema) (same mid_open)) ∙ is) (over (frame.was_open early)) in
-          (spells.contents, subst (λ (d : Database). HoldsIn layout_two_unindexed d spells.contents) (sym (same mid_open)) spells.holds)));
-      told = told_if_by old new (failure_of e) (since (c.in_err-made.ensures.fault clean (λ mid_open. let it = there mid_open in (it.0, subst (λ (d : Database). HoldsIn layout_two_unindexed d it.0) (sym (same mid_open)) it.1))));
-      refused = refused_if_plain 2 old.now (failure_of e) (numberless e);
+          (spells.contents, subst (λ (d : Database). HoldsContents layout_two_unindexed d spells.contents) (sym (same mid_open)) spells.holds)));
+      disk_cause = told_if_by old new (failure_of e) (since (c.in_err-made.ensures.fault clean (λ mid_open. let it = there mid_open in (it.0, subst (λ (d : Database). HoldsContents layout_two_unindexed d it.0) (sym (same mid_open)) it.1))));
+      meta_number = refused_if_plain 2 old.now (failure_of e) (numberless e);
       other = λ number is_open out. absurd (not_other Two old.now number passes.base.meta out);
     })
 
@@ -158,7 +158,7 @@ returns-in_err-made-clause-leaves g c =
     let settled = c.is_autocommit-idle.ensures.settled idle in
     let made = c.make_index-made.ensures.survives in
     let early = λ (clean : HasCleanDisk new). (let it : HasCleanDisk mid = omega (arith, made.clean) in it) in
-    passed (LeavesConnection old new) c.from_residual-in_err-made.result (failure_of e) c.from_residual-in_err-made.ensures.1
+    passed (KeepsConnection old new) c.from_residual-in_err-made.result (failure_of e) c.from_residual-in_err-made.ensures.1
     (record {
       nothing = λ clean. only_reads old new (keeps_then old mid new (frame.only_reads (early clean)).commit_stays (c.in_err-made.ensures.nothing clean)) (c.is_autocommit-settled.ensures.settled idle_after);
       before = λ clean is_open. elim (frame.survives.closes (early clean) is_open) [
@@ -167,7 +167,7 @@ returns-in_err-made-clause-leaves g c =
             let reads = frame.only_reads (early clean) in
             let there = λ (mid_open : IsTrue mid.is_open). bare_contents old.now (bare_tables old mid reads settled t.known (c.schema-live.ensures.live (frame.was_open (early clean))).0 (t.tests.tells (early clean) (openable_has_eight old.now.schema t.known)) (c.is_unindexed_two.ensures.0 c.if-not-is_unindexed_two.false) mid_open) in
             before_if_faulted old mid new (failure_of e) more made.counts
-            (c.in_err-made.ensures.fault clean (λ mid_open. let it = there mid_open in (it.0, subst (λ (d : Database). HoldsIn layout_two_unindexed d it.0) (sym (same_now old mid reads settled mid_open)) it.1)))
+            (c.in_err-made.ensures.fault clean (λ mid_open. let it = there mid_open in (it.0, subst (λ (d : Database). HoldsContents layout_two_unindexed d it.0) (sym (same_now old mid reads settled mid_open)) it.1)))
       ];
       closes = (returns-in_err-made-clause-survives g c).closes;
       settled = λ is_open db it. g.met.S.Store.settled c.make_index-made.new.db.idle.conn.store db is_open it;
@@ -176,8 +176,8 @@ returns-in_err-made-clause-leaves g c =
 pub returns-in_err-test_layout_two-clause-fails : goal.returns-in_err-test_layout_two-clause-fails
 returns-in_err-test_layout_two-clause-fails g c clean =
     let it = c.in_err-test_layout_two.ensures in
-    passed (IsUnopened (state g.S.Store c.args.db.now.idle.conn) (state g.S.Store c.test_layout_two.new.db.idle.conn)) c.from_residual.result c.in_err-test_layout_two.field-0.0 c.from_residual.ensures.1
-    (record { fault = λ was over. it.tests.fault clean (λ is_open. record { stored = was; spells = over is_open }); told = it.told clean; refused = it.refused clean; other = it.other clean })
+    passed (IsOpenFailure (state g.S.Store c.args.db.now.idle.conn) (state g.S.Store c.test_layout_two.new.db.idle.conn)) c.from_residual.result c.in_err-test_layout_two.field-0.0 c.from_residual.ensures.1
+    (record { fault = λ was over. it.tests.fault clean (λ is_open. record { stored = was; spells = over is_open }); disk_cause = it.disk_cause clean; meta_number = it.meta_number clean; other = it.other clean })
 
 pub returns-in_err-test_layout_two-clause-leaves : goal.returns-in_err-test_layout_two-clause-leaves
 returns-in_err-test_layout_two-clause-leaves g c =
@@ -185,7 +185,7 @@ returns-in_err-test_layout_two-clause-leaves g c =
     let new = state g.S.Store c.test_layout_two.new.db.idle.conn in
     let e = c.in_err-test_layout_two.field-0.0 in
     let frame = c.in_err-test_layout_two.ensures.tests.frame in
-    passed (LeavesConnection old new) c.from_residual.result e c.from_residual.ensures.1
+    passed (KeepsConnection old new) c.from_residual.result e c.from_residual.ensures.1
     (record {
       nothing = frame.only_reads;
       before = λ clean is_open. before_if_undone old new e frame.survives clean;

@@ -1,8 +1,8 @@
 use Rattle.std.proofs.Common.{◌∙◌, Some, sym, ap, subst}
 use Rattle.reg_core.specs.Replies.{IsKeptStatus}
-use Rattle.reg_tables.specs.Contents.{KeptRow}
-use Rattle.reg_tables.specs.KeptRows.{kept_row}
-use Rattle.reg_store.specs.Spells.{row_of}
+use Rattle.reg_tables.specs.Contents.{KeptReplyView}
+use Rattle.reg_tables.specs.KeptReplyViews.{kept_reply_view}
+use Rattle.reg_store.specs.Spells.{stored_reply}
 use Rattle.reg_store.proofs.ReadBack.{none_written, kept_is}
 use Rattle.reg_store.proofs.Texts.{was_written}
 use Rattle.reg_store.proofs.ReadLemmas.{read, not_read}
@@ -17,16 +17,16 @@ returns-in-None g c =
     read c.in_ok-kept_reply.ensures.frame (λ clean was over.
     let it = base_of over.spells in
     let none = rw (c.in-None.is, c.as_str.ensures.text) at (c.in_ok-kept_reply.ensures.found clean it.schema it.first it.contents it.holds) in
-    none_written row_of (was.replies c.args.key.now) (sym (it.spelled.kept c.args.key.now) ∙ none))
+    none_written stored_reply (was.replies c.args.key.now) (sym (it.spelled.kept c.args.key.now) ∙ none))
 
 pub returns-in_err-told_in-in-Some : goal.returns-in_err-told_in-in-Some
 returns-in_err-told_in-in-Some g c =
     read c.in_ok-kept_reply.ensures.frame (λ clean was over.
     let it = base_of over.spells in
     let found = rw c.in-Some.is at (c.in_ok-kept_reply.ensures.found clean it.schema it.first it.contents it.holds) in
-    let entry = was_written row_of (was.replies c.as_str.result.now) (kept_row c.in-Some.row) (sym (it.spelled.kept c.as_str.result.now) ∙ found) in
+    let entry = was_written stored_reply (was.replies c.as_str.result.now) (kept_reply_view c.in-Some.row) (sym (it.spelled.kept c.as_str.result.now) ∙ found) in
     let status = (it.spelled.keys c.as_str.result.now entry.0 entry.1).status in
-    absurd (c.in_err-told_in-in-Some.ensures.err (subst IsKeptStatus (sym (ap (λ (r : KeptRow). r.status) entry.2)) status)))
+    absurd (c.in_err-told_in-in-Some.ensures.err (subst IsKeptStatus (sym (ap (λ (r : KeptReplyView). r.status) entry.2)) status)))
 
 pub returns-in_ok-told_in-in-Some : goal.returns-in_ok-told_in-in-Some
 returns-in_ok-told_in-in-Some g c =

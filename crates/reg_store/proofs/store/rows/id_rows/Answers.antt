@@ -2,7 +2,7 @@ use Rattle.std.proofs.Common.{◌∙◌, sym, ap}
 use Rattle.std.specs.Prelude.{map}
 use Rattle.std.proofs.lemmas.Simd.{map-map}
 use Rattle.sqlite.specs.Held.{state}
-use Rattle.reg_tables.specs.Entries.{keyed}
+use Rattle.reg_tables.specs.Entries.{listed_version_view}
 use Rattle.reg_store.specs.Inside.Viewing.{row_spelled}
 use Rattle.reg_store.proofs.ReadLemmas.{read, not_read, match_of, by_memory}
 use Rattle.reg_store.proofs.RowLemmas.{id_spelled, id_lines}
@@ -17,5 +17,5 @@ returns g c =
     read c.in_ok-lines.ensures.frame (λ clean was over.
     let it = base_of over.spells in
     let lines = c.in_ok-lines.ensures.found clean it.schema it.first it.contents it.holds in
-    match_of c.rows_in.result (λ rows is. is ∙ sym (map-map row_spelled keyed c.in_ok-lines.lines.items) ∙ ap (map row_spelled) lines ∙ id_spelled it.contents was.registry it.spelled.versions c.args.id)
+    match_of c.rows_in.result (λ rows is. is ∙ sym (map-map row_spelled listed_version_view c.in_ok-lines.lines.items) ∙ ap (map row_spelled) lines ∙ id_spelled it.contents was.registry it.spelled.versions c.args.id)
     (λ e only. by_memory (state g.S.Store c.args.db.now.idle.conn) (state g.S.Store c.versions_of_id.new.db.conn) e (only (id_lines it.contents was.registry was.replies it.spelled c.in_ok-lines.lines.items c.args.id lines))) c.rows_in.ensures.ok c.rows_in.ensures.err)

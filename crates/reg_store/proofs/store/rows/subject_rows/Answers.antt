@@ -1,7 +1,7 @@
 use Rattle.std.proofs.Common.{◌∙◌, sym, ap}
 use Rattle.std.specs.Prelude.{map}
 use Rattle.std.proofs.lemmas.Simd.{map-map}
-use Rattle.reg_tables.specs.Entries.{numbered}
+use Rattle.reg_tables.specs.Entries.{subject_version_view}
 use Rattle.reg_store.specs.Inside.Viewing.{row_numbered}
 use Rattle.reg_store.proofs.ReadLemmas.{read, read_refused, not_read}
 use Rattle.reg_store.proofs.RowLemmas.{subject_spelled}
@@ -19,5 +19,5 @@ returns g c =
     read c.in_ok-lines.ensures.frame (λ clean was over.
     let it = base_of over.spells in
     let lines = rw c.as_str.ensures.text at (c.in_ok-lines.ensures.found clean it.schema it.first it.contents it.holds) in
-    c.in_ok-rows_under.ensures ∙ sym (map-map (row_numbered c.args.subject.now) numbered c.in_ok-lines.lines.items) ∙ ap (map (row_numbered c.args.subject.now)) lines
+    c.in_ok-rows_under.ensures ∙ sym (map-map (row_numbered c.args.subject.now) subject_version_view c.in_ok-lines.lines.items) ∙ ap (map (row_numbered c.args.subject.now)) lines
     ∙ subject_spelled it.contents was.registry it.spelled.versions c.args.subject.now)

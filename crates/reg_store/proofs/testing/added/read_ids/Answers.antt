@@ -2,7 +2,7 @@ use Rattle.std.proofs.Common.{◌≡◌, ◌&&◌, Bool, List, map, IsTrue, sym,
 use Rattle.std.proofs.lemmas.List.{take_all}
 use Rattle.sqlite.specs.Held.{state}
 use Rattle.sqlite.specs.Effect.{Database}
-use Rattle.reg_tables.specs.declared.evidence.EvidenceLine.{EvidenceLine}
+use Rattle.reg_tables.specs.declared.evidence.RawEvidence.{RawEvidence}
 use Rattle.reg_tables.specs.Layout.{HasEightTables}
 use Rattle.reg_tables.specs.Listings.{HasAgainstRows}
 use Rattle.reg_store.specs.declared.testing.added.Ids.{Ids}
@@ -65,5 +65,5 @@ returns-clause-tests g c =
     let fit = c.loop-version.fit in
     test_tells g.S.Store a end {P = λ n d. JudgesVersions (map version_at evidence) d rowids fit × HasAgainstRows d n}
     (last_read g.S.Store a end (c.is_autocommit-idle.ensures.settled idle) b c.loop-version.invariant.rests {R = λ d. JudgesVersions (map version_at evidence) d rowids fit} c.in_ok-count.count
-    (λ clean known. subst (λ (l : List EvidenceLine). JudgesVersions (map version_at l) db rowids fit) (take_all c.loop-version.version-index evidence (omega (arith, c.loop-version-test.false))) (c.loop-version.invariant.judged clean known)) c.in_ok-count.ensures.tests) _
+    (λ clean known. subst (λ (l : List RawEvidence). JudgesVersions (map version_at l) db rowids fit) (take_all c.loop-version.version-index evidence (omega (arith, c.loop-version-test.false))) (c.loop-version.invariant.judged clean known)) c.in_ok-count.ensures.tests) _
     (λ d p. record { judged = p.0; counted = p.1 })

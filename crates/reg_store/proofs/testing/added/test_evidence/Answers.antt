@@ -1,8 +1,8 @@
 use Rattle.std.proofs.Common.{◌↔◌, IsTrue, List, map, subst, rules}
 use Rattle.std.proofs.lemmas.Bool.{both_ways}
-use Rattle.reg_tables.specs.declared.evidence.EvidenceLine.{EvidenceLine}
+use Rattle.reg_tables.specs.declared.evidence.RawEvidence.{RawEvidence}
 use Rattle.sqlite.specs.Effect.{Database}
-use Rattle.reg_store.specs.Inside.Testing.{version_at, TellsIds}
+use Rattle.reg_store.specs.Inside.Testing.{version_at, JudgesIds}
 use Rattle.reg_store.proofs.EightTests.{eight_known}
 use Rattle.reg_store.proofs.TestLemmas.{tests_then, test_fails, test_refused, test_judged}
 use Rattle.reg_store.proofs.VersionWalk.{Passes, all_passed, none_refused}
@@ -37,8 +37,8 @@ returns-clause-tests g c =
     let ids = c.in_ok-ids.ids in
     let b = c.in_ok-pass_evidence.field-0 in
     let few = c.in_ok-pass_evidence.ensures.few in
-    let verdict = subst (λ (l : List EvidenceLine). IsTrue b ↔ Passes l ids.rowids.items ids.fit ids.count) c.deref-2.ensures.value c.in_ok-pass_evidence.ensures.passes in
-    let told = λ (db : Database) (it : TellsIds (map version_at c.deref.result.now) db ids.rowids.items ids.fit ids.count). subst (λ (l : List EvidenceLine). TellsIds (map version_at l) db ids.rowids.items ids.fit ids.count) c.deref.ensures.value it in
+    let verdict = subst (λ (l : List RawEvidence). IsTrue b ↔ Passes l ids.rowids.items ids.fit ids.count) c.deref-2.ensures.value c.in_ok-pass_evidence.ensures.passes in
+    let told = λ (db : Database) (it : JudgesIds (map version_at c.deref.result.now) db ids.rowids.items ids.fit ids.count). subst (λ (l : List RawEvidence). JudgesIds (map version_at l) db ids.rowids.items ids.fit ids.count) c.deref.ensures.value it in
     test_judged g.S.Store a end (tests_then g.S.Store a mid end (c.is_autocommit-idle.ensures.settled idle) _ c.in_ok-evidence.ensures.tests c.in_ok-ids.ensures.tests) c.allow.result b c.allow.ensures.ok c.allow.ensures.err eight_known
     (λ db p sure. all_passed db evidence p.0 ids.rowids.items ids.fit ids.count (told db p.1) few (verdict.0 sure))
     (λ db p refused s. both_ways _ refused (verdict.1 (none_refused db evidence p.0 ids.rowids.items ids.fit ids.count (told db p.1) few s)))

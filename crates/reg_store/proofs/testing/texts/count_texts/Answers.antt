@@ -13,7 +13,7 @@ use Rattle.reg_store.proofs.testing.texts.count_texts.Goals as goal
 
 pub returns-in_err-ids-clause-tests : goal.returns-in_err-ids-clause-tests
 returns-in_err-ids-clause-tests g c =
-    test_unread g.S.Store c.args.db.now.idle.conn c.text_ids.new.db.conn c.from_residual.result c.in_err-ids.field-0.0 (some_can_be_read (state g.S.Store c.args.db.now.idle.conn)) c.args.db.now.unlimited c.in_err-ids.ensures.frame c.in_err-ids.ensures.fault c.in_err-ids.ensures.told c.from_residual.ensures.1
+    test_unread g.S.Store c.args.db.now.idle.conn c.text_ids.new.db.conn c.from_residual.result c.in_err-ids.field-0.0 (some_can_be_read (state g.S.Store c.args.db.now.idle.conn)) c.args.db.now.unlimited c.in_err-ids.ensures.frame c.in_err-ids.ensures.fault c.in_err-ids.ensures.fault_or_unreadable c.from_residual.ensures.1
 
 pub returns-in_err-allow-clause-tests : goal.returns-in_err-allow-clause-tests
 returns-in_err-allow-clause-tests g c =

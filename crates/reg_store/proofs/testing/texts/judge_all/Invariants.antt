@@ -3,13 +3,13 @@ use Rattle.sqlite.specs.State.{HasCleanDisk}
 use Rattle.reg_tables.specs.Layout.{HasFiveTables, texts}
 use Rattle.reg_tables.specs.Listings.{ListsTextsBetween}
 use Rattle.reg_store.specs.Inside.Testing.{Judges}
-use Rattle.reg_store.specs.Inside.Reads.{Rests, shown}
+use Rattle.reg_store.specs.Inside.Reads.{CommitsNothing, shown}
 use Rattle.reg_store.proofs.TextParts.{HaveIds}
 use Rattle.reg_store.proofs.testing.texts.judge_all.Given as goal
 
 abbrev pub invariant-loop-chunk : goal.invariant-loop-chunk
 invariant-loop-chunk g l = record {
-  rests : Rests (shown l.initial.db) (shown l.db);
+  rests : CommitsNothing (shown l.initial.db) (shown l.db);
   was_open : 0 < l.chunk → HasCleanDisk (shown l.db) → IsTrue (shown l.initial.db).is_open;
   judged : HasCleanDisk (shown l.db) → HasFiveTables (shown l.initial.db).now.schema → HaveIds ((shown l.initial.db).now.trees texts.tree)
       → Judges (ListsTextsBetween 1 (l.chunk * 16) (shown l.initial.db).now) l.fit;

@@ -4,7 +4,7 @@ use Rattle.sqlite_tied.specs.Compute.{everything}
 use Rattle.reg_tables.proofs.Statements.{three_terms}
 use Rattle.reg_tables.proofs.KeyedTables.{cast-Null, cast-Int}
 use Rattle.reg_tables.proofs.LayoutTables.{evidence_keyed}
-use Rattle.reg_tables.proofs.Settled.{in_layout_two}
+use Rattle.reg_tables.proofs.WellDeclared.{in_layout_two}
 use Rattle.reg_tables.proofs.evidence.EvidenceFilledTable.put_sql.Goals as goal
 
 pub returns-clause-keyed : goal.returns-clause-keyed

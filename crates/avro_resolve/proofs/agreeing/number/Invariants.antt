@@ -1,5 +1,0 @@
-use Rattle.avro_resolve.specs.Inside.Agreeing.{AreNumbered}
-use Rattle.avro_resolve.proofs.agreeing.number.Given as goal
-
-abbrev pub invariant-loop-k : goal.invariant-loop-k
-invariant-loop-k l = AreNumbered l.boxes l.symbols 0 l.k

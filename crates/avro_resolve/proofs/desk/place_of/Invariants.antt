@@ -1,6 +1,0 @@
-use Rattle.std.proofs.Common.{ℕ, ◌<◌, get_or, length}
-use Rattle.avro_resolve.specs.Inside.Laying.{NoField, names_in}
-use Rattle.avro_resolve.proofs.desk.place_of.Given as goal
-
-abbrev pub invariant-loop-alias : goal.invariant-loop-alias
-invariant-loop-alias l = (k : ℕ) → k < l.alias-index → k < length l.names.aliases.items → NoField l.sides.met.ranks.items (names_in l.fields.ranks.now) (get_or l.names.aliases.items k 0)

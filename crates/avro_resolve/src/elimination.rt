@@ -1,0 +1,268 @@
+//! Striking out the pairs that the rest doesn't support, until none is left to strike.
+
+ghost use Rattle.std.specs.Prelude.{◌<◌, ◌≡◌, ◌≤◌, ◌∷◌, ◌++◌, [], false, get_or, length, slice_get, All, Contains, IfOk, List, None, OnOk, Some, ℕ};
+ghost use Rattle.std.specs.List.Sorted.{IsNonDecreasingBy};
+ghost use Rattle.avro_nodes.specs.Nodes.{nodes_view, union, NodeView};
+ghost use Rattle.avro_schema.specs.Texts.{IsSchema};
+ghost use Rattle.avro_resolve.specs.Inside.Referrers.{AreReferrers, AreUnions, HasBranch, IsNoUnion, Joins, MayDepend};
+ghost use Rattle.avro_resolve.specs.Inside.Remaining.{remains, AreRun, AreStillSupported, AreStillSupportedBut, IsRemainder, HasAgreedRemainder, IsStillSupported, IsPopped, DependsOn, Eliminates};
+ghost use Rattle.avro_resolve.specs.Inside.Lists.{list_at};
+ghost use Rattle.avro_resolve.specs.Inside.Sides.{columns, rows};
+ghost use Rattle.avro_resolve.specs.Resolution.{Closed};
+ghost use Rattle.avro_resolve.specs.Witnesses.{Pair};
+
+use crate::AllocResult;
+use crate::links::{Link, LinkKind, Links, links_of};
+use crate::lists::{list_of, unions_in};
+use crate::rows::{
+    Progress, eliminate_by_branch, eliminate_disagreeing, eliminate_pair, examine_all,
+};
+use crate::sides::Sides;
+use crate::support::any_remaining;
+use crate::table::Table;
+use avro_nodes::Node;
+use avro_schema::Schema;
+use std::alloc::Global;
+
+/// The first link from one on whose label isn't below this one, or else their number.
+fn first_at_label(links: &[Link], from: usize, label: u32) -> usize
+    requires from { from ≤ length links.now }
+    requires passed { (k : ℕ) (d : Link) → k < from → (get_or links.now k d).label < label }
+    requires sorted { IsNonDecreasingBy (λ (x : Link). x.label) links.now }
+    ensures within { result ≤ length links.now }
+    ensures below { (k : ℕ) (d : Link) → k < result → (get_or links.now k d).label < label }
+    ensures at { (d : Link) → result < length links.now → label ≤ (get_or links.now result d).label }
+{
+    if from == links.len() || links[from].label >= label {
+        return from;
+    }
+    links.partition_point(|link| link.label < label)
+}
+
+/// Eliminates the pairs whose links have one label and that ask for the reported pair, by an alias
+/// only if the sources say so. Skips labels of the reader's that the writer's links lack.
+pub fn eliminate_joined(
+    sides: &Sides,
+    sources: &[Vec<u16>],
+    writer_links: &[Link],
+    reader_links: &[Link],
+    popped: (u32, u32),
+    progress: &mut Progress,
+) -> AllocResult<()>
+    requires popped { IsPopped sides.now progress.old popped }
+    requires rests { (x y : Link) → Contains writer_links.now x → Contains reader_links.now y → x.label ≡ y.label
+        → MayDepend sources.now popped.0 x y → DependsOn (rows sides.now) (columns sides.now) x.referrer y.referrer popped.0 popped.1 }
+    requires writer_links_in { All (λ x. x.referrer < length sides.now.writer.schema.now) writer_links.now }
+    requires reader_links_in { All (λ y. y.referrer < length sides.now.reader.schema.now) reader_links.now }
+    requires writer_links_sorted { IsNonDecreasingBy (λ (x : Link). x.label) writer_links.now }
+    requires reader_links_sorted { IsNonDecreasingBy (λ (y : Link). y.label) reader_links.now }
+    ensures eliminates { OnOk result (Eliminates sides.now progress.old progress.new) }
+    ensures still_supported { OnOk result (Joins sources.now popped.0 (IsStillSupported sides.now progress.new) writer_links.now reader_links.now) }
+{
+    let mut from = 0;
+    for link in writer_links {
+        from = first_at_label(reader_links, from, link.label);
+        let mut at = from;
+        while at < reader_links.len() && reader_links[at].label <= link.label {
+            let other = reader_links[at];
+            at += 1;
+            if !progress.table.has(link.referrer, other.referrer) {
+                continue;
+            }
+            let asks = match (link.kind, other.kind) {
+                (LinkKind::ByElement, LinkKind::ByElement) | (LinkKind::ByName, LinkKind::ByName) =>
+                    true,
+                (LinkKind::ByName, LinkKind::ByAlias(number)) => {
+                    let code = list_of(sources, link.referrer as usize)
+                        .get(number)
+                        .copied();
+                    u64::from(code.unwrap_or(0)) == u64::from(popped.0) + 1
+                }
+                _ => false,
+            };
+            if !asks {
+                continue;
+            }
+            eliminate_pair(sides, link.referrer, other.referrer, progress)?;
+        }
+    }
+    Ok(())
+}
+
+/// What asks for the places of both sides.
+#[derive(Drop)]
+struct Dependents {
+    rows: Links,
+    columns: Links,
+    /// the reader's unions
+    unions: Vec<u32>,
+    /// the sources of the reader's fields that have aliases, by the writer's places
+    sources: Vec<Vec<u16>>,
+}
+
+/// Pairs of one row that were eliminated one after the other. Reporting them at once takes one
+/// pass over each list of unions.
+type Run<'a> = &'a [(u16, u16)];
+
+/// The length of a long run: comparing two rows then takes less than looking up its pairs.
+const LONG_RUN: usize = 64;
+
+/// Takes the last pairs of one row off the list; the last one of all was taken off before.
+fn pop_run(
+    eliminated: &mut Vec<(u16, u16)>,
+    last: (u16, u16),
+    run: &mut Vec<(u16, u16)>,
+) -> AllocResult<()>
+    ensures all { OnOk result (eliminated.old.items ++ last ∷ [] ≡ eliminated.new.items ++ run.new.items) }
+    ensures one { OnOk result (All (λ (p : Pair). p.0 ≡ last.0) run.new.items) }
+    ensures fewer { OnOk result (length eliminated.new.items ≤ length eliminated.old.items) }
+{
+    let mut from = eliminated.len();
+    while from > 0 && eliminated[from - 1].0 == last.0 {
+        from -= 1;
+    }
+    run.clear();
+    run.extend_from_slice(&eliminated[from..])?;
+    run.push(last)?;
+    eliminated.truncate(from);
+    Ok(())
+}
+
+/// Eliminates the pairs of a place, which is no union, with listed unions that have no branch left.
+fn examine_unions(sides: &Sides, i: u32, unions: &[u32], progress: &mut Progress) -> AllocResult<()>
+    requires rest { HasAgreedRemainder sides.now progress.old }
+    requires i_in { i < length sides.now.writer.schema.now }
+    requires apart { IsNoUnion (rows sides.now) i }
+    requires within { All (λ j. j < length sides.now.reader.schema.now) unions.now }
+    ensures eliminates { OnOk result (Eliminates sides.now progress.old progress.new) }
+    ensures still_supported { OnOk result (All (λ j. (branches : List ℕ) → slice_get (columns sides.now) j ≡ Some (union branches)
+        → IsStillSupported sides.now progress.new i j) unions.now) }
+{
+    for j in unions {
+        if !progress.table.has(i, *j) {
+            continue;
+        }
+        let Node::Union { branches } = sides.reader.node(*j) else {
+            continue;
+        };
+        if any_remaining(i, *j, branches, &progress.table) {
+            continue;
+        }
+        eliminate_pair(sides, i, *j, progress)?;
+    }
+    Ok(())
+}
+
+/// Reports a run to the unions of both sides. A run of at least as many pairs as the reader has
+/// unions goes to all of them, and a shorter one to those that have its places as branches.
+fn propagate_to_unions(
+    sides: &Sides,
+    dependents: &Dependents,
+    row: u32,
+    run: Run,
+    progress: &mut Progress,
+) -> AllocResult<()>
+    requires rest { HasAgreedRemainder sides.now progress.old }
+    requires referrers { AreReferrers sides.now dependents.now.rows dependents.now.columns dependents.now.sources.items }
+    requires unions { AreUnions (columns sides.now) dependents.now.unions.items }
+    requires run { AreRun progress.old.table row run.now }
+    ensures eliminates { OnOk result (Eliminates sides.now progress.old progress.new) }
+    ensures down { OnOk result (All (λ u. All (λ (p : Pair). remains progress.new.table u p.1 ≡ false) run.now) (list_at dependents.now.rows.unions.items row)) }
+    ensures along { OnOk result (IsNoUnion (rows sides.now) row
+        → All (λ (p : Pair). All (IsStillSupported sides.now progress.new row) (list_at dependents.now.columns.unions.items p.1)) run.now) }
+{
+    if row >= sides.writer.places() {
+        return Ok(());
+    }
+    for union in list_of(&dependents.rows.unions, row as usize) {
+        if run.len() >= LONG_RUN {
+            eliminate_by_branch(sides, *union, row, progress)?;
+            continue;
+        }
+        for (_, to) in run {
+            let to = u32::from(*to);
+            if to < sides.reader.places() {
+                eliminate_pair(sides, *union, to, progress)?;
+            }
+        }
+    }
+    if let Node::Union { .. } = sides.writer.node(row) {
+        return Ok(());
+    }
+    if run.len() >= dependents.unions.len() {
+        examine_unions(sides, row, &dependents.unions, progress)?;
+        return Ok(());
+    }
+    for (_, j) in run {
+        let unions = list_of(&dependents.columns.unions, usize::from(*j));
+        examine_unions(sides, row, unions, progress)?;
+    }
+    Ok(())
+}
+
+/// Reports a run to unions, and to what refers to both places of one of its pairs by one label.
+fn propagate(
+    sides: &Sides,
+    dependents: &Dependents,
+    row: u32,
+    run: Run,
+    progress: &mut Progress,
+) -> AllocResult<()>
+    requires rest { HasAgreedRemainder sides.now progress.old }
+    requires referrers { AreReferrers sides.now dependents.now.rows dependents.now.columns dependents.now.sources.items }
+    requires unions { AreUnions (columns sides.now) dependents.now.unions.items }
+    requires run { AreRun progress.old.table row run.now }
+    requires before { AreStillSupportedBut sides.now progress.old run.now }
+    ensures eliminates { OnOk result (Eliminates sides.now progress.old progress.new) }
+    ensures still_supported { OnOk result (AreStillSupported sides.now progress.new) }
+{
+    propagate_to_unions(sides, dependents, row, run, progress)?;
+    let writer_links = list_of(&dependents.rows.lists, row as usize);
+    for (_, j) in run {
+        let reader_links = list_of(&dependents.columns.lists, usize::from(*j));
+        let popped = (row, u32::from(*j));
+        eliminate_joined(
+            sides,
+            &dependents.sources,
+            writer_links,
+            reader_links,
+            popped,
+            progress,
+        )?;
+    }
+    Ok(())
+}
+
+/// The largest closed set: what remains of all pairs when none is left to eliminate. Pairs whose
+/// nodes disagree go first; then each pair is examined once, and eliminated pairs are reported.
+pub fn largest_closed(alloc: Global, writer: &Schema, reader: &Schema) -> AllocResult<Table>
+    ensures rest { IfOk result (λ t. IsRemainder (nodes_view writer.now) (nodes_view reader.now) t) }
+    ensures closed { IfOk result (λ t. Closed (nodes_view writer.now) (nodes_view reader.now) (remains t)) }
+    ensures writer { IfOk result (λ _. IsSchema (nodes_view writer.now)) }
+    ensures reader { IfOk result (λ _. IsSchema (nodes_view reader.now)) }
+{
+    let (places, others) = (writer.places() as usize, reader.places() as usize);
+    let unions = unions_in(alloc, reader)?;
+    let mut table = Table::all(alloc, places, others, !unions.is_empty())?;
+    let sides = Sides::of(alloc, writer, reader)?;
+    eliminate_disagreeing(alloc, &sides, &mut table)?;
+    let mut progress = Progress {
+        table,
+        eliminated: Vec::new(alloc),
+    };
+    let rows = links_of(alloc, &sides.writer, Some(&sides.rank_map))?;
+    let columns = links_of(alloc, &sides.reader, None)?;
+    let sources = examine_all(alloc, &sides, &columns.aliased, &mut progress)?;
+    let dependents = Dependents {
+        rows,
+        columns,
+        unions,
+        sources,
+    };
+    let mut run = Vec::new(alloc);
+    while let Some(last) = progress.eliminated.pop() {
+        pop_run(&mut progress.eliminated, last, &mut run)?;
+        propagate(&sides, &dependents, u32::from(last.0), &run, &mut progress)?;
+    }
+    Ok(progress.table)
+}

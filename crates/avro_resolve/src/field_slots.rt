@@ -1,0 +1,89 @@
+//! The fields of a writer's record, indexed by name rank, and the sources of a reader's fields.
+
+ghost use Rattle.std.specs.Prelude.{◌<◌, ◌≡◌, map, All, IfOk};
+ghost use Rattle.avro_nodes.specs.Nodes.{field_view, FieldView};
+ghost use Rattle.avro_schema.specs.Index.{AreFieldsRanked, IsFieldRanked};
+ghost use Rattle.avro_resolve.specs.Asking.{source_place};
+ghost use Rattle.avro_resolve.specs.Inside.FieldSlots.{names_in, AreInSlots, AreFieldsInSlots, AreFieldSources, HasSlots, IsClear};
+ghost use Rattle.avro_resolve.specs.Inside.Sides.{names_of};
+
+use crate::AllocResult;
+use crate::sides::{Fields, RankMap, Sides};
+use avro_schema::FieldRanks;
+use std::alloc::Global;
+
+/// Indexes fields by name rank, from the last one on, so that the first of a name remains.
+pub fn fill_slots(slots: &mut [Option<usize>], rank_map: &RankMap, fields: &[FieldRanks])
+    requires clear { IsClear slots.old }
+    requires has_slots { HasSlots slots.old rank_map.now.ranks.items }
+    ensures { AreInSlots rank_map.now.ranks.items (names_in fields.now) 0 slots.new }
+{
+    for k in (0..fields.len()).rev() {
+        let field = &fields[k];
+        if let Some(rank) = rank_map.rank(field.name) {
+            slots[rank as usize] = Some(k);
+        }
+    }
+}
+
+/// Takes the fields off again.
+pub fn clear_slots(slots: &mut [Option<usize>], rank_map: &RankMap, fields: &[FieldRanks])
+    requires in_slots { AreInSlots rank_map.now.ranks.items (names_in fields.now) 0 slots.old }
+    requires has_slots { HasSlots slots.old rank_map.now.ranks.items }
+    ensures { IsClear slots.new }
+{
+    for k in 0..fields.len() {
+        let field = &fields[k];
+        if let Some(rank) = rank_map.rank(field.name) {
+            slots[rank as usize] = None;
+        }
+    }
+}
+
+/// The place of the type of a reader's field's source, if it has one: the writer's field of its own
+/// name, else of its first alias that names one. An alias that the writer lacks needs no lookup.
+pub fn find_source(
+    slots: &[Option<usize>],
+    sides: &Sides,
+    fields: Fields,
+    names: &FieldRanks,
+) -> Option<u32>
+    requires in_slots { AreFieldsInSlots sides.now fields slots.now }
+    requires named { (f : FieldView) × IsFieldRanked (names_of sides.now.reader) f names.now }
+    ensures { (f : FieldView) → IsFieldRanked (names_of sides.now.reader) f names.now
+        → result ≡ source_place (map field_view fields.entry.fields.now) f }
+{
+    if let Some(own) = slots[names.name as usize] {
+        return Some(fields.fields[own].place);
+    }
+    for alias in &names.aliases {
+        if !sides.rank_map.knows(*alias) {
+            continue;
+        }
+        if let Some(field) = slots[*alias as usize] {
+            return Some(fields.fields[field].place);
+        }
+    }
+    None
+}
+
+/// Those of all fields of the reader's record, in their order.
+pub fn field_sources(
+    alloc: Global,
+    slots: &[Option<usize>],
+    sides: &Sides,
+    fields: Fields,
+    wanted: Fields,
+) -> AllocResult<Vec<Option<u16>>>
+    requires in_slots { AreFieldsInSlots sides.now fields slots.now }
+    requires fields_in { All (λ g. g.place < 65535) fields.fields.now }
+    requires named { AreFieldsRanked (names_of sides.now.reader) (map field_view wanted.fields.now) wanted.ranks.now }
+    ensures { IfOk result (λ v. AreFieldSources (map field_view fields.entry.fields.now) (map field_view wanted.entry.fields.now) v.items) }
+{
+    let mut places = Vec::with_capacity(alloc, wanted.ranks.len())?;
+    for names in wanted.ranks {
+        let place = find_source(slots, sides, fields, names);
+        places.push(place.map(|place| place as u16))?;
+    }
+    Ok(places)
+}

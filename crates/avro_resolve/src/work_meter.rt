@@ -1,0 +1,95 @@
+//! What the recursion looks at, beside the pairs that it opens.
+
+use crate::AllocResult;
+use crate::field_slots::{clear_slots, field_sources, fill_slots};
+use crate::sides::Sides;
+use avro_nodes::Node;
+use std::alloc::Global;
+use std::marker::Model;
+
+/// What a pair counts for that is opened.
+const PAIR: u64 = 8;
+
+/// How much work was done, and boxes that index a writer's fields, empty between calls.
+#[derive(Drop)]
+pub struct WorkMeter {
+    /// so much for each pair that was opened, and the lengths of the lists that were walked
+    pub work: u64,
+    slots: Vec<Option<usize>>,
+}
+
+impl Model for WorkMeter {
+    ghost use Rattle.std.specs.Prelude.{ℕ};
+    ghost use Rattle.avro_resolve.specs.Inside.FieldSlots.{IsClear};
+
+    ghost Value = { ℕ };
+
+    ghost view = { λ work_meter. work_meter.work };
+
+    ghost invariant = { λ work_meter. IsClear work_meter.slots.items };
+}
+
+impl WorkMeter {
+    ghost use Rattle.std.specs.Prelude.{◌≡◌, ◌<◌, IfOk, Some, length, slice_get};
+    ghost use Rattle.avro_nodes.specs.Nodes.{NodeView};
+    ghost use Rattle.avro_resolve.specs.Inside.Agreeing.{fields_of};
+    ghost use Rattle.avro_resolve.specs.Inside.FieldSlots.{AreFieldSources};
+    ghost use Rattle.avro_resolve.specs.Inside.Sides.{columns, rows, IsSides};
+
+    /// Nothing was looked at; the boxes are made where they are needed first.
+    pub fn none(alloc: Global) -> WorkMeter {
+        let slots = Vec::new(alloc);
+        WorkMeter { work: 0, slots }
+    }
+
+    /// Counts that it is asked for a pair, which may be known.
+    pub fn count_one(&mut self) {
+        self.work = self.work.saturating_add(1);
+    }
+
+    /// Counts a comparison of two nodes. A reader's default makes comparing symbols needless.
+    pub fn compare(&mut self, a: &Node, b: &Node) {
+        let symbols = match (a, b) {
+            (
+                Node::Enum { symbols, .. },
+                Node::Enum {
+                    symbols: known,
+                    fallback: None,
+                    ..
+                },
+            ) => (symbols.len() as u64).saturating_add(known.len() as u64),
+            _ => 0,
+        };
+        self.work = self.work.saturating_add(symbols).saturating_add(PAIR);
+    }
+
+    /// For each field of a reader's record the place of its source's type, if it has a source.
+    pub fn sources(
+        &mut self,
+        alloc: Global,
+        sides: &Sides,
+        i: u32,
+        j: u32,
+    ) -> AllocResult<Vec<Option<u16>>>
+        requires sides { IsSides sides.now }
+        requires i_in { i < length sides.now.writer.schema.now }
+        requires j_in { j < length sides.now.reader.schema.now }
+        ensures { IfOk result (λ v. (a b : NodeView) → slice_get (rows sides.now) i ≡ Some a
+            → slice_get (columns sides.now) j ≡ Some b → AreFieldSources (fields_of a) (fields_of b) v.items) }
+    {
+        let (fields, wanted) = (sides.writer.fields(i), sides.reader.fields(j));
+        self.work = self.work.saturating_add(fields.ranks.len() as u64);
+        for sought in wanted.ranks {
+            self.work = self.work.saturating_add(sought.aliases.len() as u64 + 1);
+        }
+        let names = sides.reader.index.names.len();
+        if self.slots.len() < names {
+            self.slots.resize(names, None)?;
+        }
+        let slots = self.slots.as_mut_slice();
+        fill_slots(slots, &sides.rank_map, fields.ranks);
+        let places = field_sources(alloc, slots, sides, fields, wanted);
+        clear_slots(slots, &sides.rank_map, fields.ranks);
+        places
+    }
+}

@@ -1,9 +1,0 @@
-use Rattle.std.proofs.Common.{◌≡◌, ◌≤◌, length, take}
-use Rattle.avro_schema.proofs.BorrowedMembers.{last_in}
-use Rattle.avro_schema.proofs.borrowed.last_at.Given as goal
-
-abbrev pub invariant-loop-left : goal.invariant-loop-left
-invariant-loop-left l = (last_in l.key l.attributes.reserved.items ≡ last_in l.key (take l.left l.attributes.reserved.items)) × (l.left ≤ length l.attributes.reserved.items)
-
-abbrev pub decreases-loop-left : goal.decreases-loop-left
-decreases-loop-left l = l.left

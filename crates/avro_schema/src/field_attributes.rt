@@ -1,0 +1,92 @@
+//! What a field says beside its type: its name, aliases, order and default.
+
+ghost use Rattle.std.specs.Prelude.{◌≡◌, OnOk, option_map};
+ghost use Rattle.serde_json.specs.View.{view};
+ghost use Rattle.avro_schema.specs.Attributes.{without_all, order_in};
+ghost use Rattle.avro_schema.specs.Inside.Borrowed.{value_data, members_data};
+ghost use Rattle.avro_schema.specs.Inside.Declarations.{field_attribute_keys, field_attributes_in, field_attributes_view, bounded_value};
+ghost use Rattle.avro_schema.specs.Inside.ReaderResults.{Gives};
+
+use crate::attributes::{names_if_any, take_text};
+use crate::borrowed::{Attributes, Json, take, text_of};
+use crate::error::SchemaError;
+use crate::keywords::order_of;
+use crate::names::is_simple;
+use crate::nesting::nests_within;
+use crate::owning::take_default;
+use avro_nodes::{MAX_NESTING, Order};
+use serde_json::Value;
+use std::alloc::Global;
+
+/// A field's order, ascending where it is missing.
+fn order_if_any(attribute: Option<Json<'_>>) -> Result<Order, SchemaError>
+    ensures { Gives (λ o. o) result (order_in (option_map value_data attribute.entry)) }
+{
+    let Some(value) = attribute else {
+        return Ok(Order::Ascending);
+    };
+    let Some(name) = text_of(&value) else {
+        return Err(SchemaError::BadShape);
+    };
+    match order_of(name) {
+        Some(order) => Ok(order),
+        None => Err(SchemaError::BadShape),
+    }
+}
+
+/// A default that nests within the limit, and may be missing.
+fn value_if_any(attribute: Option<Value>) -> Result<Option<Value>, SchemaError>
+    ensures { Gives (option_map view) result (bounded_value (option_map view attribute)) }
+{
+    let Some(value) = attribute else {
+        return Ok(None);
+    };
+    if nests_within(&value, MAX_NESTING) {
+        Ok(Some(value))
+    } else {
+        Err(SchemaError::TooLarge)
+    }
+}
+
+/// What a field says beside its type.
+#[derive(Debug, Drop)]
+pub struct FieldAttributes {
+    pub name: String,
+    pub aliases: Vec<String>,
+    pub order: Order,
+    pub value: Option<Value>,
+}
+
+/// What a field says beside its type and its other attributes, which are left.
+///
+/// # Errors
+///
+/// `BadShape` where the name is missing, the order is none, or an attribute of these has another
+/// JSON type, `BadName` where a name isn't well formed, `TooLarge` where the default nests too
+/// deep, and `OutOfMemory` where memory is refused. Some of the attributes may be taken out then.
+#[tactic(auto, unfolding(crate::specs::Inside::Declarations::field_attributes_in))]
+pub fn field_attributes_of(
+    alloc: Global,
+    attributes: &mut Attributes<'_>,
+) -> Result<FieldAttributes, SchemaError>
+    ensures label { Gives field_attributes_view result (field_attributes_in (members_data attributes.old)) }
+    ensures rest { OnOk result (members_data attributes.new
+        ≡ without_all field_attribute_keys (members_data attributes.old)) }
+{
+    let Some(name) = take_text(attributes, "name") else {
+        return Err(SchemaError::BadShape);
+    };
+    if !is_simple(name) {
+        return Err(SchemaError::BadName);
+    }
+    let name = String::from_str(alloc, name)?;
+    let aliases = names_if_any(alloc, take(attributes, "aliases"), None)?;
+    let order = order_if_any(take(attributes, "order"))?;
+    let value = value_if_any(take_default(attributes))?;
+    Ok(FieldAttributes {
+        name,
+        aliases,
+        order,
+        value,
+    })
+}

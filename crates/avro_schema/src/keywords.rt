@@ -1,0 +1,91 @@
+//! The words of a declaration.
+
+ghost use Rattle.std.specs.Prelude.{◌≡◌, Some, None};
+ghost use Rattle.avro_schema.specs.Keywords.{kind_of, type_name_of, order_of};
+
+use avro_nodes::{Kind, Order};
+
+/// What an object's `type` says that it is (Avro 1.11 specification, Schema Declaration).
+#[derive(Clone, Copy, Debug, PartialEq, Eq)]
+pub enum TypeName {
+    /// a primitive type
+    Primitive(Kind),
+    /// `array`
+    Array,
+    /// `map`
+    Map,
+    /// `fixed`
+    Fixed,
+    /// `enum`
+    Enum,
+    /// `record`
+    Record,
+    /// the name of a type that is defined elsewhere
+    Reference,
+}
+
+/// A type of many values of one other type (Avro 1.11 specification, Arrays; Maps).
+#[derive(Clone, Copy, Debug, PartialEq, Eq)]
+pub enum Container {
+    /// an array, of `items`
+    Items,
+    /// a map, of `values`
+    Values,
+}
+
+/// The primitive type of this name.
+#[tactic(auto, unfolding(crate::specs::Keywords::kind_of))]
+pub fn kind_of(name: &str) -> Option<Kind>
+    ensures { result ≡ kind_of name.now }
+{
+    match name.len() {
+        3 if name == "int" => Some(Kind::Int),
+        4 if name == "long" => Some(Kind::Long),
+        4 if name == "null" => Some(Kind::Null),
+        5 if name == "bytes" => Some(Kind::Bytes),
+        5 if name == "float" => Some(Kind::Float),
+        6 if name == "string" => Some(Kind::Text),
+        6 if name == "double" => Some(Kind::Double),
+        7 if name == "boolean" => Some(Kind::Boolean),
+        _ => None,
+    }
+}
+
+/// What the word says in an object's `type`.
+#[tactic(auto, unfolding(crate::specs::Keywords::type_name_of))]
+pub fn type_name_of(name: &str) -> TypeName
+    ensures { result ≡ type_name_of name.now }
+{
+    if let Some(kind) = kind_of(name) {
+        return TypeName::Primitive(kind);
+    }
+    if name == "record" {
+        TypeName::Record
+    } else if name == "enum" {
+        TypeName::Enum
+    } else if name == "array" {
+        TypeName::Array
+    } else if name == "map" {
+        TypeName::Map
+    } else if name == "fixed" {
+        TypeName::Fixed
+    } else {
+        TypeName::Reference
+    }
+}
+
+/// The sort order of this name.
+#[tactic(auto, unfolding(crate::specs::Keywords::order_of))]
+pub fn order_of(name: &str) -> Option<Order>
+    ensures { result ≡ order_of name.now }
+{
+    if name == "ascending" {
+        Some(Order::Ascending)
+    } else if name == "descending" {
+        Some(Order::Descending)
+    } else if name == "ignore" {
+        Some(Order::Ignore)
+    } else {
+        None
+    }
+}

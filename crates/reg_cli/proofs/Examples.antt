@@ -1,0 +1,106 @@
+-- What some lines ask for, by computing.
+use Rattle.std.proofs.Common.{◌≡◌, refl, [], ◌∷◌, Some, None, codes}
+use Rattle.clap.proofs.OnLiterals.{clap_on_literals}
+use Rattle.reg_cli.specs.Line.{line}
+use Rattle.reg_cli.specs.Tasks.{to_run, to_print, to_check, to_list, to_migrate, to_audit, to_serve}
+use Rattle.reg_cli.specs.declared.task.ListingName.TheVariants.{Versions}
+
+-- `run`
+pub in_memory : line (codes "run" ∷ []) ≡ Some (to_run None)
+unfolding clap_on_literals
+in_memory = refl
+
+-- `run --db F`
+pub with_a_value : line (codes "run" ∷ codes "--db" ∷ codes "F" ∷ []) ≡ Some (to_run (Some (codes "F")))
+unfolding clap_on_literals
+with_a_value = refl
+
+-- `run --db=F`
+pub with_a_value_attached : line (codes "run" ∷ codes "--db=F" ∷ []) ≡ Some (to_run (Some (codes "F")))
+unfolding clap_on_literals
+with_a_value_attached = refl
+
+-- `serve --db F --port 8081`: as many connections as there may be
+pub without_connections : line (codes "serve" ∷ codes "--db" ∷ codes "F" ∷ codes "--port" ∷ codes "8081" ∷ []) ≡ Some (to_serve (codes "F") 8081 2147483647)
+unfolding clap_on_literals
+without_connections = refl
+
+-- `serve --connections=2 --port 1 --db F`: in another order
+pub in_any_order : line (codes "serve" ∷ codes "--connections=2" ∷ codes "--port" ∷ codes "1" ∷ codes "--db" ∷ codes "F" ∷ []) ≡ Some (to_serve (codes "F") 1 2)
+unfolding clap_on_literals
+in_any_order = refl
+
+-- `check --writer W --reader R`
+pub checked : line (codes "check" ∷ codes "--writer" ∷ codes "W" ∷ codes "--reader" ∷ codes "R" ∷ []) ≡ Some (to_check (codes "R") (codes "W"))
+unfolding clap_on_literals
+checked = refl
+
+-- `text F`
+pub printed : line (codes "text" ∷ codes "F" ∷ []) ≡ Some (to_print (codes "F"))
+unfolding clap_on_literals
+printed = refl
+
+-- `list --db F versions`
+pub listed : line (codes "list" ∷ codes "--db" ∷ codes "F" ∷ codes "versions" ∷ []) ≡ Some (to_list (codes "F") Versions)
+unfolding clap_on_literals
+listed = refl
+
+-- `migrate --db F`
+pub migrated : line (codes "migrate" ∷ codes "--db" ∷ codes "F" ∷ []) ≡ Some (to_migrate (codes "F"))
+unfolding clap_on_literals
+migrated = refl
+
+-- `migrate`: no file
+pub migrate_nothing : line (codes "migrate" ∷ []) ≡ None
+unfolding clap_on_literals
+migrate_nothing = refl
+
+-- `audit --db F`
+pub audited : line (codes "audit" ∷ codes "--db" ∷ codes "F" ∷ []) ≡ Some (to_audit (codes "F"))
+unfolding clap_on_literals
+audited = refl
+
+-- `audit --db F versions`: a word too many
+pub audit_a_listing : line (codes "audit" ∷ codes "--db" ∷ codes "F" ∷ codes "versions" ∷ []) ≡ None
+unfolding clap_on_literals
+audit_a_listing = refl
+
+-- no words
+pub no_arguments : line [] ≡ None
+unfolding clap_on_literals
+no_arguments = refl
+
+-- `--help`
+pub help_is_requested : line (codes "--help" ∷ []) ≡ None
+unfolding clap_on_literals
+help_is_requested = refl
+
+-- `run --db F --db G`: an option twice
+pub an_option_twice : line (codes "run" ∷ codes "--db" ∷ codes "F" ∷ codes "--db" ∷ codes "G" ∷ []) ≡ None
+unfolding clap_on_literals
+an_option_twice = refl
+
+-- `run F`: a word too many
+pub an_argument_too_many : line (codes "run" ∷ codes "F" ∷ []) ≡ None
+unfolding clap_on_literals
+an_argument_too_many = refl
+
+-- `serve --db F --port 0`
+pub port_0 : line (codes "serve" ∷ codes "--db" ∷ codes "F" ∷ codes "--port" ∷ codes "0" ∷ []) ≡ None
+unfolding clap_on_literals
+port_0 = refl
+
+-- `serve --db F --port 65536`
+pub port_65536 : line (codes "serve" ∷ codes "--db" ∷ codes "F" ∷ codes "--port" ∷ codes "65536" ∷ []) ≡ None
+unfolding clap_on_literals
+port_65536 = refl
+
+-- `serve --db F --port 1 --connections 2147483648`
+pub too_many_connections : line (codes "serve" ∷ codes "--db" ∷ codes "F" ∷ codes "--port" ∷ codes "1" ∷ codes "--connections" ∷ codes "2147483648" ∷ []) ≡ None
+unfolding clap_on_literals
+too_many_connections = refl
+
+-- `list --db F all`: no such listing
+pub another_listing : line (codes "list" ∷ codes "--db" ∷ codes "F" ∷ codes "all" ∷ []) ≡ None
+unfolding clap_on_literals
+another_listing = refl

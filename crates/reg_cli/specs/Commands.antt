@@ -1,0 +1,69 @@
+-- The program's commands and their arguments (this project's choice).
+use Rattle.std.specs.Prelude.{◌≡◌, ℕ, Some, true, false, pos, codes}
+use Rattle.clap.specs.Words.{App, Rule, Text, app_of, new_app, new_rule, with_rule, with_subcommand}
+use Rattle.clap.specs.Simple.{on_top}
+use Rattle.clap.specs.declared.Command.{Command}
+use Rattle.clap.specs.declared.Command.TheViews.{out-Command}
+use Rattle.clap.specs.declared.builder.ValueParser.TheVariants as parser
+
+-- an option with one value, which help names
+abbrev pub option_rule : Text → Rule
+option_rule name = record (new_rule name) { long = Some name; value_names = 1 }
+
+-- an argument that may not be left out
+abbrev pub needed : Rule → Rule
+needed rule = record rule { required = true }
+
+-- an argument that is a number from 1 to the greatest
+abbrev pub numbered : ℕ → Rule → Rule
+numbered greatest rule = record rule { parser = Some (parser.Signed (pos 1) (pos greatest)) }
+
+abbrev pub max_port : ℕ
+max_port = 65535
+
+abbrev pub max_connections : ℕ
+max_connections = 2147483647
+
+abbrev pub database_rule : Rule
+database_rule = option_rule (codes "db")
+
+abbrev pub port_rule : Rule
+port_rule = numbered max_port (needed (option_rule (codes "port")))
+
+abbrev pub connections_rule : Rule
+connections_rule = numbered max_connections (option_rule (codes "connections"))
+
+abbrev pub run_command : App
+run_command = with_rule (new_app (codes "run")) database_rule
+
+abbrev pub serve_command : App
+serve_command = with_rule (with_rule (with_rule (new_app (codes "serve")) (needed database_rule)) port_rule) connections_rule
+
+abbrev pub check_command : App
+check_command = with_rule (with_rule (new_app (codes "check")) (needed (option_rule (codes "reader")))) (needed (option_rule (codes "writer")))
+
+abbrev pub text_command : App
+text_command = with_rule (new_app (codes "text")) (needed (new_rule (codes "F")))
+
+abbrev pub list_command : App
+list_command = with_rule (with_rule (new_app (codes "list")) (needed database_rule)) (needed (new_rule (codes "W")))
+
+abbrev pub migrate_command : App
+migrate_command = with_rule (new_app (codes "migrate")) (needed database_rule)
+
+abbrev pub audit_command : App
+audit_command = with_rule (new_app (codes "audit")) (needed database_rule)
+
+-- The words begin behind the program's name, and name a command.
+abbrev pub root_command : App
+root_command = on_top (λ top. record top { no_binary_name = true; subcommand_required = true }) (new_app (codes "avroreg"))
+
+abbrev pub program : App
+program =
+    with_subcommand (with_subcommand (with_subcommand (with_subcommand (with_subcommand (with_subcommand (with_subcommand root_command run_command.top) serve_command.top) check_command.top) text_command.top)
+    list_command.top) migrate_command.top) audit_command.top
+
+-- the command is this one, and no argument of it is one of its subcommands' too
+pub record IsApp (app : App) (command : Command) : Type 0 where
+  pub shape : app_of command ≡ app
+  pub local : (out-Command command).has_globals ≡ false

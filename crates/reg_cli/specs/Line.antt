@@ -1,0 +1,78 @@
+-- What the words behind the program's name ask for, as clap reads them (this project's choice).
+use Rattle.std.specs.Prelude.{ℕ, List, [], ◌∷◌, codes, bytes_eq, Option, Some, None, option_map, option_and_then, if◌then◌else◌}
+use Rattle.clap.specs.Words.{Kinds, Row, Text, fault_of, first_of, subcommand_of}
+use Rattle.reg_cli.specs.Commands.{max_connections, program}
+use Rattle.reg_cli.specs.Numbers.{number_in}
+use Rattle.reg_cli.specs.Tasks.{TaskView, to_run, to_print, to_check, to_list, to_migrate, to_audit, to_serve}
+use Rattle.reg_cli.specs.declared.task.ListingName.{ListingName}
+use Rattle.reg_cli.specs.declared.task.ListingName.TheVariants.{Subjects, Versions, Schemas}
+
+-- the listing that a word names
+abbrev pub listing_in : Text → Option ListingName
+listing_in argument =
+    if bytes_eq argument (codes "subjects") then Some Subjects
+    else if bytes_eq argument (codes "versions") then Some Versions
+    else if bytes_eq argument (codes "schemas") then Some Schemas
+    else None
+
+-- how many connections: as many as there may be, where no number is given
+abbrev pub connections_in : Option Text → Option ℕ
+connections_in None = Some max_connections
+connections_in (Some text) = number_in 32 text
+
+-- the port that is given
+abbrev pub port_in : List Row → Option ℕ
+port_in rows = option_and_then (number_in 16) (first_of (codes "port") rows)
+
+-- `run [--db F]`
+abbrev pub run_in : List Row → Option TaskView
+run_in rows = Some (to_run (first_of (codes "db") rows))
+
+-- `serve --db F --port N [--connections N]`
+abbrev pub serve_in : List Row → Option TaskView
+serve_in rows =
+    option_and_then (λ database. option_and_then (λ port. option_map (to_serve database port)
+    (connections_in (first_of (codes "connections") rows))) (port_in rows)) (first_of (codes "db") rows)
+
+-- `check --reader F --writer F`
+abbrev pub check_in : List Row → Option TaskView
+check_in rows = option_and_then (λ reader. option_map (to_check reader) (first_of (codes "writer") rows)) (first_of (codes "reader") rows)
+
+-- `text F`
+abbrev pub text_in : List Row → Option TaskView
+text_in rows = option_map to_print (first_of (codes "F") rows)
+
+-- `list --db F W`
+abbrev pub list_in : List Row → Option TaskView
+list_in rows =
+    option_and_then (λ database. option_map (to_list database)
+    (option_and_then listing_in (first_of (codes "W") rows))) (first_of (codes "db") rows)
+
+-- `migrate --db F`
+abbrev pub migrate_in : List Row → Option TaskView
+migrate_in rows = option_map to_migrate (first_of (codes "db") rows)
+
+-- `audit --db F`
+abbrev pub audit_in : List Row → Option TaskView
+audit_in rows = option_map to_audit (first_of (codes "db") rows)
+
+-- what a command with these values asks for
+abbrev pub task_in : Text → List Row → Option TaskView
+task_in name rows =
+    if bytes_eq name (codes "run") then run_in rows
+    else if bytes_eq name (codes "serve") then serve_in rows
+    else if bytes_eq name (codes "check") then check_in rows
+    else if bytes_eq name (codes "text") then text_in rows
+    else if bytes_eq name (codes "list") then list_in rows
+    else if bytes_eq name (codes "migrate") then migrate_in rows
+    else if bytes_eq name (codes "audit") then audit_in rows
+    else None
+
+-- what the command that the words name asks for, where clap finds no fault in them
+abbrev pub line_unless_faulty : Kinds → List Text → Option TaskView
+line_unless_faulty [] arguments = option_and_then (λ found. task_in found.0 found.1) (subcommand_of program arguments)
+line_unless_faulty (fault ∷ faults) arguments = None
+
+-- What the words ask for. A usage fault asks for nothing: an option twice, a word too many, a request for help.
+abbrev pub line : List Text → Option TaskView
+line arguments = line_unless_faulty (fault_of program arguments) arguments

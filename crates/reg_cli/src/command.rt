@@ -1,0 +1,216 @@
+//! The program's commands and their arguments, for `clap`, with their help.
+
+ghost use Rattle.std.specs.Prelude.{◌≡◌, IfOk, false};
+ghost use Rattle.clap.specs.Words.{new_rule, rule_of};
+ghost use Rattle.reg_cli.specs.Commands.{IsApp, audit_command, root_command, check_command};
+ghost use Rattle.reg_cli.specs.Commands.{connections_rule, list_command, migrate_command, needed};
+ghost use Rattle.reg_cli.specs.Commands.{option_rule, port_rule, program, run_command, serve_command};
+ghost use Rattle.reg_cli.specs.Commands.{text_command};
+
+use crate::task::MAX_CONNECTIONS;
+use clap::{Arg, Command, value_parser};
+use std::alloc::{AllocError, Global};
+
+/// An option with one value, and its help.
+fn option<'a>(alloc: Global, name: &'a str, value: &'a str, help: &'a str) -> Arg<'a>
+    ensures rule { rule_of result ≡ option_rule name.entry.now }
+    ensures local { result.global ≡ false }
+{
+    Arg::new(alloc, name)
+        .long(name)
+        .value_name(value)
+        .help(help)
+}
+
+/// An argument without a name that may not be left out, and its help.
+fn positional<'a>(alloc: Global, name: &'a str, help: &'a str) -> Arg<'a>
+    ensures rule { rule_of result ≡ needed (new_rule name.entry.now) }
+    ensures local { result.global ≡ false }
+{
+    Arg::new(alloc, name).required(true).help(help)
+}
+
+/// `--port N`.
+fn port<'a>(alloc: Global) -> Arg<'a>
+    ensures rule { rule_of result ≡ port_rule }
+    ensures local { result.global ≡ false }
+{
+    option(alloc, "port", "N", "The port on 127.0.0.1, 1 to 65535")
+        .required(true)
+        .value_parser(value_parser!(u16).range(1..))
+}
+
+/// `--connections N`.
+fn connections<'a>(alloc: Global) -> Arg<'a>
+    ensures rule { rule_of result ≡ connections_rule }
+    ensures local { result.global ≡ false }
+{
+    option(
+        alloc,
+        "connections",
+        "N",
+        "Stop after this many connections, 1 to 2147483647 (the default)",
+    )
+    .value_parser(value_parser!(u32).range(1..=i64::from(MAX_CONNECTIONS)))
+}
+
+/// `run [--db F]`.
+fn run_command<'a>(alloc: Global) -> Result<Command<'a>, AllocError>
+    ensures { IfOk result (IsApp run_command) }
+{
+    Command::new(alloc, "run")
+        .about("Answer the HTTP requests on standard input, on standard output")
+        .after_help(
+            "Without --db, the registry is a new one in memory. Status 0 if the input ended
+after a complete request, or a request ended the connection. Status 2 after an
+error, with one line on standard error.",
+        )
+        .arg(option(
+            alloc,
+            "db",
+            "F",
+            "The registry's file, created if it is missing or empty",
+        ))
+}
+
+/// `serve --db F --port N [--connections N]`.
+fn serve_command<'a>(alloc: Global) -> Result<Command<'a>, AllocError>
+    ensures { IfOk result (IsApp serve_command) }
+{
+    let database = option(
+        alloc,
+        "db",
+        "F",
+        "The registry's file, created if it is missing or empty",
+    );
+    Command::new(alloc, "serve")
+        .about("Serve a registry over HTTP on 127.0.0.1")
+        .after_help(
+            "Serves one connection after another. F and F-wal belong together while the
+program runs and after it was killed. Status 0 after the last connection, 2 after
+an error, with one line on standard error.",
+        )
+        .arg(database.required(true))?
+        .arg(port(alloc))?
+        .arg(connections(alloc))
+}
+
+/// `check --reader F --writer F`.
+fn check_command<'a>(alloc: Global) -> Result<Command<'a>, AllocError>
+    ensures { IfOk result (IsApp check_command) }
+{
+    let reader = option(alloc, "reader", "F", "The file with the reader's schema");
+    let writer = option(alloc, "writer", "F", "The file with the writer's schema");
+    Command::new(alloc, "check")
+        .about("Check whether a reader's schema can read a writer's data")
+        .after_help(
+            "Prints compatible (status 0) or incompatible (status 1).
+Status 2 after an error, with one line on standard error.",
+        )
+        .arg(reader.required(true))?
+        .arg(writer.required(true))
+}
+
+/// `text F`.
+fn text_command<'a>(alloc: Global) -> Result<Command<'a>, AllocError>
+    ensures { IfOk result (IsApp text_command) }
+{
+    Command::new(alloc, "text")
+        .about("Print the canonical text of a schema")
+        .after_help(
+            "Two schemas are the same if their canonical texts are equal. Status 0, or 2 after
+an error, with one line on standard error.",
+        )
+        .arg(positional(alloc, "F", "The file with the schema"))
+}
+
+/// `list --db F W`.
+///
+/// # Errors
+///
+/// `AllocError` if an allocation fails.
+pub fn list_command<'a>(alloc: Global) -> Result<Command<'a>, AllocError>
+    ensures { IfOk result (IsApp list_command) }
+{
+    let database = option(alloc, "db", "F", "The registry's file");
+    Command::new(alloc, "list")
+        .about("List the subjects, versions or schemas of a registry as CSV")
+        .after_help(
+            "Prints a header, then one line for each subject, version or schema:
+  subjects  subject,level,live,deleted: its own level, and its numbers of versions
+  versions  subject,version,id,deleted
+  schemas   id,text
+Status 0, or 2 after an error, with one line on standard error.",
+        )
+        .arg(database.required(true))?
+        .arg(positional(alloc, "W", "What to list: subjects, versions or schemas"))
+}
+
+/// `migrate --db F`.
+fn migrate_command<'a>(alloc: Global) -> Result<Command<'a>, AllocError>
+    ensures { IfOk result (IsApp migrate_command) }
+{
+    let database = option(alloc, "db", "F", "The registry's file");
+    Command::new(alloc, "migrate")
+        .about("Upgrade a registry's file from layout 1 to layout 2")
+        .after_help(
+            "Prints layout 2: N versions kept, or layout 2: nothing to do. The registry stays as
+it is, and so do the responses kept for retry keys. Back up F first, because older
+programs can't read layout 2. Status 0, or 2 after an error, with one line on
+standard error.",
+        )
+        .arg(database.required(true))
+}
+
+/// `audit --db F`.
+fn audit_command<'a>(alloc: Global) -> Result<Command<'a>, AllocError>
+    ensures { IfOk result (IsApp audit_command) }
+{
+    let database = option(alloc, "db", "F", "The registry's file");
+    Command::new(alloc, "audit")
+        .about("Check the stored versions against their evidence again")
+        .after_help(
+            "Compares each version again with those that it was compared with when it was
+registered. Prints evidence holds (status 0) if all pairs are compatible as the
+level required then, otherwise evidence does not hold (status 1). Status 2 after
+an error, with one line on standard error.",
+        )
+        .arg(database.required(true))
+}
+
+/// The program without its commands.
+fn root_command<'a>(alloc: Global) -> Result<Command<'a>, AllocError>
+    ensures { IfOk result (IsApp root_command) }
+{
+    Command::new(alloc, "avroreg")
+        .no_binary_name(true)
+        .subcommand_required(true)
+        .about("A schema registry for Apache Avro")
+        .after_help(
+            "Status 2 after an error, with one line on standard error. Status 64 if the arguments
+are wrong, with a usage text like this one.
+
+Examples:
+  avroreg serve --db registry.db --port 8081
+  avroreg list --db registry.db subjects",
+        )
+        .bin_name("avroreg")
+}
+
+/// The program, with its commands.
+///
+/// # Errors
+///
+/// `AllocError` if an allocation fails.
+pub fn program<'a>(alloc: Global) -> Result<Command<'a>, AllocError>
+    ensures { IfOk result (IsApp program) }
+{
+    root_command(alloc)?
+        .subcommand(run_command(alloc)?)?
+        .subcommand(serve_command(alloc)?)?
+        .subcommand(check_command(alloc)?)?
+        .subcommand(text_command(alloc)?)?
+        .subcommand(list_command(alloc)?)?
+        .subcommand(migrate_command(alloc)?)?
+        .subcommand(audit_command(alloc)?)
+}

@@ -1,0 +1,13 @@
+//! The program's arguments, as `clap` reads them.
+
+#![tactic(auto)]
+
+mod command;
+mod fault;
+mod parsing;
+mod task;
+mod values;
+
+pub use fault::LineFault;
+pub use parsing::task_of;
+pub use task::{Job, ListingName, MAX_CONNECTIONS, Server, Task};

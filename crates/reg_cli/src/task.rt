@@ -1,0 +1,51 @@
+//! The program's tasks.
+
+/// The largest number of connections after which a server ends, and the default.
+pub const MAX_CONNECTIONS: u32 = 2_147_483_647;
+
+/// What to list of a registry.
+#[derive(Clone, Copy, Debug, PartialEq, Eq)]
+pub enum ListingName {
+    /// The subjects, each with its own level and its numbers of versions.
+    Subjects,
+    /// The versions of each subject.
+    Versions,
+    /// The identity text of each schema, by its id.
+    Schemas,
+}
+
+/// A task that ends by itself.
+#[derive(Debug, Drop)]
+pub enum Job {
+    /// Answer the requests on standard input, on standard output. The registry is in a database file,
+    /// or a new one in memory.
+    Run { database: Option<String> },
+    /// Print the identity text of the schema in a file.
+    Text { file: String },
+    /// Print whether the reader's schema can read data of the writer's schema.
+    Check { reader: String, writer: String },
+    /// Print a listing of the registry in a database file.
+    List { database: String, kind: ListingName },
+    /// Upgrade the registry in a database file to the newest layout.
+    Migrate { database: String },
+    /// Print whether the evidence of the registry in a database file holds.
+    Audit { database: String },
+}
+
+/// A server for a registry, on 127.0.0.1.
+#[derive(Debug, Drop)]
+pub struct Server {
+    /// The name of the database file.
+    pub database: String,
+    /// The port, 1 to 65,535.
+    pub port: u16,
+    /// The number of connections after which it ends, 1 to `MAX_CONNECTIONS`.
+    pub connections: u32,
+}
+
+/// What the words ask for.
+#[derive(Debug, Drop)]
+pub enum Task {
+    Job(Job),
+    Server(Server),
+}

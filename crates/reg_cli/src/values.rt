@@ -1,0 +1,75 @@
+//! The values of a command's arguments.
+
+ghost use Rattle.std.specs.Prelude.{◌≡◌, IfOk, option_map, string_bytes};
+ghost use Rattle.clap.specs.Words.{first_of, found_of, rows_of};
+ghost use Rattle.reg_cli.specs.Line.{connections_in, listing_in};
+ghost use Rattle.reg_cli.specs.Numbers.{number_in};
+
+use crate::task::{ListingName, MAX_CONNECTIONS};
+use clap::ArgMatches;
+use std::alloc::{AllocError, Global};
+
+/// The value of an argument, if it has one.
+pub fn value_of<'a>(matches: &ArgMatches<'a>, id: &str) -> Option<&'a str>
+    ensures { option_map (λ text. text.now) result
+        ≡ first_of id.now (rows_of (found_of matches.now)) }
+{
+    matches.get_str(id)
+}
+
+/// A copy of a text, if there is one.
+///
+/// # Errors
+///
+/// `AllocError` if the allocation fails.
+pub fn copy_of(alloc: Global, text: Option<&str>) -> Result<Option<String>, AllocError>
+    ensures { IfOk result (λ copy. option_map string_bytes copy
+        ≡ option_map (λ text. text.now) text.entry) }
+{
+    match text {
+        None => Ok(None),
+        Some(text) => Ok(Some(String::from_str(alloc, text)?)),
+    }
+}
+
+/// A number of 16 bits, if the text is one.
+pub fn port_in(text: &str) -> Option<u16>
+    ensures { result ≡ number_in 16 text.now }
+{
+    match text.parse::<u16>() {
+        Ok(number) => Some(number),
+        Err(_) => None,
+    }
+}
+
+/// A number of 32 bits, if the text is one.
+fn count_in(text: &str) -> Option<u32>
+    ensures { result ≡ number_in 32 text.now }
+{
+    match text.parse::<u32>() {
+        Ok(number) => Some(number),
+        Err(_) => None,
+    }
+}
+
+/// The number of connections, or `None` if the text is no number.
+pub fn connections_in(text: Option<&str>) -> Option<u32>
+    ensures { result ≡ connections_in (option_map (λ text. text.now) text.entry) }
+{
+    match text {
+        None => Some(MAX_CONNECTIONS),
+        Some(text) => count_in(text),
+    }
+}
+
+/// The listing with this name, if there is one.
+pub fn listing_in(argument: &str) -> Option<ListingName>
+    ensures { result ≡ listing_in argument.now }
+{
+    match argument {
+        "subjects" => Some(ListingName::Subjects),
+        "versions" => Some(ListingName::Versions),
+        "schemas" => Some(ListingName::Schemas),
+        _ => None,
+    }
+}

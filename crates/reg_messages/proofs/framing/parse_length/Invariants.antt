@@ -1,0 +1,11 @@
+use Rattle.std.proofs.Common.{◌≡◌, true, min, take}
+use Rattle.std.specs.List.{list_all}
+use Rattle.std.specs.Char.{is_ascii_digit}
+use Rattle.std.specs.Str.Parse.{digits_value}
+use Rattle.reg_messages.proofs.framing.parse_length.Given as goal
+
+abbrev pub invariant-loop-b : goal.invariant-loop-b
+invariant-loop-b l = record {
+  value : l.n ≡ min (digits_value 10 (take l.b-index l.text)) 1048577;
+  digits : list_all is_ascii_digit (take l.b-index l.text) ≡ true;
+}

@@ -1,6 +1,0 @@
-use Rattle.reg_rows.specs.Inside.Search.{HasVersion}
-use Rattle.reg_rows.proofs.EachRow.{Left}
-use Rattle.reg_rows.proofs.places.have_versions.Given as goal
-
-abbrev pub invariant-loop-place : goal.invariant-loop-place
-invariant-loop-place l = Left (HasVersion l.sorted) l.places l.place-index

@@ -1,9 +1,0 @@
-use Rattle.reg_tables.specs.Entries.{IsReadableKeyed}
-use Rattle.reg_tables.proofs.FirstVersions.{line_behind, readable_behind}
-use Rattle.reg_tables.proofs.Statements.{asks_behind}
-use Rattle.reg_tables.proofs.TableLines.{finds_versions}
-use Rattle.reg_tables.proofs.listed.first_version_behind.Goals as goal
-
-pub returns : goal.returns
-returns g c = finds_versions (asks_behind c.args.subject.now) IsReadableKeyed _ c.args.db.now c.first.new.db c.first.result c.first.ensures.frame (rw c.params-to_sql.ensures at c.first.ensures.read) (rw c.params-to_sql.ensures at c.first.ensures.failed)
-    (λ last schema contents holds known found shows. (λ line read. line_behind _ _ schema contents holds known c.args.subject.now found shows line read, λ readable. readable_behind _ _ schema contents holds known c.args.subject.now found shows readable))

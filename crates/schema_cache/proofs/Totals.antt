@@ -1,0 +1,61 @@
+-- What a change of the entries does to the bytes of their texts.
+use Rattle.std.proofs.Common.{◌≡◌, ℕ, zero, suc, ◌+◌, ◌-◌, ◌≤◌, ◌<◌, Bool, true, false, List, [], ◌∷◌, length, take, slice_get, Option, Some, None, refl, arith, cond}
+use Rattle.std.specs.Option.{option_map_or}
+use Rattle.std.specs.Prelude.{option_map}
+use Rattle.std.specs.Map.{lookup, lookup_entry, remove_entry}
+use Rattle.lru.specs.LruCache.{LruCache, promoted, put_entries, displaced, last_entry}
+use Rattle.lru.proofs.CallerLemmas.{Contains-lookup_entry}
+use Rattle.schema_cache.specs.Entries.{EntryView, size, total}
+
+pub total-take : (n : ℕ) (es : List (ℕ × EntryView)) → length es ≤ suc n → total (take n es) + size (slice_get es n) ≡ total es
+total-take zero [] h = refl
+total-take zero (e ∷ []) h = omega arith
+total-take zero (e ∷ f ∷ es) h = absurd (omega arith)
+total-take (suc n) [] h = refl
+total-take (suc n) (e ∷ es) h = let later = total-take n es (omega arith) in omega arith
+
+pub total-last : (es : List (ℕ × EntryView)) → total (take (length es - 1) es) + size (last_entry es) ≡ total es
+total-last es = total-take (length es - 1) es (omega arith)
+
+module _ (test : ℕ → Bool) where
+  pub total-remove_entry : (es : List (ℕ × EntryView)) → total (remove_entry test es) + size (lookup_entry test es) ≡ total es
+  total-remove_entry [] = refl
+  total-remove_entry (e ∷ es) = by (test e.0) (total-remove_entry es)
+    where
+      by : (b : Bool) → total (remove_entry test es) + size (lookup_entry test es) ≡ total es → total (cond b es (e ∷ remove_entry test es)) + size (cond b (Some e) (lookup_entry test es)) ≡ total (e ∷ es)
+      by true later = omega arith
+      by false later = omega arith
+
+  pub total-promoted : (es : List (ℕ × EntryView)) → total (promoted test es) ≡ total es
+  total-promoted es = by (lookup_entry test es) (total-remove_entry es)
+    where
+      by : (o : Option (ℕ × EntryView)) → total (remove_entry test es) + size o ≡ total es → total (option_map_or (λ e. e ∷ remove_entry test es) o es) ≡ total es
+      by None h = refl
+      by (Some e) h = omega arith
+
+  pub lookup-by_entry : (es : List (ℕ × EntryView)) → lookup test es ≡ option_map (λ e. e.1) (lookup_entry test es)
+  lookup-by_entry [] = refl
+  lookup-by_entry (e ∷ es) = by (test e.0) (lookup-by_entry es)
+    where
+      by : (b : Bool) → lookup test es ≡ option_map (λ e. e.1) (lookup_entry test es) → cond b (Some e.1) (lookup test es) ≡ option_map (λ e. e.1) (cond b (Some e) (lookup_entry test es))
+      by true later = refl
+      by false later = later
+
+  -- the first entry that passes is still the first one
+  pub lookup-promoted : (es : List (ℕ × EntryView)) → lookup test (promoted test es) ≡ lookup test es
+  lookup-promoted es = by (lookup_entry test es) refl
+    where
+      by : (o : Option (ℕ × EntryView)) → lookup_entry test es ≡ o → lookup test (option_map_or (λ e. e ∷ remove_entry test es) o es) ≡ lookup test es
+      by None h = refl
+      by (Some e) h = rw ((Contains-lookup_entry test es e h).1, lookup-by_entry es, h) refl
+
+module _ (eq : ℕ → ℕ → Bool) (c : LruCache ℕ EntryView) (k : ℕ) (v : EntryView) where
+  -- what `push` adds and gives back
+  pub total-put : length c.entries ≤ c.cap → 0 < c.cap → total (put_entries eq c k v) + size (displaced eq c k v) ≡ total c.entries + length v.text
+  total-put few some = by (lookup_entry (eq k) c.entries) (lookup (eq k) c.entries) (lookup-by_entry (eq k) c.entries) (total-remove_entry (eq k) c.entries)
+    where
+      by : (o : Option (ℕ × EntryView)) (p : Option EntryView) → p ≡ option_map (λ e. e.1) o → total (remove_entry (eq k) c.entries) + size o ≡ total c.entries
+          → total (option_map_or (λ e. (e.0, v) ∷ remove_entry (eq k) c.entries) o ((k, v) ∷ take (c.cap - 1) c.entries))
+          + size (option_map_or (λ old. Some (k, old)) p (slice_get c.entries (c.cap - 1))) ≡ total c.entries + length v.text
+      by None p e h = rw e (let all = total-take (c.cap - 1) c.entries (omega arith) in omega arith)
+      by (Some f) p e h = rw e (omega arith)

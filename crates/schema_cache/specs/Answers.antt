@@ -1,0 +1,19 @@
+-- What a memory answers.
+use Rattle.std.specs.Prelude.{◌≡◌, ℕ, List, Option, Some, None}
+use Rattle.avro_nodes.specs.Nodes.{nodes_view}
+use Rattle.avro_nodes.specs.declared.node.Node.{Node}
+use Rattle.avro_schema.specs.DenotedNodes.{denoted_nodes}
+use Rattle.schema_cache.specs.declared.cache_lookup.CacheLookup.{CacheLookup}
+use Rattle.schema_cache.specs.declared.cache_lookup.CacheLookup.TheVariants as found
+use Rattle.schema_cache.specs.Entries.{EntryView}
+
+-- the schema's nodes
+abbrev pub found_schema : CacheLookup → List Node
+found_schema (found.Cached schema) = schema.now
+found_schema (found.Uncached schema) = schema
+
+-- The schema that was read, or else the entry that is remembered, is of the text.
+abbrev pub IsSchemaOf : List ℕ → Option (List Node) → Option EntryView → Type 0
+IsSchemaOf text (Some schema) entry = denoted_nodes text ≡ Some (nodes_view schema)
+IsSchemaOf text None (Some entry) = entry.text ≡ text
+IsSchemaOf text None None = ⊥

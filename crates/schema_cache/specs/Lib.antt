@@ -1,0 +1,4 @@
+pub mod Entries
+pub mod Cached
+pub mod Inside
+pub mod Answers

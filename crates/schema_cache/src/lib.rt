@@ -1,0 +1,11 @@
+//! A memory of schemas that were read.
+
+#![tactic(auto)]
+
+mod cache;
+mod cache_lookup;
+mod entry;
+mod lru_entries;
+
+pub use cache::{EvictionPolicy, SchemaCache};
+pub use cache_lookup::CacheLookup;

@@ -1,0 +1,135 @@
+//! The entries that are remembered, the most recently used first.
+
+ghost use Rattle.std.specs.Prelude.{◌≡◌, ◌+◌, ◌-◌, ◌≤◌, ◌<◌, [], IfOk, IfErr, OnOk, length, take, option_copied, nat_eq};
+ghost use Rattle.std.specs.Map.{lookup};
+ghost use Rattle.lru.specs.LruCache.{promoted};
+ghost use Rattle.schema_cache.specs.Entries.{size, total, max_total, max_entries};
+
+use crate::entry::Entry;
+use lru::LruCache;
+use std::alloc::{AllocError, Global};
+use std::marker::Model;
+use std::num::NonZeroUsize;
+
+/// The most bytes of texts in all: 384 KiB. What was read of texts full of small objects takes some
+/// 130 times their bytes, so 50 MB at most.
+pub const MAX_TOTAL: usize = 393216;
+
+/// The most entries.
+pub const MAX_ENTRIES: usize = 256;
+
+/// The entries by their ids, the most recently used first.
+#[derive(Drop)]
+pub struct LruEntries {
+    cache: LruCache<u32, Entry>,
+    bytes: usize,
+}
+
+impl Model for LruEntries {
+    ghost use Rattle.std.specs.Prelude.{ℕ, List};
+    ghost use Rattle.std.specs.Coded.{coded_list, coded×, coded_ℕ};
+    ghost use Rattle.schema_cache.specs.Entries.{EntryView, entry_code};
+
+    ghost Value = { List (ℕ × EntryView) };
+
+    ghost coded = { coded_list (coded× coded_ℕ entry_code) };
+
+    ghost use Rattle.schema_cache.specs.Inside.ByteCounts.{IsCounted};
+
+    ghost view = { λ s. s.cache.entries };
+
+    ghost invariant = { λ s. IsCounted s.cache s.bytes };
+}
+
+/// Drops the entry, if there is one, and tells the bytes of its text.
+fn freed_bytes(gone: Option<(u32, Entry)>) -> usize
+    ensures { result ≡ size gone }
+{
+    match gone {
+        Some((_, entry)) => entry.text().len(),
+        None => 0,
+    }
+}
+
+impl LruEntries {
+    /// No entries.
+    pub fn new(alloc: Global) -> Result<LruEntries, AllocError>
+        ensures { IfOk result (λ lru_entries. lru_entries ≡ []) }
+    {
+        let cache = LruCache::new(alloc, NonZeroUsize::MIN.saturating_add(255))?;
+        Ok(LruEntries { cache, bytes: 0 })
+    }
+
+    /// The number of entries, and the bytes of their texts.
+    pub fn sizes(&self) -> (usize, usize)
+        ensures entries { result.0 ≡ length self.now }
+        ensures bytes { result.1 ≡ total self.now }
+        ensures few { result.0 ≤ max_entries }
+        ensures small { result.1 ≤ max_total }
+    {
+        (self.cache.len(), self.bytes)
+    }
+
+    /// The entry of the id.
+    pub fn get(&self, id: u32) -> Option<&Entry>
+        ensures { option_copied result ≡ lookup (nat_eq id) self.now }
+    {
+        self.cache.peek(&id)
+    }
+
+    /// Makes the entry of the id the most recently used.
+    pub fn promote(&mut self, id: u32)
+        ensures { self.new ≡ promoted (nat_eq id) self.old }
+    {
+        self.cache.promote(&id);
+    }
+
+    /// Removes the entry of the id.
+    pub fn remove(&mut self, id: u32) -> Option<Entry>
+        ensures { result ≡ lookup (nat_eq id) self.old }
+    {
+        let (_, entry) = self.cache.pop_entry(&id)?;
+        self.bytes -= entry.text().len();
+        Some(entry)
+    }
+
+    /// Whether another entry, with a text of so many bytes, has room beside those that are there.
+    pub fn has_room(&self, more: usize) -> bool {
+        self.cache.len() < MAX_ENTRIES && self.bytes.saturating_add(more) <= MAX_TOTAL
+    }
+
+    /// Drops the least recently used entry.
+    fn evict(&mut self)
+        ensures { self.new ≡ take (length self.old - 1) self.old }
+    {
+        let gone = self.cache.pop_lru();
+        self.bytes -= freed_bytes(gone);
+    }
+
+    /// Drops the least recently used entries until so many bytes have room.
+    fn make_room(&mut self, more: usize)
+        requires { more ≤ max_total }
+        ensures total { total self.new + more ≤ max_total }
+        ensures few { length self.new < max_entries }
+    {
+        while self.cache.len() >= MAX_ENTRIES || self.bytes > MAX_TOTAL - more {
+            self.evict();
+        }
+    }
+
+    /// Adds the entry as the one of the id. Where memory is refused it comes back.
+    pub fn add(&mut self, id: u32, entry: Entry) -> Result<(), Entry>
+        ensures ok { OnOk result (lookup (nat_eq id) self.new ≡ Some entry) }
+        ensures err { IfErr result (λ back. back ≡ entry) }
+    {
+        let more = entry.text().len();
+        self.make_room(more);
+        match self.cache.push(id, entry) {
+            Ok(gone) => {
+                self.bytes = self.bytes + more - freed_bytes(gone);
+                Ok(())
+            }
+            Err(failed) => Err(failed.value.1),
+        }
+    }
+}

@@ -1,4 +1,0 @@
-pub mod Entries
-pub mod Remembered
-pub mod Inside
-pub mod Answers
