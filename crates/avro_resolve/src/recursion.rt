@@ -12,7 +12,7 @@ ghost use Rattle.avro_resolve.specs.Witnesses.{member, without};
 
 use crate::AllocResult;
 use crate::agreeing::agree;
-use crate::meter::WorkMeter;
+use crate::work_meter::WorkMeter;
 use crate::pair_set::PairSet;
 use crate::sides::Sides;
 use avro_nodes::{Field, Node};

@@ -8,7 +8,7 @@ ghost use Rattle.avro_resolve.specs.Verdicts.{is_resolved};
 ghost use Rattle.avro_resolve.specs.Witnesses.{HasClosedSet, HasRefutation, Pair};
 
 use crate::elimination::largest_closed;
-use crate::meter::WorkMeter;
+use crate::work_meter::WorkMeter;
 use crate::pair_set::PairSet;
 use crate::recursion::{Answer, Walk, ask};
 use crate::sides::Sides;
