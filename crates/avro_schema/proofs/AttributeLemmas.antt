@@ -1,4 +1,4 @@
--- Attributes taken out of a table, beside the members that it stands for.
+-- Attributes that are removed from a map, compared with the members in the map's view.
 use Rattle.std.proofs.Common.{◌≡◌, ℕ, List, [], ◌∷◌, ◌++◌, Bool, true, false, cond, Option, Some, None, option_map, option_and_then, String, Global, string_bytes, nat_cmp, bytes_eq, refl, sym, ap, append_assoc, append-nil, length, arith}
 use Rattle.std.proofs.lemmas.Map.Text.{is_eq-slice_cmp}
 use Rattle.std.specs.BTreeMap.{is_at}
@@ -16,7 +16,7 @@ use Rattle.avro_schema.proofs.DistinctLemmas.{any-map}
 abbrev Entry : Type 0
 Entry = String Global × Value
 
--- the look-up by a key's bytes
+-- the lookup by a key's bytes
 abbrev pub is_key : List ℕ → String Global → Bool
 is_key key = is_at (λ k. slice_cmp nat_cmp key (string_bytes k))
 
@@ -26,7 +26,7 @@ none_there_at : (same : Bool) (key : List ℕ) (e : Entry) (es : List Entry) →
 none_there_at true key e es is none later = absurd cc
 none_there_at false key e es is none later = ap (λ (ms : Members). member (string_bytes e.0) (view e.1) ms) (later none)
 
--- a key that is not there is not missed
+-- removing a missing key changes nothing
 none_there : (key : List ℕ) (es : List Entry) → lookup (is_key key) es ≡ None → without key (members_view es) ≡ members_view es
 none_there key [] none = refl
 none_there key (e ∷ es) none =
@@ -40,7 +40,7 @@ removed_at false key e es is none later =
     let gone : lookup (is_key key) (remove_entry (is_key key) es) ≡ None = rw (is_eq-slice_cmp key (string_bytes e.0), is) at none in
     ap (λ (ms : Members). member (string_bytes e.0) (view e.1) ms) (later gone)
 
--- what is left once a key, which stands there once at most, was removed
+-- the entries after a key that occurs at most once is removed
 pub removed_is : (key : List ℕ) (es : List Entry) → lookup (is_key key) (remove_entry (is_key key) es) ≡ None → members_view (remove_entry (is_key key) es) ≡ without key (members_view es)
 removed_is key [] none = refl
 removed_is key (e ∷ es) none =

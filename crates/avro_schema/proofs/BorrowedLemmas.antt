@@ -1,4 +1,4 @@
--- A borrowed value, level by level, and values made of it.
+-- Borrowed values, level by level, and the owned values made from them.
 use Rattle.std.proofs.Common.{◌≡◌, ℕ, suc, ◌+◌, ◌<◌, ◌≤◌, List, [], ◌∷◌, ◌++◌, map, Bool, Option, Some, None, Vec, Bor, Global, refl, sym, ap, ◌∙◌, arith, rules}
 use Rattle.json.specs.Token.{Token}
 use Rattle.json.specs.Json.{parse_map}
@@ -31,9 +31,9 @@ of_Array v = search (rules, the_lemmas)
 pub of_Object : (o : Attributes (Bor (List ℕ) × Json)) → value_data (Object o) ≡ object (members_data o)
 of_Object o = search (rules, the_lemmas)
 
--- ---- values of their own
+-- ---- owned values
 
--- these, and then more
+-- these items, followed by more
 abbrev pub items_on : Items → Items → Items
 items_on no_items more = more
 items_on (item d ds) more = item d (items_on ds more)
@@ -49,7 +49,7 @@ pub items_end : (vs : List Value) → items_on (items_view vs) no_items ≡ item
 items_end [] = refl
 items_end (v ∷ vs) = ap (item (view v)) (items_end vs)
 
--- ---- how much there is of a value
+-- ---- the size of a value
 
 abbrev pub sum_of : List ℕ → ℕ
 sum_of [] = 0
@@ -88,7 +88,7 @@ next_item rest v vs n is h = let same = ap items_size is in (omega arith, omega 
 pub next_member : (rest : List (Bor (List ℕ) × Json)) (m : Bor (List ℕ) × Json) (ms : List (Bor (List ℕ) × Json)) (n : ℕ) → rest ≡ m ∷ ms → members_size rest ≤ n → (size m.1 < n) × (members_size ms ≤ n)
 next_member rest m ms n is h = let same = ap members_size is in (omega arith, omega arith)
 
--- ---- what was read, before what is read next
+-- ---- the members read so far, followed by the next
 
 abbrev pub items_before : List Json → Items → Items
 items_before [] rest = rest

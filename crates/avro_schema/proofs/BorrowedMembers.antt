@@ -1,4 +1,4 @@
--- The members of a borrowed object by name: the last one of a name counts, and all of it are taken out.
+-- The members of a borrowed object by name: the last member of a name counts, and removing the name removes all of them.
 use Rattle.std.proofs.Common.{◌≡◌, ℕ, zero, suc, List, [], ◌∷◌, ◌++◌, map, Bool, true, false, not, cond, Option, Some, None, Bor, bytes_eq, ◌||◌, true≢false, refl, sym, ap, subst, ◌∙◌}
 use Rattle.std.specs.Prelude.{slice_get, IsTrue}
 use Rattle.std.specs.List.{remove, filter, list_any}
@@ -25,11 +25,11 @@ Entry = Bor (List ℕ) × Json
 abbrev pub Read : Type 0
 Read = Bor (List ℕ) × Data
 
--- a member as it is read
+-- a member as data
 abbrev pub read_of : List Entry → List Read
 read_of xs = map (λ (m : Entry). (m.0, value_data m.1)) xs
 
--- with one member more
+-- the members with one more
 abbrev pub with_one : Read → Members → Members
 with_one m found = cond (is_reserved m.0.now) (put m.0.now m.1 found) found
 
@@ -37,9 +37,9 @@ pub key_reserved : (c : Container) → IsTrue (is_reserved_name (member_name c))
 key_reserved of_items = refl
 key_reserved of_values = refl
 
--- ---- what is found
+-- ---- lookup
 
--- where a test finds nothing, leaving out what it finds leaves all
+-- if no item passes a test, removing those that pass changes nothing
 pub all_kept : {X : Type 0} (p : X → Bool) (xs : List X) → list_any p xs ≡ false → filter (λ x. not (p x)) xs ≡ xs
 all_kept p [] none = refl
 all_kept {X} p (x ∷ xs) none = split (p x) refl (λ e. all_kept p xs e) where
@@ -47,7 +47,7 @@ all_kept {X} p (x ∷ xs) none = split (p x) refl (λ e. all_kept p xs e) where
   split true h rest = absurd (true≢false (sym (ap (λ b. b || list_any p xs) h) ∙ none))
   split false h rest = rw h (ap (λ (ys : List X). x ∷ ys) (rest (sym (ap (λ b. b || list_any p xs) h) ∙ none)))
 
--- this, or what was there before
+-- the first value, or else the second
 abbrev pub later : Option Data → Option Data → Option Data
 later None before = before
 later (Some d) before = Some d
@@ -94,7 +94,7 @@ last_push k [] m = refl
 last_push k (n ∷ ms) m =
     ap (λ (o : Option Data). later o (cond (bytes_eq n.0.now k) (Some (value_data n.1)) None)) (last_push k ms m) ∙ latest (bytes_eq m.0.now k) (value_data m.1) _ _
 
--- ---- what is left
+-- ---- removal
 
 ordered_one : (c : Bool) (l : List ℕ) (d : Data) (found : Members) → AreOrdered found → AreOrdered (cond c (put l d found) found)
 ordered_one true l d found o = ordered_put l d found o
@@ -104,7 +104,7 @@ pub ordered_all : (xs : List Entry) (found : Members) → AreOrdered found → A
 ordered_all [] found o = o
 ordered_all (m ∷ xs) found o = ordered_all xs (with_one (m.0, value_data m.1) found) (ordered_one (is_reserved m.0.now) m.0.now (value_data m.1) found o)
 
--- the entries of other names
+-- the entries with other names
 abbrev pub others : List ℕ → List Entry → List Entry
 others k xs = filter (λ (m : Entry). not (bytes_eq m.0.now k)) xs
 
@@ -135,14 +135,14 @@ removed_kept test (y ∷ ys) zero x at out =
     rw (same, out) refl
 removed_kept test (y ∷ ys) (suc i) x at out = ap (λ (zs : List Entry). cond (test y) (y ∷ zs) zs) (removed_kept test ys i x at out)
 
--- without one entry of the name, and then without all of it
+-- removing one entry of the name first, then all of them
 pub taken_out : (k : List ℕ) (xs : List Entry) (i : ℕ) (x : Entry) (found : Members) → slice_get xs i ≡ Some x → x.0.now ≡ k → get_member k found ≡ None → AreOrdered found
     → put_all (read_of (others k (remove xs i))) found ≡ without k (put_all (read_of xs) found)
 taken_out k xs i x found at is none o =
     ap (λ (ys : List Entry). put_all (read_of ys) found) (removed_kept (λ (m : Entry). not (bytes_eq m.0.now k)) xs i x at (rw ((bytes_eq-Decides x.0.now k).1 is) refl))
     ∙ ap (put_all (read_of (others k xs))) (sym (nothing_there k found none)) ∙ left k xs found o
 
--- ---- what is added
+-- ---- insertion
 
 pub pushed : (ms : List Entry) (m : Entry) (found : Members) → put_all (read_of (ms ++ m ∷ [])) found ≡ with_one (m.0, value_data m.1) (put_all (read_of ms) found)
 pushed [] m found = refl

@@ -1,4 +1,4 @@
--- What is read of a text whose numbers were respelt, as a borrowed value.
+-- The borrowed value that is read from a text whose numbers are rewritten.
 use Rattle.std.proofs.Common.{◌≡◌, ℕ, ◌≤◌, List, [], ◌∷◌, length, true, false, Option, Some, None, option_and_then, refl, sym, subst, true≢false}
 use Rattle.std.specs.Prelude.{nat_le, is_some, MatchOption}
 use Rattle.std.proofs.lemmas.Bool.{le-leb}
@@ -78,7 +78,7 @@ pub something_more : {T : Type 0} (f : T → Token) (o : Option T) (old new : Li
 something_more f None old new h e = absurd (true≢false (sym e))
 something_more f (Some t) old new h e = (f t, h)
 
--- ---- a refusal
+-- ---- errors
 
 pub json_refused : {A : Type 0} (e : JsonError) (x : SchemaError) (o : Option A) → (e ≡ no_memory → x ≡ OutOfMemory) → (e ≡ Invalid → x ≡ NotJson) → (e ≡ Invalid → o ≡ None) → Fails x o
 json_refused no_memory x o memory other none = subst (λ (y : SchemaError). Fails y o) (sym (memory refl)) tt

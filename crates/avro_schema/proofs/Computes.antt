@@ -1,4 +1,4 @@
--- The reading by computation gives what the rules say.
+-- The computed reader gives what the rules of `Denotes` say.
 use Rattle.std.proofs.Common.{◌≡◌, ℕ, ◌<◌, ◌≤◌, List, [], ◌∷◌, map, Option, Some, None, codes, refl, arith}
 use Rattle.avro_nodes.specs.Limits.{max_nesting, max_places}
 use Rattle.avro_schema.proofs.ReaderCases.{made}

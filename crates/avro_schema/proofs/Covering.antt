@@ -1,4 +1,4 @@
--- That it is enough to look at the fields that a table says.
+-- It suffices to check the fields that the table selects.
 use Rattle.std.proofs.Common.{◌≡◌, ◌⊎◌, inl, inr, ℕ, zero, suc, ◌<◌, ◌≤◌, ◌+◌, ◌≢◌, List, [], ◌∷◌, length, map, get_or, Bool, true, false, ◌&&◌, ◌||◌, ◌++◌, Option, Some, None, Ordering, Less, Equal, Greater, nat_cmp, bytes_eq, refl, sym, ap, subst, ◌∙◌, true≢false, arith}
 use Rattle.std.proofs.lemmas.Bool.{and_parts, and_from, or_right, eqb-true, eq-eqb}
 use Rattle.std.specs.Prelude.{◌==◌, IfSome, option_map, is_some, slice_get}
@@ -63,7 +63,7 @@ module _ (one : Fitting) (ms : Members) where
   abbrev fits_here : FieldView → Bool
   fits_here f = field_fits_by one f (get_member f.name ms)
 
-  -- ---- where all fields fit
+  -- ---- all fields fit
 
   each_fits : (fields : List FieldView) → fields_fit one ms fields ≡ true → (i : ℕ) → fits_if_any one ms (slice_get fields i) ≡ true
   each_fits [] h i = refl
@@ -78,13 +78,13 @@ module _ (one : Fitting) (ms : Members) where
   named_all fields t h no_members = refl
   named_all fields t h (member k d more) = and_from (index_fits one ms fields (named_in t k)) (named_fit one ms fields t more) (index_fits_all fields h (named_in t k)) (named_all fields t h more)
 
-  -- ---- where those fit that the table says
+  -- ---- the selected fields fit
 
   all_fit : (fields : List FieldView) → ((i : ℕ) (f : FieldView) → slice_get fields i ≡ Some f → fits_here f ≡ true) → fields_fit one ms fields ≡ true
   all_fit [] each = refl
   all_fit (f ∷ fields) each = and_from (fits_here f) (fields_fit one ms fields) (each zero f refl) (all_fit fields (λ i g e. each (suc i) g e))
 
-  -- a member that is found is one of those that are looked at
+  -- a field that the table finds for a member is one of those that are checked
   found_at : (fields : List FieldView) (t : FieldTable) (k l : List ℕ) (o : Ordering) (d e : Data) (more : Members) → slice_cmp nat_cmp k l ≡ o → match_ordering o (get_member k more) (Some e) (get_member k more) ≡ Some d
       → index_fits one ms fields (named_in t l) ≡ true → (get_member k more ≡ Some d → index_fits one ms fields (named_in t k) ≡ true) → index_fits one ms fields (named_in t k) ≡ true
   found_at fields t k l Less d e more is found here later = later found
@@ -150,7 +150,7 @@ pub no_tables : (nodes : List NodeView) → AreFieldTables nodes []
 unfolding AreFieldTables
 no_tables nodes place t node e f = absurd cc
 
--- ---- how a table is made
+-- ---- construction of a table
 
 pub covers_none : (named : List ℕ → Option ℕ) (fields : List FieldView) → CoversFirst 0 [] named fields
 unfolding CoversFirst
@@ -181,7 +181,7 @@ module _ (n : ℕ) (required : List ℕ) (named : List ℕ → Option ℕ) (fiel
   pushed_at true i f is h e = inl (subst (λ (k : ℕ). is_required (required ++ n ∷ []) k ≡ true) (sym (eqb-true i n is)) (always_last required n))
   pushed_at false i f is h e = still_found required named i n f (so_far i f (omega (arith, other_index n i is)) e)
 
-  -- one that is always asked for
+  -- a field that is required
   pub covers_pushed : CoversFirst (n + 1) (required ++ n ∷ []) named fields
   unfolding CoversFirst
   covers_pushed i f h e = pushed_at (i == n) i f refl h e
@@ -198,7 +198,7 @@ module _ (n : ℕ) (required : List ℕ) (named : List ℕ → Option ℕ) (fiel
         )
     named_at false i f is h e = named_still required named named2 i n f g (bytes_eq g.name f.name) refl new (more f.name) (so_far i f (omega (arith, other_index n i is)) e)
 
-    -- one with a default, whose name is new
+    -- a field with a default and a new name
     pub covers_named : CoversFirst (n + 1) required named2 fields
     unfolding CoversFirst
     covers_named i f h e = named_at (i == n) i f refl h e

@@ -1,4 +1,4 @@
--- That none of a list stands twice, as the list in order tells it.
+-- Whether a list is free of duplicates can be read off the sorted list.
 use Rattle.std.proofs.Common.{◌≡◌, ℕ, ◌+◌, ◌<◌, List, [], ◌∷◌, length, map, get_or, Bool, true, false, not, cond, ◌||◌, nat_cmp, is_eq, is_lt, bytes_eq, string_bytes, refl, sym, ap, ◌∙◌, arith}
 use Rattle.std.proofs.Math.Path.{fun_ext}
 use Rattle.std.proofs.lemmas.Bool.{false≢true, and_parts}
@@ -20,10 +20,10 @@ use Rattle.avro_nodes.specs.declared.node.Field.{Field}
 use Rattle.avro_nodes.specs.Nodes.{field_view}
 use Rattle.avro_schema.specs.Inside.Distinct.{all_new, all_differ, text_hash}
 
--- ---- one by one, and each pair
+-- ---- one element at a time, and each pair
 
 module _ {X : Type 0} (same : X → X → Bool) where
-  -- neither seen before nor the same as x
+  -- neither seen before nor equal to x
   seen_more : (seen : X → Bool) (x : X) (xs : List X) → AllByRecursion (λ y. same x y ≡ false) xs → AllByRecursion (λ y. seen y ≡ false) xs → AllByRecursion (λ y. cond (same x y) true (seen y) ≡ false) xs
   seen_more seen x [] apart new = tt
   seen_more seen x (y ∷ ys) apart new = (rw (apart.0) (new.0), seen_more seen x ys apart.1 new.1)
@@ -67,9 +67,9 @@ module _ {X : Type 0} (same : X → X → Bool) where
   distinct_if_differ : (xs : List X) → all_differ same xs ≡ true → IsDistinct same xs
   distinct_if_differ xs e = (distinct_if_new (λ _. false) xs e).0
 
--- ---- in order
+-- ---- sorted lists
 
--- neither is below the other
+-- if neither of two items is less, they compare equal
 level : (a b : Ordering) → a ≡ ordering_reverse b → is_lt a ≡ false → is_lt b ≡ false → is_eq a ≡ true
 level a Less e f g = absurd (false≢true (sym g))
 level a Equal e f g = rw e refl
@@ -80,7 +80,7 @@ is_less Less e = refl
 is_less Equal e = absurd (false≢true (sym e))
 is_less Greater e = absurd (false≢true (sym e))
 
--- items by f, in the order R, in which only the same are level
+-- items compared by f in the order R, in which only equal ones compare equal
 module _ {A K : Type 0} (R : K → K → Ordering) (o : IsTotalOrder R) (same : K → K → Bool) (level_is : eq_by_cmp R ≡ same) (f : A → K) (d : A) where
   at_place : (ys : List A) (k : ℕ) → k < length ys → get_or (map f ys) k (f d) ≡ f (get_or ys k d)
   at_place ys k h = get_or-map f ys k d (f d) h
@@ -115,12 +115,12 @@ module _ {A K : Type 0} (R : K → K → Ordering) (o : IsTotalOrder R) (same : 
   no_differ xs true e refuted = absurd (refuted (rw level_is (distinct_if_differ same (map f xs) e)))
   no_differ xs false e refuted = refl
 
-  -- what the list in order says of its neighbours
+  -- comparing the neighbours in the sorted list decides whether the list is distinct
   pub rise_differ : (xs ys : List A) (b : Bool) → IsPermutation xs ys → IsSorted (λ x y. R (f x) (f y)) ys → IsAllAdjacentAnswer (λ x y r. r ≡ is_lt (R (f x) (f y))) ys b → b ≡ all_differ same (map f xs)
   rise_differ xs ys true moved sorted rise = sym (differ_if_distinct same (map f xs) (rw level_is at (sorted_distinct xs ys moved rise)))
   rise_differ xs ys false moved sorted falls = no_differ xs (all_differ same (map f xs)) refl (λ distinct. twice xs ys falls.0 moved sorted falls.1 (falls.2 d) distinct)
 
--- texts whose hashes differ are different
+-- texts with different hashes are different
 self_equal : (n : ℕ) → (n == n) ≡ true
 self_equal n = grind (arith, nat_tests)
 
@@ -153,7 +153,7 @@ is_eq-nat_cmp x y = grind (arith, nat_tests)
 pub numbers_level : eq_by_cmp nat_cmp ≡ (λ a b. a == b)
 numbers_level = fun_ext (λ x. fun_ext (λ y. is_eq-nat_cmp x y))
 
--- some of what f shows passes where some item's does
+-- p accepts an element of the mapped list exactly if it accepts f of an item
 pub any-map : {A B : Type 0} (p : B → Bool) (f : A → B) (xs : List A) → list_any p (map f xs) ≡ list_any (λ x. p (f x)) xs
 any-map p f [] = refl
 any-map p f (x ∷ xs) = ap (λ b. p (f x) || b) (any-map p f xs)

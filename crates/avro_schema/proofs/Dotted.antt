@@ -1,11 +1,11 @@
--- Simple names joined by dots, byte by byte.
+-- Simple names separated by dots, one byte at a time.
 use Rattle.std.proofs.Common.{◌≡◌, ℕ, List, [], ◌∷◌, Bool, true, false, not, cond, ◌&&◌, ◌||◌, refl, sym, ap, ◌∙◌, true≢false, inl, inr}
 use Rattle.std.specs.List.{list_all, list_any, slice_split, onto_first}
 use Rattle.std.proofs.lemmas.Bool.Decides.{eqb_tells}
 use Rattle.avro_nodes.specs.Names.{is_dot, has_dot}
 use Rattle.avro_schema.specs.Names.{is_name_start, is_name_part, is_simple, is_name_sequence}
 
--- the rest of simple names joined by dots; the first: whether a simple name begins here
+-- the remaining bytes of simple names separated by dots; `true` if a simple name begins here
 unfoldable pub is_rest : Bool → List ℕ → Bool
 is_rest fresh [] = not fresh
 is_rest true (c ∷ cs) = is_name_start c && is_rest false cs
@@ -25,7 +25,7 @@ and_false : (a : Bool) → (a && false) ≡ false
 and_false true = refl
 and_false false = refl
 
--- ---- parts at the dots, of which the first may be the rest of a name
+-- ---- parts between dots; the first may be the end of a name
 
 are_name_parts : Bool → List (List ℕ) → Bool
 are_name_parts true ps = list_all is_simple ps
@@ -61,7 +61,7 @@ rest_is false [] = refl
 rest_is true (c ∷ cs) = begun (is_dot c) c cs refl (rest_is false cs)
 rest_is false (c ∷ cs) = gone_on (is_dot c) c cs (λ fresh. rest_is fresh cs)
 
--- byte by byte
+-- one byte at a time
 pub dotted_is : (text : List ℕ) → is_name_sequence text ≡ is_rest true text
 unfolding is_name_sequence are_name_parts
 dotted_is text = sym (rest_is true text)

@@ -1,4 +1,4 @@
--- A full name is the name behind its last dot, in the namespace before that.
+-- A full name is its namespace, its last dot, and the simple name after it.
 use Rattle.std.proofs.Common.{◌≡◌, ℕ, suc, ◌-◌, ◌≤◌, List, [], ◌∷◌, ◌++◌, length, drop, reverse, Bool, true, false, not, cond, ◌||◌, refl, sym, ap, ◌∙◌, true≢false, inl, inr, arith}
 use Rattle.std.specs.List.{list_any, prefix_len, suffix_len}
 use Rattle.std.proofs.lemmas.Bool.{or_parts, or_right}
@@ -15,7 +15,7 @@ use Rattle.avro_schema.proofs.RoundNames.{no_namespace}
 abbrev is_no_dot : ℕ → Bool
 is_no_dot c = not (is_dot c)
 
--- ---- the name behind the last dot
+-- ---- the name after the last dot
 
 any_reverse : (cs : List ℕ) → list_any is_dot (reverse cs) ≡ list_any is_dot cs
 any_reverse cs = sym (list_any-IsPermutation is_dot cs (reverse cs) (IsPermutation-reverse cs))
@@ -81,11 +81,11 @@ whole_by [] full any e is = refl
 whole_by (c ∷ space) full true e is = ap (λ (s : List ℕ). s ++ 46 ∷ last_part full) (sym e) ∙ sym (splits full is)
 whole_by (c ∷ space) full false e is = let none : c ∷ space ≡ [] = sym e ∙ no_namespace full is in absurd cc
 
--- the name without its namespace, put back into it
+-- adding the namespace to the name without it gives the full name
 pub whole : (full : List ℕ) → qualified (namespace_of full) (without_namespace (namespace_of full) full) ≡ full
 whole full = whole_by (namespace_of full) full (list_any is_dot full) refl refl
 
--- a full name is told by its namespace and by its name without it
+-- the namespace and the name without it determine the full name
 pub same_full : (a b : List ℕ) → namespace_of a ≡ namespace_of b → without_namespace (namespace_of a) a ≡ without_namespace (namespace_of b) b → a ≡ b
 same_full a b spaces names = sym (whole a) ∙ ap (λ (s : List ℕ). qualified s (without_namespace (namespace_of a) a)) spaces ∙ ap (qualified (namespace_of b)) names ∙ whole b
 
@@ -99,7 +99,7 @@ unfolding namespace_of
 cut_back [] name plain = rw plain refl
 cut_back (c ∷ cs) name plain = rw (dot_between cs name, cut_back cs name plain) refl
 
--- its namespace is the one that it was put in
+-- its namespace is the given one
 pub joined_space : (space name : List ℕ) → has_dot name ≡ false → namespace_of (qualified space name) ≡ space
 unfolding qualified has_dot
 joined_space [] name plain = no_namespace name plain
@@ -110,7 +110,7 @@ unfolding qualified
 same_name [] a b e = e
 same_name (c ∷ space) a b e = let tails : 46 ∷ a ≡ 46 ∷ b = append_cancel_left (c ∷ space) (46 ∷ a) (46 ∷ b) e in cc
 
--- and without it, it is the name
+-- without its namespace it is the given name
 pub joined_name : (space name : List ℕ) → has_dot name ≡ false → without_namespace (namespace_of (qualified space name)) (qualified space name) ≡ name
 joined_name space name plain =
     let full = qualified space name in

@@ -1,4 +1,4 @@
--- Names known and ranked, list by list.
+-- Names that are in the index, and their ranks, for each list.
 use Rattle.std.proofs.Common.{◌≡◌, ℕ, ◌+◌, ◌<◌, List, [], ◌∷◌, ◌++◌, length, map, get_or, take, drop, sym, ap, ◌∙◌, subst}
 use Rattle.std.specs.Prelude.{All}
 use Rattle.std.specs.List.{AllZip}
@@ -24,21 +24,21 @@ here : {X : Type 0} (xs : List X) (i : ℕ) (x : X) → i < length xs → x ≡ 
 here xs i x l e = drop_more xs i x l ∙ ap (λ y. y ∷ drop (i + 1) xs) (sym e)
 
 module _ (P : List ℕ → Type 0) where
-  -- the names of the field at an index, and of those behind it
+  -- the names of the field at an index and of all later fields
   pub fields_rest : (fields : List Field) (i : ℕ) (f : Field) → i < length fields → f ≡ get_or fields i f → All P (fields_texts (map field_view (drop i fields)))
       → All P (field_texts (field_view f)) × All P (fields_texts (map field_view (drop (i + 1) fields)))
   fields_rest fields i f l e all =
       let both = subst (λ (fs : List Field). All P (fields_texts (map field_view fs))) (here fields i f l e) all in
       (all_left P (field_texts (field_view f)) (fields_texts (map field_view (drop (i + 1) fields))) both, all_right P (field_texts (field_view f)) (fields_texts (map field_view (drop (i + 1) fields))) both)
 
-  -- the same of nodes
+  -- the same for nodes
   pub nodes_rest : (nodes : List Node) (i : ℕ) (a : Node) → i < length nodes → a ≡ get_or nodes i a → All P (nodes_texts (nodes_view (drop i nodes)))
       → All P (node_texts (node_view a)) × All P (nodes_texts (nodes_view (drop (i + 1) nodes)))
   nodes_rest nodes i a l e all =
       let both = subst (λ (ns : List Node). All P (nodes_texts (nodes_view ns))) (here nodes i a l e) all in
       (all_left P (node_texts (node_view a)) (nodes_texts (nodes_view (drop (i + 1) nodes))) both, all_right P (node_texts (node_view a)) (nodes_texts (nodes_view (drop (i + 1) nodes))) both)
 
--- one more of two lists side by side
+-- two lists of equal length, each extended by one
 pub zipped_more : {X A B : Type 0} (v : X → A) (R : A → B → Type 0) (xs : List X) (i : ℕ) (x : X) (ys : List B) (y : B) → i < length xs → x ≡ get_or xs i x
     → AllZip R (map v (take i xs)) ys → R (v x) y → AllZip R (map v (take (i + 1) xs)) (ys ++ y ∷ [])
 zipped_more {A = A} v R xs i x ys y l e so_far now =

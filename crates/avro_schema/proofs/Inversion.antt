@@ -1,4 +1,4 @@
--- Taking definitions apart.
+-- Inversion of definitions: what their results imply.
 use Rattle.std.proofs.Common.{◌≡◌, ◌≢◌, ℕ, ◌<◌, List, [], ◌∷◌, Bool, true, false, not, cond, ◌&&◌, Option, Some, None, option_map, bytes_eq, refl, sym, ap, ◌∙◌, true≢false, Ordering, Less, Equal, Greater, nat_cmp, is_eq, arith}
 use Rattle.std.specs.Prelude.{nat_lt, ◌==◌}
 use Rattle.std.proofs.lemmas.Bool.Decides.{nat_tests}
@@ -32,7 +32,7 @@ pub map_some : {A B : Type 0} (f : A → B) (o : Option A) (y : B) → option_ma
 map_some f None y e = absurd cc
 map_some f (Some x) y e = (x, refl, same_Some _ _ e)
 
--- ---- room
+-- ---- room for a node
 
 pub room_is : (first place : ℕ) → room_at first ≡ Some place → (first < max_places) × (first ≡ place)
 unfolding room_at
@@ -42,7 +42,7 @@ pub room_there : (first : ℕ) → first < max_places → room_at first ≡ Some
 unfolding room_at
 room_there first h = rw (lt-ltb first max_places h) refl
 
--- ---- an attribute is found beside others that were taken out
+-- ---- an attribute after others were removed
 
 skip_at : (o : Ordering) (a b : Option Data) → is_eq o ≡ false → match_ordering o a b a ≡ a
 skip_at Less a b e = refl
@@ -105,9 +105,9 @@ pub text_if_any_past : (q : List ℕ) (ks : List (List ℕ)) (ms : Members) → 
 unfolding text_if_any
 text_if_any_past q ks ms e = rw (get_past q ks ms e) refl
 
--- ---- none stands twice
+-- ---- distinct elements
 
--- none of the list was seen
+-- no element of the list was seen
 abbrev pub AllUnseen : {X : Type 0} → (X → Bool) → List X → Type 0
 AllUnseen seen [] = Unit {0}
 AllUnseen seen (x ∷ xs) = (seen x ≡ false) × AllUnseen seen xs
@@ -163,7 +163,7 @@ numbers_differ xs e = (new_says (λ a b. a == b) number_tells number_apart (λ _
 pub numbers_apart : (xs : List ℕ) → AllDiffer xs → all_differ (λ a b. a == b) xs ≡ true
 numbers_apart xs h = new_from (λ a b. a == b) number_tells number_apart (λ _. false) xs (none_seen (λ a b. a == b) number_tells number_apart xs) h
 
--- ---- steps one after the other
+-- ---- consecutive steps
 
 module _ {A B Y : Type 0} where
   pub bind2 : (a : Option A) (b : A → Option B) (f : A → B → Option Y) (y : Y) → (a >>= λ x. b x >>= λ z. f x z) ≡ Some y → (x : A) × (z : B) × (a ≡ Some x) × (b x ≡ Some z) × (f x z ≡ Some y)

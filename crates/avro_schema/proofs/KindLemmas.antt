@@ -1,4 +1,4 @@
--- Two branches have one kind where their kinds have one number.
+-- Two branches have the same kind exactly if their kinds have the same number.
 use Rattle.std.proofs.Common.{◌≡◌, ℕ, ◌<◌, List, [], ◌∷◌, get_or, map, Option, Some, None, refl, sym, ap, ◌∙◌, arith}
 use Rattle.std.specs.Prelude.{option_map}
 use Rattle.avro_nodes.specs.declared.node.Kind.{Kind}
@@ -8,7 +8,7 @@ use Rattle.avro_schema.specs.Kinds.{BranchKind, primitive_kind, array_kind, map_
 use Rattle.avro_schema.specs.Inside.KindNumbers.{primitive_number, kind_number, branch_number}
 use Rattle.avro_schema.specs.Denotes.{Lacks, AllDiffer}
 
--- ---- one number, one kind
+-- ---- the number determines the kind
 
 abbrev kinds : List Kind
 kinds = Null ∷ Boolean ∷ Int ∷ Long ∷ Float ∷ Double ∷ Bytes ∷ Text ∷ []
@@ -51,7 +51,7 @@ one_kind (named_kind p) array_kind e = absurd (omega (arith, e))
 one_kind (named_kind p) map_kind e = absurd (omega (arith, e))
 one_kind (named_kind p) (named_kind q) e = ap named_kind (omega (arith, e))
 
--- ---- branches with numbers in place of kinds
+-- ---- branches with numbers instead of kinds
 
 abbrev pub numbered : List (ℕ × BranchKind) → List (ℕ × ℕ)
 numbered bs = map (λ b. (b.0, kind_number b.1)) bs
@@ -64,7 +64,7 @@ kind_lacks : (bs : List (ℕ × BranchKind)) (kind : BranchKind) → Lacks (map 
 kind_lacks [] kind h = tt
 kind_lacks (b ∷ bs) kind h = (λ e. h.0 (ap kind_number e), kind_lacks bs kind h.1)
 
--- where the numbers differ, so do the kinds
+-- distinct numbers imply distinct kinds
 pub kinds_differ : (bs : List (ℕ × BranchKind)) → AllDiffer (map (λ b. b.1) (numbered bs)) → AllDiffer (map (λ b. b.1) bs)
 kinds_differ [] h = tt
 kinds_differ (b ∷ bs) h = (kind_lacks bs b.1 h.0, kinds_differ bs h.1)
@@ -73,7 +73,7 @@ number_lacks : (bs : List (ℕ × BranchKind)) (kind : BranchKind) → Lacks (ma
 number_lacks [] kind h = tt
 number_lacks (b ∷ bs) kind h = (λ e. h.0 (one_kind kind b.1 e), number_lacks bs kind h.1)
 
--- where the kinds differ, so do the numbers
+-- distinct kinds imply distinct numbers
 pub numbers_apart : (bs : List (ℕ × BranchKind)) → AllDiffer (map (λ b. b.1) bs) → AllDiffer (map (λ b. b.1) (numbered bs))
 numbers_apart [] h = tt
 numbers_apart (b ∷ bs) h = (number_lacks bs b.1 h.0, numbers_apart bs h.1)
@@ -84,12 +84,12 @@ numbered_kind : (o : Option BranchKind) (n : ℕ) → option_map kind_number o �
 numbered_kind None n e = absurd cc
 numbered_kind (Some kind) n e = (kind, refl, cc)
 
--- a branch that has a number has its kind
+-- a branch with this number has the kind with this number
 pub kind_of_number : (place n : ℕ) (nodes : List NodeView) → branch_number place nodes ≡ Some n → (kind : BranchKind) × (branch_kind place nodes ≡ Some kind) × (kind_number kind ≡ n)
 unfolding branch_number
 kind_of_number place n nodes e = numbered_kind (branch_kind place nodes) n e
 
--- a branch of a kind has its number
+-- a branch with this kind has the number of this kind
 pub number_of_kind : (place : ℕ) (kind : BranchKind) (nodes : List NodeView) → branch_kind place nodes ≡ Some kind → branch_number place nodes ≡ Some (kind_number kind)
 unfolding branch_number
 number_of_kind place kind nodes e = ap (option_map kind_number) e

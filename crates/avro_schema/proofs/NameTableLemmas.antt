@@ -1,4 +1,4 @@
--- The tables of names: what is known after a new namespace and after a definition, and what a reference names.
+-- The name table after a new namespace and after a definition, and the lookup of references.
 use Rattle.std.proofs.Common.{◌≡◌, ◌⊎◌, inl, inr, ℕ, zero, suc, ◌+◌, ◌<◌, List, [], ◌∷◌, ◌++◌, length, set, Option, Some, None, Bool, true, false, cond, String, string_bytes, bytes_eq, Result, Ok, Err, OnOk, length-append, refl, sym, ap, subst, ◌∙◌, true≢false, arith}
 use Rattle.std.specs.BTreeMap.{BTreeMap, get_by_text, UpdatesBy}
 use Rattle.std.specs.Map.{update}
@@ -18,7 +18,7 @@ use Rattle.avro_schema.proofs.FullNames.{same_full, joined_space, joined_name}
 abbrev pub Table : Type 0
 Table = BTreeMap (String Global) ℕ
 
--- ---- numbers that stay
+-- ---- namespaces keep their numbers
 
 pub keeps_same : (t : NameTable) → KeepsNumbers t t
 unfolding KeepsNumbers
@@ -59,7 +59,7 @@ got_beside (x ∷ ts) zero (suc j) t apart = refl
 got_beside (x ∷ ts) (suc i) zero t apart = refl
 got_beside (x ∷ ts) (suc i) (suc j) t apart = got_beside ts i j t (λ e. apart (ap suc e))
 
--- ---- one more namespace has a number
+-- ---- a new namespace
 
 module _ (old new : List ℕ → Option ℕ) (tables : List Table) (space : List ℕ) (number : ℕ) (table : Table)
     (below : (q : List ℕ) (n : ℕ) → old q ≡ Some n → n < length tables)
@@ -109,7 +109,7 @@ module _ (old new : List ℕ → Option ℕ) (tables : List Table) (space : List
     | inr g ↦ rw g (at_old q name (old q) refl)
   ]
 
--- the same of the map that holds the numbers
+-- the same for the map of the numbers
 module _ (old new : BTreeMap (String Global) ℕ) (tables longer : List Table) (space : List ℕ) (name : String Global) (number : ℕ) (table : Table)
     (below : (q : List ℕ) (n : ℕ) → get_by_text old q ≡ Some n → n < length tables)
     (differ : (q p : List ℕ) (n : ℕ) → get_by_text old q ≡ Some n → get_by_text old p ≡ Some n → q ≡ p)
@@ -144,7 +144,7 @@ module _ (old new : BTreeMap (String Global) ℕ) (tables longer : List Table) (
     kept_differ : (q p : List ℕ) (n : ℕ) → get_by_text new q ≡ Some n → get_by_text new p ≡ Some n → q ≡ p
     kept_differ q p n g h = differ q p n (sym (got q) ∙ g) (sym (got p) ∙ h)
 
-  -- whether the number was put in or not
+  -- whether the number was inserted or not
   pub still_below : {X E : Type 0} (r : Result X E) → OnOk r (UpdatesBy string_cmp (string_cmp name) old new (Some number)) → OnErr r (new.entries ≡ old.entries)
       → (q : List ℕ) (n : ℕ) → get_by_text new q ≡ Some n → n < length longer
   still_below (Ok x) updates unchanged = new_below updates
@@ -155,7 +155,7 @@ module _ (old new : BTreeMap (String Global) ℕ) (tables longer : List Table) (
   still_differ (Ok x) updates unchanged = new_differ updates
   still_differ (Err e) updates unchanged = kept_differ unchanged
 
--- ---- one more name is defined
+-- ---- a new definition
 
 module _ (number : List ℕ → Option ℕ) (tables : List Table) (n : ℕ) (old new : Table) (full : List ℕ) (place : ℕ)
     (differ : (q p : List ℕ) (m : ℕ) → number q ≡ Some m → number p ≡ Some m → q ≡ p)
@@ -172,7 +172,7 @@ module _ (number : List ℕ → Option ℕ) (tables : List Table) (n : ℕ) (old
   elsewhere q name (Some m) e apart =
       ap (λ (t : Option Table). in_table t name) (got_beside tables n m new (λ (same : n ≡ m). apart (differ (namespace_of full) q m (has ∙ ap Some same) e)))
 
-  -- another name of the same namespace
+  -- another name in the same namespace
   beside : (q : List ℕ) (b : Bool) → bytes_eq (own full) (own q) ≡ b → namespace_of full ≡ namespace_of q → (full ≡ q → ⊥) → place_at (set tables n new) (Some n) (own q) ≡ place_at tables (Some n) (own q)
   beside q true e spaces apart = absurd (apart (same_full full q spaces ((bytes_eq-Decides (own full) (own q)).0 e)))
   beside q false e spaces apart = here (own q) ∙ update_other bytes_eq (place_at tables (Some n)) (own full) (Some place) (own q) e
@@ -196,7 +196,7 @@ module _ (number : List ℕ → Option ℕ) (tables : List Table) (n : ℕ) (old
 
 -- ---- references
 
--- a name without a dot stands in its namespace's table
+-- a name without a dot is in its namespace's table
 known_simple : (known : NameTable) (space name : List ℕ) → has_dot name ≡ false → known_in known (qualified space name) ≡ place_in known space name
 known_simple known space name plain =
     ap (place_in known (namespace_of (qualified space name))) (joined_name space name plain) ∙ ap (λ (s : List ℕ). place_in known s name) (joined_space space name plain)
@@ -208,10 +208,10 @@ module _ (known : NameTable) (space name : List ℕ) (n : ℕ) (plain : has_dot 
       let there : known_in known (qualified space name) ≡ in_table (slice_get known.tables.items n) name = known_simple known space name plain ∙ ap (λ (o : Option ℕ). place_at known.tables.items o name) is in
       rw (plain, there) refl
 
-  -- it is found in the namespace
+  -- the lookup in the namespace succeeds
   pub found_inside : (place : ℕ) → Some place ≡ in_table (slice_get known.tables.items n) name → Some place ≡ resolved (known_in known) space name
   found_inside place e = ap (λ (o : Option ℕ). or_else o (known_in known name)) e ∙ sym simple
 
-  -- or it is looked for outside
+  -- the lookup in the namespace fails, so the null namespace is searched
   pub found_outside : None ≡ in_table (slice_get known.tables.items n) name → known_in known name ≡ resolved (known_in known) space name
   found_outside e = ap (λ (o : Option ℕ). or_else o (known_in known name)) e ∙ sym simple

@@ -1,4 +1,4 @@
--- The deepest of two is within a limit where both are.
+-- The maximum of two depths is within a limit exactly if both are.
 use Rattle.std.proofs.Common.{◌≡◌, ℕ, max, ◌&&◌, arith}
 use Rattle.std.specs.Prelude.{nat_le}
 use Rattle.std.proofs.lemmas.Bool.{}

@@ -1,4 +1,4 @@
--- What holds of a value holds of the defaults, the other attributes and the sizes in the nodes that it denotes.
+-- A property of a value carries over to the defaults, other attributes and sizes in the nodes that it denotes.
 use Rattle.std.proofs.Common.{◌≡◌, ℕ, ◌<◌, ◌≤◌, ◌^◌, List, [], ◌∷◌, ◌++◌, Bool, true, false, cond, Option, Some, None, codes, bytes_eq, Ordering, Less, Equal, Greater, nat_cmp, refl, ap, subst, ◌∙◌, arith}
 use Rattle.std.specs.Prelude.{nat_lt, IfSome}
 use Rattle.std.specs.List.{AllByRecursion}
@@ -22,7 +22,7 @@ use Rattle.avro_schema.specs.Denotes.{IsExtra, IsField, Denotes, a_primitive, a_
 use Rattle.avro_schema.specs.Denotes.{Branches, no_branch, branch, Fields, no_field, field}
 use Rattle.avro_schema.proofs.Inversion.{bind_some, guard_some}
 
--- what holds of each in two lists holds of each in both together
+-- a property of all elements of two lists is one of all elements of their concatenation
 all_append : {A : Type 0} (P : A → Type 0) (xs ys : List A) → AllByRecursion P xs → AllByRecursion P ys → AllByRecursion P (xs ++ ys)
 all_append P [] ys h g = g
 all_append P (x ∷ xs) ys h g = (h.0, all_append P xs ys h.1 g)
@@ -35,7 +35,7 @@ size_below o size e =
     let g = guard_some (nat_lt n.0 (2 ^ 31)) (Some n.0) size n.2 in
     subst (λ (x : ℕ). x < 2 ^ 31) (same_Some _ _ g.1) (ltb-true n.0 (2 ^ 31) g.0)
 
--- what is taken for an array is one
+-- `as_array` returns the items of an array only
 as_array_is : (d : Data) (items : Items) → as_array d ≡ Some items → d ≡ json.array items
 as_array_is (json.array ds) items e = ap json.array (same_Some _ _ e)
 as_array_is json.null items e = absurd cc
@@ -49,11 +49,11 @@ array_there : (k : List ℕ) (ms : Members) (items : Items) → array_in k ms �
 unfolding array_in
 array_there k ms items e = let p = bind_some (get_member k ms) as_array items e in p.1 ∙ ap (λ (d : Data). Some d) (as_array_is p.0 items p.2)
 
--- E holds of defaults and sizes, and F of other attributes, where P holds of the value
+-- P is a property of values, E of defaults and sizes, and F of other attributes
 module _ (P : Data → Type 0) (E : Data → Type 0) (F : Members → Type 0) (of_member : (ms : Members) (k : List ℕ) (d : Data) → P (json.object ms) → get_member k ms ≡ Some d → P d) (of_items : (ds : Items) → P (json.array ds) → AllItems P ds)
     (of_others : (keys : List (List ℕ)) (ms extra : Members) → P (json.object ms) → IsExtra keys ms extra → F extra) (of_value : (d : Data) → P d → depth d ≤ max_nesting → E d) (of_size : (n : ℕ) → n < 2 ^ 31 → E (number (unsigned n)))
     (of_nothing : F no_members) where
-  -- the default, if there is one
+  -- an optional default
   value_is : (ms : Members) (o : Option Data) → P (json.object ms) → get_member (codes "default") ms ≡ o → ((d : Data) → o ≡ Some d → depth d ≤ max_nesting) → IfSome o E
   value_is ms None p e h = tt
   value_is ms (Some d) p e h = of_value d (of_member ms (codes "default") d p e) (h d refl)
@@ -63,7 +63,7 @@ module _ (P : Data → Type 0) (E : Data → Type 0) (F : Members → Type 0) (o
   field_is ms f p i = (value_is ms f.value p i.value i.shallow, of_others _ ms f.extra p i.others)
 
   mutual
-    -- so it is in the nodes that the value denotes
+    -- so the nodes that the value denotes have these properties
     pub nodes_are : {n : ℕ} {space : List ℕ} {d : Data} {known known2 : Known} {first place : ℕ} {nodes : List NodeView} → Denotes n space d known first place nodes known2 → P d → AllByRecursion (OfNode E F) nodes
     nodes_are (a_primitive e h) p = (of_nothing, tt)
     nodes_are (a_reference e f) p = tt
@@ -96,14 +96,14 @@ any_items : (ds : Items) → AllItems (λ _. Unit {0}) ds
 any_items no_items = tt
 any_items (item d ds) = (tt, any_items ds)
 
--- defaults and other attributes nest no deeper than types may
+-- defaults and other attributes nest within the limit for types
 pub denoted_nest : {n : ℕ} {space : List ℕ} {d : Data} {known known2 : Known} {first place : ℕ} {nodes : List NodeView} → Denotes n space d known first place nodes known2 → ShallowNodes nodes
 denoted_nest t =
     nodes_are (λ _. Unit {0}) IsShallow AreShallow (λ ms k d p e. tt) (λ ds p. any_items ds) (λ keys ms extra p o. o.shallow) (λ d p h. h) (λ n h. omega arith) (omega arith) t tt
 
 -- ---- tidy values
 
--- one of the members, or what is found behind it
+-- the first member, or one found after it
 tidy_value_at : (o : Ordering) (d e : Data) (rest : Option Data) → IsTidy e → ((x : Data) → rest ≡ Some x → IsTidy x) → match_ordering o rest (Some e) rest ≡ Some d → IsTidy d
 tidy_value_at Less d e rest h later is = later d is
 tidy_value_at Equal d e rest h later is = subst IsTidy (same_Some _ _ is) h
@@ -114,37 +114,37 @@ tidy_member : (ms : Members) (k : List ℕ) (d : Data) → TidyMembers ms → ge
 tidy_member no_members k d t e = absurd cc
 tidy_member (member l x ms) k d t e = tidy_value_at (slice_cmp nat_cmp k l) d x (get_member k ms) t.0 (λ y is. tidy_member ms k y t.2 is) e
 
--- and each of tidy items
+-- each of tidy items is tidy
 each_tidy : (ds : Items) → TidyItems ds → AllItems IsTidy ds
 each_tidy no_items t = tt
 each_tidy (item d ds) t = (t.0, each_tidy ds t.1)
 
--- what stands behind a name does so where one member is left out
+-- a name before all members is still before them if one is removed
 behind_at : (same : Bool) (j l : List ℕ) (d : Data) (rest : Members) → slice_cmp nat_cmp j l ≡ Less → AllAfter j rest → AllAfter j (cond same rest (member l d rest))
 behind_at true j l d rest below h = h
 behind_at false j l d rest below h = (below, h)
 
--- and where those of a name are
+-- the same if all members with a name are removed
 pub behind_without : (j k : List ℕ) (ms : Members) → AllAfter j ms → AllAfter j (without k ms)
 behind_without j k no_members h = tt
 behind_without j k (member l d ms) h = behind_at (bytes_eq k l) j l d (without k ms) h.0 (behind_without j k ms h.1)
 
--- a member before the others, or left out
+-- a first member, kept or removed
 tidy_at : (same : Bool) (l : List ℕ) (d : Data) (rest : Members) → IsTidy d → AllAfter l rest → TidyMembers rest → TidyMembers (cond same rest (member l d rest))
 tidy_at true l d rest p h t = t
 tidy_at false l d rest p h t = (p, h, t)
 
--- tidy members stay tidy where those of a name are left out
+-- tidy members stay tidy after those with a name are removed
 tidy_without : (k : List ℕ) (ms : Members) → TidyMembers ms → TidyMembers (without k ms)
 tidy_without k no_members t = tt
 tidy_without k (member l d ms) t = tidy_at (bytes_eq k l) l d (without k ms) t.0 (behind_without l k ms t.1) (tidy_without k ms t.2)
 
--- or of some names
+-- the same for several names
 tidy_without_all : (ks : List (List ℕ)) (ms : Members) → TidyMembers ms → TidyMembers (without_all ks ms)
 tidy_without_all [] ms t = t
 tidy_without_all (k ∷ ks) ms t = tidy_without_all ks (without k ms) (tidy_without k ms t)
 
--- a size is a whole number of 64 bits
+-- a size is a 64-bit integer
 whole_size : (n : ℕ) → n < 2 ^ 31 → nat_lt n (2 ^ 64) ≡ true
 whole_size n h = lt-ltb n (2 ^ 64) (omega arith)
 

@@ -1,4 +1,4 @@
--- Members that are put among others, in any order.
+-- Members inserted among others, in any order.
 use Rattle.std.proofs.Common.{◌≡◌, ℕ, List, Bool, true, false, cond, Some, None, Ordering, Less, Equal, Greater, nat_cmp, is_eq, bytes_eq, true≢false, refl, sym, ap, ◌∙◌}
 use Rattle.std.specs.Cmp.Lexicographic.{slice_cmp}
 use Rattle.std.specs.Ordering.{match_ordering, ordering_reverse}
@@ -43,7 +43,7 @@ module _ (k l : List ℕ) (d e : Data) (below : order k l ≡ Less) where
   behind_at : (m : List ℕ) (f : Data) (ms : Members) → order l m ≡ Greater → order k m ≡ Greater → Commute ms → Commute (member m f ms)
   behind_at m f ms is past more = rw (is, past) (rw is (ap (member m f) more))
 
-  -- what k is behind, l is behind too
+  -- if k comes after m, so does l
   further : (m : List ℕ) → order k m ≡ Greater → order l m ≡ Greater
   further m past = reversed m l Less (nat_list_cmp_total.trans m k l (reversed k m Greater past) below)
 
@@ -61,11 +61,11 @@ apart_at Less k l d e ms is other = commute k l d e is ms
 apart_at Equal k l d e ms is other = absurd (true≢false (sym (sym (is_eq-slice_cmp k l) ∙ ap is_eq is) ∙ other))
 apart_at Greater k l d e ms is other = sym (commute l k e d (reversed k l Greater is) ms)
 
--- puts of two names commute
+-- insertions of two different names commute
 pub put_apart : (k l : List ℕ) (d e : Data) (ms : Members) → bytes_eq k l ≡ false → put k d (put l e ms) ≡ put l e (put k d ms)
 put_apart k l d e ms other = apart_at (order k l) k l d e ms refl other
 
--- ---- a name that is left out
+-- ---- a removed name
 
 nothing_at : (same : Bool) (k l : List ℕ) (d : Data) (ms : Members) → bytes_eq k l ≡ same → get_member k (member l d ms) ≡ None → (get_member k ms ≡ None → without k ms ≡ ms)
     → cond same (without k ms) (member l d (without k ms)) ≡ member l d ms
@@ -84,7 +84,7 @@ pub nothing_there : (k : List ℕ) (ms : Members) → get_member k ms ≡ None �
 nothing_there k no_members none = refl
 nothing_there k (member l d ms) none = nothing_at (bytes_eq k l) k l d ms refl none (nothing_there k ms)
 
--- a name before all others goes first
+-- a name before all others is inserted first
 put_first : (l : List ℕ) (d : Data) (ms : Members) → AllAfter l ms → put l d ms ≡ member l d ms
 put_first l d no_members h = refl
 put_first l d (member m e ms) h = rw (h.0) refl
@@ -100,7 +100,7 @@ aside_at Equal false k l m d e ms is here other h more = rw (here, is) refl
 aside_at Greater true k l m d e ms is here other h more = rw here more
 aside_at Greater false k l m d e ms is here other h more = rw (here, is) (ap (member m e) more)
 
--- a put of another name, before or after a name is left out
+-- insertion of another name commutes with removal of a name
 pub put_aside : (k l : List ℕ) (d : Data) (ms : Members) → bytes_eq k l ≡ false → AreOrdered ms → without k (put l d ms) ≡ put l d (without k ms)
 put_aside k l d no_members other h = rw other refl
 put_aside k l d (member m e ms) other h = aside_at (slice_cmp nat_cmp l m) (bytes_eq k m) k l m d e ms refl refl other h.0 (put_aside k l d ms other h.1)
@@ -118,7 +118,7 @@ again_at Equal k m d e ms is h more =
     rw (sym (is_eq-slice_cmp k m) ∙ ap is_eq is, is) (ap (put k d) (ap (λ (n : List ℕ). without n ms) same ∙ none_before m ms h) ∙ ap (λ (n : List ℕ). put n d ms) same ∙ put_first m d ms h)
 again_at Greater k m d e ms is h more = rw (sym (is_eq-slice_cmp k m) ∙ ap is_eq is) (rw is (ap (member m e) more))
 
--- what a put replaces may be left out before
+-- removing the member first that an insertion replaces changes nothing
 pub put_again : (k : List ℕ) (d : Data) (ms : Members) → AreOrdered ms → put k d (without k ms) ≡ put k d ms
 put_again k d no_members h = refl
 put_again k d (member m e ms) h = again_at (order k m) k m d e ms refl h.0 (put_again k d ms h.1)

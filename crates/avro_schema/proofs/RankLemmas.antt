@@ -1,4 +1,4 @@
--- Ranks sorted, each once.
+-- Ranks in ascending order, without duplicates.
 use Rattle.std.proofs.Common.{◌≡◌, ℕ, ◌<◌, List, [], length, get_or, Some, nat_cmp, sym, ap, ◌∙◌, subst, arith}
 use Rattle.std.specs.Prelude.{slice_get}
 use Rattle.std.specs.List.{dedup}

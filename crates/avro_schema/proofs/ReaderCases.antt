@@ -1,4 +1,4 @@
--- What the definitions give at each way through the reader.
+-- The results of the definitions in each case of the reader.
 use Rattle.std.proofs.Common.{◌≡◌, ℕ, zero, suc, ◌+◌, ◌-◌, ◌<◌, List, [], ◌∷◌, ◌++◌, length, map, set, Bool, true, false, Option, Some, None, codes, bytes_eq, refl, ap, ◌∙◌, arith}
 use Rattle.std.specs.Prelude.{◌==◌}
 use Rattle.serde_json.specs.Data.{Data, string, Items, Members}

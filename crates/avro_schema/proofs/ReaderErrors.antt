@@ -1,4 +1,4 @@
--- The exits of a reader.
+-- The error results of a reader.
 use Rattle.std.proofs.Common.{◌≡◌, List, Option, None, Result}
 use Rattle.std.specs.Result.{IsErrAnd}
 use Rattle.std.proofs.lemmas.Result.{err_from_is_err_and}
@@ -9,12 +9,12 @@ use Rattle.avro_schema.specs.Inside.ReaderResults.{Fails, Gives, ReadsPart}
 use Rattle.avro_schema.specs.declared.error.SchemaError.{SchemaError}
 use Rattle.avro_schema.specs.declared.error.SchemaError.TheVariants.{OutOfMemory}
 
--- where one thing gives nothing, so does what rests on it
+-- if one definition gives `None`, so does a definition that depends on it
 pub fails_from : {A B : Type 0} (e : SchemaError) (o : Option A) (u : Option B) → (o ≡ None → u ≡ None) → Fails e o → Fails e u
 fails_from OutOfMemory o u h f = tt
 fails_from _ o u h f = h f
 
--- the exit of a `?`
+-- the early return of a `?`
 pub gives_exit : {X A : Type 0} (shown : X → A) (r : Result X SchemaError) (e : SchemaError) (o : Option A) → IsErrAnd r (λ y. y ≡ e) → Fails e o → Gives shown r o
 gives_exit shown r e o is f = let p = err_from_is_err_and r is in rw (p.1, p.2) f
 

@@ -1,4 +1,4 @@
--- Members of which none has a reserved name.
+-- Members without reserved names.
 use Rattle.std.proofs.Common.{◌≡◌, ◌≢◌, ℕ, List, Bool, true, false, cond, ◌||◌, None, Ordering, Less, Equal, Greater, nat_cmp, bytes_eq, refl, sym, ap, ◌∙◌, true≢false}
 use Rattle.std.specs.Prelude.{IsTrue, Result, Ok, Err, OnOk, OnErr, codes}
 use Rattle.std.specs.Cmp.Lexicographic.{slice_cmp}
@@ -40,7 +40,7 @@ none_at false k l d ms is r h more =
     let apart : k ≢ l = λ e. true≢false (sym r ∙ ap is_reserved e ∙ is) in
     not_found_at (slice_cmp nat_cmp k l) (get_member k ms) d (is_eq-slice_cmp k l ∙ differ k l apart) (more h)
 
--- a reserved name isn't found
+-- the lookup of a reserved name fails
 pub none_reserved : (k : List ℕ) (ms : Members) → is_reserved k ≡ true → has_reserved ms ≡ false → get_member k ms ≡ None
 none_reserved k no_members r h = refl
 none_reserved k (member l d ms) r h = none_at (is_reserved l) k l d ms refl r h (none_reserved k ms r)
@@ -68,7 +68,7 @@ pub without_unreserved : (k : List ℕ) (ms : Members) → has_reserved ms ≡ f
 without_unreserved k no_members h = refl
 without_unreserved k (member l d ms) h = without_at (bytes_eq k l) k l d ms h (without_unreserved k ms)
 
--- ---- members in order
+-- ---- sorted members
 
 is_less : (o : Ordering) → is_lt o ≡ true → o ≡ Less
 is_less Less e = refl

@@ -1,4 +1,4 @@
--- Names in order, each once, and a search among them.
+-- Sorted names without duplicates, and the search among them.
 use Rattle.std.proofs.Common.{◌≡◌, ℕ, ◌+◌, ◌<◌, ◌≤◌, List, [], ◌∷◌, length, map, get_or, Bool, true, nat_cmp, bytes_eq, Some, refl, sym, ap, ◌∙◌, subst, inl, inr, arith}
 use Rattle.std.specs.Prelude.{Contains, All, slice_get}
 use Rattle.std.specs.Borrow.{Bor}
@@ -25,7 +25,7 @@ use Rattle.std.proofs.lemmas.Option.{slice_get-get_or}
 use Rattle.avro_schema.specs.Index.{AreStrictlySorted}
 use Rattle.avro_schema.specs.Inside.NodeTexts.{borrowed}
 
--- a text behind a reference
+-- the text that a reference borrows
 abbrev pub text : Bor (List ℕ) → List ℕ
 text t = t.now
 
@@ -38,7 +38,7 @@ order = slice_cmp nat_cmp
 total : IsTotalOrder (on text order)
 total = on_total text nat_list_cmp_total
 
--- ---- answers of the order
+-- ---- results of the comparison
 
 self : (a : Ordering) → a ≡ ordering_reverse a → a ≡ Equal
 self Less e = absurd (true≢false (ap is_lt e))
@@ -54,7 +54,7 @@ less_not_equal a e f = true≢false (sym (ap is_lt e) ∙ ap is_lt f)
 greater_not_equal : (a : Ordering) → a ≡ Greater → a ≡ Equal → ⊥
 greater_not_equal a e f = true≢false (sym (ap is_eq f) ∙ ap is_eq e)
 
--- ---- in order, each below all later ones
+-- ---- each name less than all later ones
 
 each_of : (x : List ℕ) (ts : List (Bor (List ℕ))) → AllByRecursion (λ t. order x (text t) ≡ Less) ts → AllByRecursion (λ y. order x y ≡ Less) (map text ts)
 each_of x [] h = tt
@@ -71,11 +71,11 @@ same x y = bytes_eq (text x) (text y)
 ties : (x y : Bor (List ℕ)) → same x y ≡ eq_by_cmp (on text order) x y
 ties x y = sym (is_eq-slice_cmp (text x) (text y))
 
--- a sorted list, each of its texts once, rises
+-- a sorted list without duplicates is strictly sorted
 pub rise_once : (ts : List (Bor (List ℕ))) → IsSorted (on text order) ts → AreStrictlySorted (map text (dedup same ts))
 rise_once ts h = rise_from (dedup same ts) (IsStrictlySortedBy-dedup total ties ts h)
 
--- ---- in order with their places
+-- ---- sorted with indices
 
 abbrev pub Placed : Type 0
 Placed = Bor (List ℕ) × ℕ
@@ -89,13 +89,13 @@ without_places ps up k d z l =
     let before : k < length ps = omega arith in
     rw (get_or-map (λ (p : Placed). p.0) ps (k + 1) no_place d within, get_or-map (λ (p : Placed). p.0) ps k no_place d before) (up k no_place z within)
 
--- what a sort by the texts says
+-- the result of sorting by the texts
 pub sorted_by_text : {F : Type 0} {g : Mut F (Bor Placed × Unit {0}) (Bor (List ℕ))} {f : F} (ps : List Placed)
     → ((key : Placed → Bor (List ℕ)) → ComputesKey g key f → IsSortedByKey key (on text order) ps)
     → ((a : Bor Placed × Unit {0}) (r : Bor (List ℕ)) (f' : F) → Called g f a r f' → (r ≡ a.0.now.0) × (f' ≡ f)) → IsSorted (on text order) (map (λ p. p.0) ps)
 sorted_by_text {g = g} {f = f} ps up h = without_places ps (up (λ p. p.0) (always_returns_same g (λ a r. r ≡ a.0.now.0) f h))
 
--- ---- each text is kept
+-- ---- no text is lost
 
 equal_by : (a : Ordering) → is_eq a ≡ true → a ≡ Equal
 equal_by Less e = absurd (true≢false (sym e))
@@ -110,7 +110,7 @@ all_level ts us moved k d l =
     let alike : text x ≡ text kept.1 = exact_bytes (text x) (text kept.1) (equal_by (order (text x) (text kept.1)) kept.4) in
     (kept.0, rw length-map kept.2, get_or-map text left kept.0 kept.1 (text x) kept.2 ∙ ap text kept.3 ∙ sym alike)
 
--- and has each text that the list had
+-- the list without duplicates has every text of the given list
 pub all_once : (ts us : List (Bor (List ℕ))) → IsPermutation ts us → All (Contains (borrowed (dedup same us))) (borrowed ts)
 all_once ts us moved =
     All-map (Contains (map text (dedup same us))) text ts (subst (λ (E : Bor (List ℕ) → Bor (List ℕ) → Bool). All (λ t. Contains (map text (dedup E us)) (text t)) ts) (fun_ext (λ x. fun_ext (λ y. sym (ties x y)))) (all_level ts us moved))
@@ -125,7 +125,7 @@ text_at ts x rank l e =
 pub found : (ts : List (Bor (List ℕ))) (x : List ℕ) (rank : ℕ) → rank < length ts → order (text (get_or ts rank no_text)) x ≡ Equal → slice_get (map text ts) rank ≡ Some x
 found ts x rank l e = text_at ts x rank l (exact_bytes (text (get_or ts rank no_text)) x e)
 
--- what is below y doesn't stand after it
+-- a text less than y can't come after it
 no_later : (x y z : List ℕ) (a b : Ordering) → order x z ≡ a → order y z ≡ b → order x y ≡ Less → ordering_index a ≤ ordering_index b
 no_later x y z Less b e f g = omega arith
 no_later x y z Equal Less e f g = absurd (less_not_equal (order x z) (nat_list_cmp_total.trans x y z g f) e)

@@ -1,4 +1,4 @@
--- What is written for a declaration, beside the types inside it, reads as that declaration.
+-- The members that the identity text has for a declaration, other than the types inside it, read as the same declaration.
 use Rattle.std.proofs.Common.{◌≡◌, ℕ, List, [], ◌∷◌, Bool, true, false, cond, Option, Some, None, option_map, codes, bytes_eq, refl, sym, ap, subst, ◌∙◌}
 use Rattle.std.specs.List.{list_any}
 use Rattle.std.specs.Prelude.{nat_lt, ◌^◌}
@@ -23,7 +23,7 @@ use Rattle.avro_schema.proofs.Inversion.{bind_some, bind3, guard_some, not_same}
 use Rattle.avro_schema.proofs.RoundMembers.{is_among, without-put, without_twice, none_without}
 use Rattle.avro_schema.proofs.RoundNames.{good_name, good_namespace, full_again_dot, full_again_null, full_again_said, alias_again, allowed_says, kind_again}
 
--- ---- a member beside others
+-- ---- one member among others
 
 past_put : (q k : List ℕ) (d : Data) (ms : Members) → bytes_eq q k ≡ false → get_member q (put k d ms) ≡ get_member q ms
 past_put q k d ms other = get_member-put_other q k d ms (not_same q k other)
@@ -49,7 +49,7 @@ past_namespace : (q space name : List ℕ) (ms : Members) → bytes_eq q (codes 
 past_namespace q [] name ms other = refl
 past_namespace q (c ∷ space) name ms other = past_namespace_at (has_dot name) q ms other
 
--- ---- what is left without the keys
+-- ---- the members without the keys
 
 less_aliases : (ks : List (List ℕ)) (ts : List (List ℕ)) (ms : Members) → is_among ks (codes "aliases") ≡ true → without_all ks (with_aliases ts ms) ≡ without_all ks ms
 less_aliases ks [] ms among = refl
@@ -72,12 +72,12 @@ less_namespace : (ks : List (List ℕ)) (space name : List ℕ) (ms : Members) �
 less_namespace ks [] name ms among = refl
 less_namespace ks (c ∷ space) name ms among = less_namespace_at (has_dot name) ks ms among
 
--- other attributes, with members of these keys put among them
+-- removing these keys from written members leaves `extra`
 others_again : (keys : List (List ℕ)) (ms extra written : Members) → IsExtra keys ms extra → without_all keys written ≡ without_all keys extra → IsExtra keys written extra
 others_again keys ms extra written o e =
     record { are = sym (e ∙ ap (without_all keys) o.are ∙ without_twice keys ms ∙ sym o.are); shallow = o.shallow }
 
--- one of the keys is not among other attributes
+-- `extra` has none of the keys
 others_lack : (keys : List (List ℕ)) (k : List ℕ) (ms extra : Members) → IsExtra keys ms extra → is_among keys k ≡ true → get_member k extra ≡ None
 others_lack keys k ms extra o among = ap (get_member k) o.are ∙ none_without keys k ms among
 
@@ -95,7 +95,7 @@ texts_more : (rule : List ℕ → Option (List ℕ)) (t : List ℕ) (ts : List (
 unfolding texts_in
 texts_more rule t ts one more = rw (one, more) refl
 
--- where the rule lets pass what it gives, texts that it gave read as themselves
+-- if the rule accepts its own results, texts that it gave read as themselves
 texts_again : (rule : List ℕ → Option (List ℕ)) → ((s t : List ℕ) → rule s ≡ Some t → rule t ≡ Some t) → (ds : Items) (ts : List (List ℕ)) → texts_in rule ds ≡ Some ts → texts_in rule (texts ts) ≡ Some ts
 unfolding texts_in
 texts_again rule again no_items ts e = subst (λ (x : List (List ℕ)). texts_in rule (texts x) ≡ Some x) (same_Some _ _ e) refl
@@ -103,7 +103,7 @@ texts_again rule again (item d ds) ts e =
     let p = bind3 (as_str d) (λ text. rule text) (λ _ _. texts_in rule ds) (λ _ name more. Some (name ∷ more)) ts e in
     subst (λ (x : List (List ℕ)). texts_in rule (texts x) ≡ Some x) (same_Some _ _ p.6) (texts_more rule p.1 p.2 (again p.0 p.1 p.4) (texts_again rule again ds p.2 p.5))
 
--- what is written of aliases
+-- the value written for aliases, if any
 abbrev pub aliases_due : List (List ℕ) → Option Data
 aliases_due [] = None
 aliases_due (t ∷ ts) = Some (json.array (texts (t ∷ ts)))
@@ -122,7 +122,7 @@ aliases_found (t ∷ ts) ms none = get_member-put (codes "aliases") (json.array 
 
 -- ---- the names of a definition
 
--- what is written of a namespace
+-- the value written for a namespace, if any
 abbrev pub namespace_due : List ℕ → List ℕ → Option Data
 namespace_due [] name = None
 namespace_due (c ∷ space) name = cond (has_dot name) None (Some (string []))
@@ -135,7 +135,7 @@ namespace_found : (space name : List ℕ) (ms : Members) → get_member (codes "
 namespace_found [] name ms none = none
 namespace_found (c ∷ space) name ms none = namespace_found_at (has_dot name) ms none
 
--- the attribute `namespace`, with which the full name gives itself
+-- the attribute `namespace` with which the full name reads as itself
 record NameAgain (space name : List ℕ) (due : Option Data) : Type 0 where
   attribute : Option (List ℕ)
   reads : (ms : Members) → get_member (codes "namespace") ms ≡ due → text_if_any (codes "namespace") ms ≡ Some attribute
@@ -164,7 +164,7 @@ name_again (c ∷ space) name d = name_again_at (has_dot name) c space name d re
 pub good_named : (space : List ℕ) (ms : Members) (known : Known) (named : NamedView) → is_namespace space ≡ true → IsNamed space ms known named → is_name_sequence named.name ≡ true
 good_named space ms known named good n = good_name n.text n.attribute space named.name good n.full
 
--- members that say a name, a namespace and aliases as they are written give these names again
+-- members with a name, a namespace and aliases as they are written read as these names
 named_again : (space : List ℕ) (ms written : Members) (known : Known) (named : NamedView) → is_namespace space ≡ true → IsNamed space ms known named
     → get_member (codes "name") written ≡ Some (string named.name) → get_member (codes "namespace") written ≡ namespace_due space named.name → get_member (codes "aliases") written ≡ aliases_due named.aliases
     → IsNamed space written known named
@@ -184,7 +184,7 @@ named_again space ms written known named good n name namespace aliases =
       aliases = ap (texts_if_any rule) aliases ∙ listed;
     }
 
--- ---- the words of `type`
+-- ---- the values of `type`
 
 pub word_is_kind : (kind : Kind) → type_name_of (kind_text kind) ≡ type_name.Primitive kind
 unfolding type_name_of
@@ -219,7 +219,7 @@ default_found : (o : Option Data) (ms : Members) → get_member (codes "default"
 default_found None ms none = none
 default_found (Some d) ms none = get_member-put (codes "default") d ms
 
--- what is written of an order
+-- the value written for an order, if any
 abbrev order_due : Order → Option Data
 order_due Ascending = None
 order_due Descending = Some (string (codes "descending"))
@@ -248,7 +248,7 @@ fallback_again symbols (Some d) fallback e =
     let q = bind_some (as_str d) (λ s. cond (list_any (λ t. bytes_eq t s) symbols) (Some s) None) p.0 p.1 in
     subst (λ (x : Option (List ℕ)). fallback_in symbols (option_map string x) ≡ Some x) (same_Some _ _ p.2) (symbol_is symbols q.0 p.0 q.2)
 
--- ---- the members of each form, with a `type` put among the others last or next to last
+-- ---- the members of each form, in which `type` is inserted last or next to last
 
 abbrev Typed : List ℕ → Members → Members
 Typed name extra = with_text (codes "type") name extra

@@ -1,4 +1,4 @@
--- Members that are put among other attributes, and taken out again.
+-- Members that are inserted among other attributes and removed again.
 use Rattle.std.proofs.Common.{◌≡◌, ◌≢◌, ℕ, List, [], ◌∷◌, Bool, true, false, cond, ◌||◌, Option, Some, None, Ordering, Less, Equal, Greater, nat_cmp, is_eq, bytes_eq, refl, sym, ap, ◌∙◌, true≢false}
 use Rattle.std.specs.Cmp.Lexicographic.{slice_cmp}
 use Rattle.std.specs.List.{list_any}
@@ -13,12 +13,12 @@ use Rattle.avro_schema.proofs.Inversion.{differ, same_bytes}
 abbrev pub is_among : List (List ℕ) → List ℕ → Bool
 is_among keys l = list_any (λ k. bytes_eq k l) keys
 
--- the members of other keys, in one pass
+-- the members with other keys, in one pass
 abbrev pub kept : List (List ℕ) → Members → Members
 kept keys no_members = no_members
 kept keys (member l d ms) = cond (is_among keys l) (kept keys ms) (member l d (kept keys ms))
 
--- ---- taking keys out one by one, or in one pass
+-- ---- removing keys one at a time or in one pass
 
 keep_all : (ms : Members) → kept [] ms ≡ ms
 keep_all no_members = refl
@@ -37,7 +37,7 @@ pub without_is_kept : (ks : List (List ℕ)) (ms : Members) → without_all ks m
 without_is_kept [] ms = sym (keep_all ms)
 without_is_kept (k ∷ ks) ms = without_is_kept ks (without k ms) ∙ keep_more k ks ms
 
--- ---- a member of one of the keys is not kept
+-- ---- a member with one of the keys is removed
 
 past_put_at : (o : Ordering) (ks : List (List ℕ)) (k l : List ℕ) (d e : Data) (ms : Members) → slice_cmp nat_cmp k l ≡ o → is_among ks k ≡ true → kept ks (put k d ms) ≡ kept ks ms
     → kept ks (match_ordering o (member k d (member l e ms)) (member l d ms) (member l e (put k d ms))) ≡ kept ks (member l e ms)
@@ -54,7 +54,7 @@ past_put ks k d (member l e ms) among = past_put_at (slice_cmp nat_cmp k l) ks k
 pub without-put : (ks : List (List ℕ)) (k : List ℕ) (d : Data) (ms : Members) → is_among ks k ≡ true → without_all ks (put k d ms) ≡ without_all ks ms
 without-put ks k d ms among = without_is_kept ks (put k d ms) ∙ past_put ks k d ms among ∙ sym (without_is_kept ks ms)
 
--- taking the keys out once more changes nothing
+-- removing the keys again changes nothing
 kept_twice_at : (among : Bool) (ks : List (List ℕ)) (l : List ℕ) (d : Data) (ms : Members) → is_among ks l ≡ among → kept ks (kept ks ms) ≡ kept ks ms
     → kept ks (cond among (kept ks ms) (member l d (kept ks ms))) ≡ cond among (kept ks ms) (member l d (kept ks ms))
 kept_twice_at true ks l d ms is later = later
@@ -67,7 +67,7 @@ kept_twice ks (member l d ms) = kept_twice_at (is_among ks l) ks l d ms refl (ke
 pub without_twice : (ks : List (List ℕ)) (ms : Members) → without_all ks (without_all ks ms) ≡ without_all ks ms
 without_twice ks ms = ap (without_all ks) (without_is_kept ks ms) ∙ without_is_kept ks (kept ks ms) ∙ kept_twice ks ms ∙ sym (without_is_kept ks ms)
 
--- ---- one of the keys is not found among what is kept
+-- ---- the lookup of a removed key fails
 
 pub not_found_at : (o : Ordering) (a : Option Data) (e : Data) → is_eq o ≡ false → a ≡ None → match_ordering o a (Some e) a ≡ None
 not_found_at Less a e other none = none

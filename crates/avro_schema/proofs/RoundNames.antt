@@ -1,4 +1,4 @@
--- Full names are well formed, and so are their namespaces.
+-- Full names and their namespaces are well formed.
 use Rattle.std.proofs.Common.{◌≡◌, ℕ, List, [], ◌∷◌, ◌++◌, Bool, true, false, cond, ◌&&◌, ◌||◌, Option, Some, None, codes, bytes_eq, refl, sym, ap, subst, ◌∙◌, true≢false}
 use Rattle.std.proofs.lemmas.Bool.{and_parts, or_parts, or_right}
 use Rattle.std.specs.List.{list_any}
@@ -13,7 +13,7 @@ use Rattle.avro_schema.specs.Keywords.{kind_of}
 use Rattle.avro_schema.proofs.Dotted.{is_rest, not_start, dotted_is}
 use Rattle.avro_schema.proofs.Inversion.{guard_some, differ}
 
--- the left one holds where the right one does not
+-- if a disjunction is true and its right side false, its left side is true
 left_alone : (a b : Bool) → (a || b) ≡ true → b ≡ false → a ≡ true
 left_alone true b e f = refl
 left_alone false b e f = absurd (true≢false (sym e ∙ f))
@@ -100,12 +100,12 @@ good_name name attribute space full good e =
     let g = guard_some (is_name_sequence name) (cond (has_dot name) (Some name) (name_in attribute space name)) full e in
     full_name_at (has_dot name) attribute space name full good g.0 g.1
 
--- a full name with a dot gives itself, whatever stands beside it
+-- a full name with a dot reads as itself, with any `namespace`
 pub full_again_dot : (full : List ℕ) (attribute : Option (List ℕ)) (space : List ℕ) → is_name_sequence full ≡ true → has_dot full ≡ true → full_name full attribute space ≡ Some full
 unfolding full_name
 full_again_dot full attribute space d dot = rw (d, dot) refl
 
--- a simple name gives itself in the null namespace
+-- a simple name reads as itself in the null namespace
 pub full_again_null : (full : List ℕ) → is_name_sequence full ≡ true → has_dot full ≡ false → full_name full None [] ≡ Some full
 unfolding full_name qualified
 full_again_null full d none = rw (d, none) refl
@@ -131,7 +131,7 @@ alias_at : (dot : Bool) (space alias name : List ℕ) → is_namespace space ≡
 alias_at true space alias name good d dot e = subst (λ (x : List ℕ). alias_in space x ≡ Some x) (same_Some _ _ e) (alias_there space alias d dot)
 alias_at false space alias name good d none e = simple_alias space alias name good d none (same_Some _ _ e)
 
--- an alias's full name is its own
+-- the full name of an alias reads as itself
 pub alias_again : (space alias name : List ℕ) → is_namespace space ≡ true → alias_in space alias ≡ Some name → alias_in space name ≡ Some name
 unfolding alias_in
 alias_again space alias name good e =
@@ -144,7 +144,7 @@ allowed_says test text name e =
     let passes : test name ≡ true = rw (← same_Some _ _ g.1) g.0 in
     (passes, rw passes refl)
 
--- ---- words
+-- ---- keywords
 
 pub kind_again : (k : Kind) → kind_of (kind_text k) ≡ Some k
 unfolding kind_of
@@ -205,6 +205,6 @@ refers_by : (known : Known) (space s : List ℕ) (q : ℕ) (dot : Bool) → has_
 refers_by known space s q true dot kind e = record { full = s; defined = sym (resolved_dot known space s dot) ∙ e; again = e; no_kind = kind }
 refers_by known space s q false none kind e = simple_refers known space s q (known (qualified space s)) kind refl (sym (resolved_simple known space s none) ∙ e) e
 
--- what a reference names, its full name names too
+-- if a reference resolves to a type, so does the type's full name
 pub refers : (known : Known) (space s : List ℕ) (q : ℕ) → kind_of s ≡ None → resolved known space s ≡ Some q → Refers known space q
 refers known space s q kind e = refers_by known space s q (has_dot s) refl kind e

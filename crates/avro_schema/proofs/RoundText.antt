@@ -11,7 +11,6 @@ use Rattle.avro_schema.proofs.Passing.{denoted_nest, denoted_tidy}
 use Rattle.avro_schema.proofs.RoundTrip.{identity_denotes}
 use Rattle.avro_schema.proofs.TextLemmas.{one_schema}
 
--- the identity text of each schema denotes it
 pub identity_text_denotes : (nodes : List NodeView) → IsSchema nodes → TextDenotes (identity nodes) nodes
 identity_text_denotes nodes (text, t) =
     let tidy = denoted_tidy t.type_is (tidy_read text t.respelt t.value t.plain_is t.value_is) in
@@ -27,11 +26,11 @@ identity_text_denotes nodes (text, t) =
       bounded = t.bounded;
     }
 
--- the text that a schema keeps denotes it
+-- the text of a `Schema` denotes it
 pub kept_denotes : (nodes : List NodeView) (text : List ℕ) → SchemaInvariant nodes text → TextDenotes text nodes
 kept_denotes nodes text k = rw k.text_is (identity_text_denotes nodes k.schema)
 
--- schemas with one identity text are one
+-- schemas with equal identity texts are equal
 pub same_kept : (xs ys : List NodeView) (s t : List ℕ) → SchemaInvariant xs s → SchemaInvariant ys t → s ≡ t → xs ≡ ys
 same_kept xs ys s t k l e = one_schema t xs ys (subst (λ (x : List ℕ). TextDenotes x xs) e (kept_denotes xs s k)) (kept_denotes ys t l)
 

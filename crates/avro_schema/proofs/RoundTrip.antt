@@ -1,4 +1,4 @@
--- What is written for a type is read as that type.
+-- The value written for a type reads as the same type.
 use Rattle.std.proofs.Common.{◌≡◌, ℕ, suc, ◌+◌, ◌<◌, ◌≤◌, List, [], ◌∷◌, ◌++◌, length, map, Bool, true, false, Option, Some, None, codes, bytes_eq, refl, sym, ap, subst, ◌∙◌, append_assoc, append-nil, length-append, arith}
 use Rattle.std.specs.Prelude.{slice_get}
 use Rattle.std.proofs.lemmas.Map.{update_same, update_other}
@@ -28,11 +28,11 @@ use Rattle.avro_schema.proofs.RoundDeclarations.{good_named, primitive_says, pri
 use Rattle.avro_schema.proofs.RoundDeclarations.{array_members, map_members, fixed_members, fixed_titled, fixed_listed, enum_members, enum_titled, enum_listed, record_members, record_titled, record_listed, record_held, field_members}
 use Rattle.avro_schema.proofs.Sizes.{one_found, named_found, record_found, names_append, mentions_append}
 
--- the names known are those of definitions at places before
+-- the known names are those of definitions at earlier places
 pub record Knows (all : List NodeView) (first : ℕ) (known : Known) : Type 0 where
   pub at : (name : List ℕ) (q : ℕ) → known name ≡ Some q → (q < first) × (name_of (slice_get all q) ≡ name)
 
--- what is written for a place: the value gives the same place, nodes and names again
+-- the value written for a place reads as the same place, nodes and names
 pub record Trip (n : ℕ) (all : List NodeView) (space : List ℕ) (known : Known) (first place : ℕ) (nodes : List NodeView) (known2 : Known) : Type 0 where
   pub value : Data
   pub spelt : identity_at n all space place first ≡ (value, first + length nodes)
@@ -58,7 +58,7 @@ pub record FieldsTrip (n : ℕ) (all : List NodeView) (space : List ℕ) (known 
   pub bound : names_size nodes ≤ items_size value
   pub mentioned : fields_mentions all fields + mentions all nodes ≤ items_size value
 
--- ---- what is known
+-- ---- known names
 
 later : (all : List NodeView) (first more : ℕ) (known : Known) → Knows all first known → Knows all (first + more) known
 later all first more known k = record { at = λ name q e. let h = k.at name q e in (omega arith, h.1) }
@@ -97,7 +97,7 @@ mention_is all place = refl
 -- ---- the forms
 
 module _ (m : ℕ) (all before after : List NodeView) (space : List ℕ) (known : Known) (first : ℕ) (first_is : first ≡ length before) (k : Knows all first known) where
-  -- a node that is written whole
+  -- the first use of a node, which is written in full
   first_time : (node : NodeView) (rest : List NodeView) → all ≡ before ++ node ∷ rest → identity_at (suc m) all space first first ≡ node_value (identity_at m all) space first (Some node)
   first_time node rest all_is = at_suc (suc m) all space first first m refl ∙ ap (node_value (identity_at m all) space first) (at_first all before rest node first all_is first_is)
 
@@ -233,7 +233,7 @@ module _ (m : ℕ) (all before after : List NodeView) (space : List ℕ) (known 
           mentioned = omega (arith, t.mentioned, named_at (rec named fields extra) (nodes ++ after) all_is, held);
         }
 
--- ---- what is no primitive's name
+-- ---- names that aren't those of primitive types
 
 not_primitive : (o : Option Kind) (name : List ℕ) → kind_or_other o name ≡ type_name.Reference → o ≡ None
 not_primitive (Some kind) name e = absurd cc
@@ -349,12 +349,12 @@ mutual
       let rest = fields_trip others all (before ++ nodes) after (parts ∙ sym (append_assoc before nodes (more ++ after))) (omega (arith, first_is, length-append before nodes)) t.knows good in
       field_more n all space known known2 known3 first ms f fields nodes more i t rest
 
--- ---- the whole
+-- ---- the identity text
 
 nothing_known : (all : List NodeView) (first : ℕ) → Knows all first none_known
 nothing_known all first = record { at = λ name q e. absurd cc }
 
--- what is written for the nodes that a value gives is a value that gives the same nodes, the same names and the first place
+-- The value written for the nodes that a value denotes reads as the same nodes, names and root place.
 pub identity_denotes : (d : Data) (place : ℕ) (nodes : List NodeView) (known : Known) → Denotes max_nesting [] d none_known 0 place nodes known → Denotes max_nesting [] (identity_value nodes) none_known 0 place nodes known
 identity_denotes d place nodes known given =
     let t = trips given nodes [] [] (sym (append-nil nodes)) refl (nothing_known nodes 0) refl in
@@ -371,10 +371,10 @@ module _ (d : Data) (place : ℕ) (nodes : List NodeView) (known : Known) (given
       let root : place ≡ 0 = omega (arith, root_trip.within) in
       ap (λ (x : Counted Data). x.0) (sym (ap (λ (q : ℕ). identity_at max_nesting nodes [] q 0) (sym root) ∙ root_trip.spelt))
 
-  -- the identity text holds each full name and each full alias
+  -- the identity text contains all full names and full aliases
   pub names_bounded : names_size nodes ≤ length (identity nodes)
   names_bounded = omega (arith, root_trip.bound, text_long (identity_value nodes), ap data_size value_written)
 
-  -- and the name of each type that a node is made of
+  -- the identity text contains the name of each type inside another
   pub mentions_bounded : mentions nodes nodes ≤ length (identity nodes)
   mentions_bounded = omega (arith, root_trip.mentioned, text_long (identity_value nodes), ap data_size value_written)

@@ -1,4 +1,4 @@
--- Reading one part after the other, as the loops do.
+-- Reading parts in order, as the loops do.
 use Rattle.std.proofs.Common.{◌≡◌, ℕ, zero, suc, ◌+◌, ◌-◌, ◌<◌, List, [], ◌∷◌, ◌++◌, length, take, drop, set, Option, Some, None, option_map, refl, sym, ap, ap₂, ◌∙◌, append_assoc, append-nil, length-append, length-drop, arith}
 use Rattle.std.proofs.lemmas.List.{length-map, map_push, take_all, drop_at}
 use Rattle.serde_json.specs.Data.{Data, Items, no_items, item}
@@ -11,7 +11,7 @@ use Rattle.avro_schema.specs.Inside.ReaderResults.{Fails, AddsPart}
 use Rattle.avro_schema.specs.declared.error.SchemaError.{SchemaError}
 use Rattle.avro_schema.proofs.ReaderErrors.{fails_from}
 
--- what was read before, in front of what is still read
+-- the parts read so far, followed by the rest
 abbrev pub onto : {A : Type 0} → List A → List NodeView → Option (Part (List A)) → Option (Part (List A))
 onto done added o = option_map (λ p. record { it = done ++ p.it; nodes = added ++ p.nodes; known = p.known }) o
 
@@ -31,7 +31,7 @@ onto_nothing : {A : Type 0} (done : List A) (added : List NodeView) (known : Kno
 onto_nothing {A = A} done added known = ap₂ (λ (it : List A) (nodes : List NodeView). Some (record { it = it; nodes = nodes; known = known })) (append-nil done) (append-nil added)
 
 module _ {A : Type 0} (one : PartReader A) where
-  -- a loop that has read these, and goes on with the rest
+  -- the state of a loop that has read `done` and continues with the rest
   pub record Going (all : Items) (known0 : Known) (first : ℕ) (before : List NodeView) (done : List A) (nodes : List NodeView) (known : Known) (at : ℕ) (rest : Items) : Type 0 where
     pub added : List NodeView
     pub nodes_are : nodes ≡ before ++ added
@@ -94,12 +94,12 @@ nodes-drop zero nodes = refl
 nodes-drop (suc n) [] = refl
 nodes-drop (suc n) (x ∷ nodes) = nodes-drop n nodes
 
--- the nodes from the place on where the new ones begin
+-- the nodes from the place at which the new ones begin
 pub new_nodes : (old all : List Node) (added : List NodeView) (from : ℕ) → nodes_view all ≡ nodes_view old ++ added → from ≡ length old → nodes_view (take (length all - from) (drop from all)) ≡ added
 new_nodes old all added from e is =
     ap nodes_view (take_all (length all - from) (drop from all) (omega (arith, length-drop from all))) ∙ nodes-drop from all ∙ ap (drop from) e ∙ drop_at (nodes_view old) added from (length-nodes old ∙ sym is)
 
--- ---- a node that is put in front of those of its parts, once they are read
+-- ---- a node that precedes those of its parts and is filled in after them
 
 set_middle : (before : List NodeView) (blank s : NodeView) (added : List NodeView) → set ((before ++ blank ∷ []) ++ added) (length before) s ≡ before ++ s ∷ added
 set_middle [] blank s added = refl
@@ -108,6 +108,6 @@ set_middle (x ∷ before) blank s added = ap (λ (xs : List NodeView). x ∷ xs)
 pub settled : (before mid after added : List NodeView) (place : ℕ) (blank s : NodeView) → mid ≡ before ++ blank ∷ [] → after ≡ mid ++ added → place ≡ length before → set after place s ≡ before ++ s ∷ added
 settled before mid after added place blank s mid_is after_is place_is = rw (after_is, mid_is, place_is) (set_middle before blank s added)
 
--- the place of a node that was pushed is still there once others follow
+-- the place of a pushed node doesn't change when others follow
 pub still_there : (mid after : List Node) (added : List NodeView) (place n : ℕ) → nodes_view after ≡ nodes_view mid ++ added → length mid ≡ n + 1 → place ≡ n → place < length after
 still_there mid after added place n e longer here = omega (arith, length-nodes mid, length-nodes after, ap length e, length-append (nodes_view mid) added)

@@ -1,4 +1,4 @@
--- The names of a definition among the strings of what is written for it.
+-- The names of a definition are among the strings of the value written for it.
 use Rattle.std.proofs.Common.{◌≡◌, ℕ, ◌+◌, ◌≤◌, List, [], ◌∷◌, ◌++◌, length, Bool, true, false, cond, Option, Some, None, codes, bytes_eq, refl, sym, ap, ◌∙◌, true≢false, Ordering, Less, Equal, Greater, nat_cmp, is_eq, arith}
 use Rattle.std.specs.Cmp.Lexicographic.{slice_cmp}
 use Rattle.std.specs.Ordering.{match_ordering}
@@ -14,7 +14,7 @@ use Rattle.avro_schema.specs.Inside.Mentions.{mentions}
 use Rattle.avro_schema.proofs.Inversion.{get-without}
 use Rattle.avro_schema.proofs.RoundDeclarations.{aliases_due}
 
--- ---- members of different keys
+-- ---- members with different keys
 
 abbrev pub option_size : Option Data → ℕ
 option_size None = 0
@@ -29,7 +29,7 @@ found_at Equal false k l d ms is later = absurd (true≢false is)
 found_at Greater true k l d ms is later = absurd (true≢false (sym is))
 found_at Greater false k l d ms is later = omega (arith, later)
 
--- a member and those of the other keys
+-- one member, and the members with other keys
 found : (k : List ℕ) (ms : Members) → option_size (get_member k ms) + members_size (without k ms) ≤ members_size ms
 found k no_members = omega arith
 found k (member l d ms) = found_at (slice_cmp nat_cmp k l) (bytes_eq k l) k l d ms (is_eq-slice_cmp k l) (found k ms)
@@ -46,7 +46,7 @@ due_size [] = refl
 due_size (t ∷ ts) = aliases_size (t ∷ ts)
 
 module _ (named : NamedView) (ms : Members) (name : get_member (codes "name") ms ≡ Some (string named.name)) (aliases : get_member (codes "aliases") ms ≡ aliases_due named.aliases) where
-  -- the names of a definition and one more of its members
+  -- the names of a definition, and one more of its members
   with_one : (k : List ℕ) → bytes_eq (codes "name") k ≡ false → bytes_eq (codes "aliases") k ≡ false → named_size named + option_size (get_member k ms) ≤ members_size ms
   with_one k a b =
       let inner = without (codes "name") ms in

@@ -1,4 +1,4 @@
--- What the reading computes, the rules say.
+-- The rules of `Denotes` say what the reader computes.
 use Rattle.std.proofs.Common.{◌≡◌, ℕ, zero, suc, ◌+◌, ◌≤◌, List, [], ◌∷◌, ◌++◌, length, map, true, false, cond, ◌||◌, Option, Some, None, codes, bytes_eq, refl, sym, ap, subst, ◌∙◌, true≢false}
 use Rattle.std.specs.Prelude.{nat_le, is_some, ◌==◌}
 use Rattle.std.proofs.lemmas.Bool.{leb-true}
@@ -44,7 +44,7 @@ none_known_at None None e = (refl, refl)
 none_known_at None (Some y) e = absurd (true≢false e)
 none_known_at (Some x) b e = absurd (true≢false e)
 
--- inside an object, whose `type` was taken out
+-- the members of an object without `type`
 abbrev inside : Members → Members
 inside ms = without_all (codes "type" ∷ []) ms
 
@@ -201,9 +201,9 @@ object_members (json.number x) ms2 e = absurd cc
 object_members (string s) ms2 e = absurd cc
 object_members (json.array ds) ms2 e = absurd cc
 
--- ---- types inside types, by the rules one level below
+-- ---- nested types, by the rules one level deeper
 
--- the rules give branches of these numbers
+-- the rules give branches with these numbers
 abbrev BranchesSay : ℕ → List ℕ → Items → Known → ℕ → Part (List (ℕ × ℕ)) → Type 0
 BranchesSay n space ds known first ps = (bs : List (ℕ × BranchKind)) × (numbered bs ≡ ps.it) × Branches n space ds known first bs ps.nodes ps.known
 

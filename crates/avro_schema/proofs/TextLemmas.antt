@@ -1,4 +1,4 @@
--- What a text denotes, computed and by the rules.
+-- The computed reading of a text agrees with the rules.
 use Rattle.std.proofs.Common.{Bool, ◌≡◌, ◌≢◌, ℕ, ◌≤◌, List, [], length, true, false, cond, Option, Some, None, refl, sym, ap, subst, ◌∙◌, true≢false, length-append, arith, ◌<◌, ◌+◌}
 use Rattle.std.specs.Prelude.{nat_le, IsTrue, ◌&&◌}
 use Rattle.std.proofs.lemmas.Bool.{and_parts, le-leb, leb-true}
@@ -35,7 +35,7 @@ use Rattle.avro_schema.proofs.FittingLemmas.{defaults_say, defaults_compute}
 use Rattle.avro_schema.proofs.RoundTrip.{names_bounded, mentions_bounded}
 use Rattle.avro_schema.proofs.WeightLemmas.{weighs}
 
--- an error other than of memory says that nothing is given
+-- an error other than `OutOfMemory` implies that the definition gives `None`
 pub refused : {A : Type 0} (e : SchemaError) (o : Option A) → e ≢ OutOfMemory → Fails e o → o ≡ None
 refused OutOfMemory o other f = absurd (other refl)
 refused _ o other f = f
@@ -45,7 +45,7 @@ pub typed_is : (text : List ℕ) (d : Data) (p : ℕ) (after : List NodeView) (k
 unfolding declared_nodes root_in
 typed_is text d p after known2 short e light root = rw (le-leb (length text) max_text short, e, light, root.is, ← root.after_is) refl
 
--- where its value is no type, it has no nodes
+-- if its value is no type, the text has no nodes
 pub not_typed : (text : List ℕ) (d : Data) → length text ≤ max_text → value_in text ≡ Some d → nat_le (weight max_nesting [] d) max_text ≡ true → type_at max_nesting [] d none_known 0 ≡ None → declared_nodes text ≡ None
 unfolding declared_nodes root_in
 not_typed text d short e light none = rw (le-leb (length text) max_text short, e, light, none) refl
@@ -58,7 +58,7 @@ value_computes : (text respelt : List ℕ) (d : Data) → plain text ≡ Some re
 unfolding value_in
 value_computes text respelt d e f = rw (e, f) refl
 
--- ---- the root stands at place 0
+-- ---- the root is at place 0
 
 nothing_at : (dot : Bool) (o : Option ℕ) → o ≡ None → cond dot o (or_else o o) ≡ None
 nothing_at true o e = e
@@ -80,7 +80,7 @@ root_place (enum_type s n e o h) k = refl
 root_place (record_type s n i o h fs d) k = refl
 root_place (union_type h bs d) k = refl
 
--- ---- no more places than there may be
+-- ---- the number of nodes is within its limit
 
 mutual
   pub places_below : {n : ℕ} {space : List ℕ} {d : Data} {first place : ℕ} {known known2 : Known} {nodes : List NodeView} → Denotes n space d known first place nodes known2 → first ≤ max_places → first + length nodes ≤ max_places
@@ -103,13 +103,13 @@ mutual
   fields_below no_field k = omega arith
   fields_below (field {nodes = nodes} {more = more} i t d rest) k = let here = places_below d k in let others = fields_below rest here in omega (arith, length-append nodes more)
 
--- a schema has at most 4,096 places
+-- a schema has at most 4,096 nodes
 pub few_places : (nodes : List NodeView) → IsSchema nodes → length nodes ≤ max_places
 few_places nodes s = let h = places_below s.1.type_is (omega arith) in omega arith
 
 -- ---- types
 
--- what the types of a text give, before defaults and identity text are looked at
+-- the nodes that the types of a text give, before the checks of defaults and identity text
 pub record Types (text : List ℕ) (nodes : List NodeView) : Type 0 where
   pub respelt : List ℕ
   pub value : Data
@@ -145,7 +145,7 @@ typed_computes text respelt value known nodes short p v t bounded =
     let light : weight max_nesting [] value ≤ max_text = omega (arith, weighs t, names_bounded value 0 nodes known t, bounded) in
     rw (le-leb (length text) max_text short, value_computes text respelt value p v, le-leb (weight max_nesting [] value) max_text light, computes t) refl
 
--- the condition of the identity text
+-- the condition on the identity text
 pub typed_whole : (text : List ℕ) (nodes : List NodeView) → declared_nodes text ≡ Some nodes → IsTrue (nodes_pass has_whole_numbers nodes)
 typed_whole text nodes e =
     let t = typed_says text nodes e in
@@ -153,7 +153,7 @@ typed_whole text nodes e =
 
 -- ---- texts
 
--- what is computed is denoted
+-- the computed nodes are denoted
 pub denoted_says : (text : List ℕ) (nodes : List NodeView) → declared_nodes text ≡ Some nodes → node_defaults_fit nodes nodes ≡ true → length (identity nodes) ≤ max_text → TextDenotes text nodes
 denoted_says text nodes e fit short =
     let t = typed_says text nodes e in
@@ -169,7 +169,7 @@ denoted_says text nodes e fit short =
       bounded = short;
     }
 
--- what is denoted is computed
+-- the denoted nodes are computed
 pub denotes_typed : (text : List ℕ) (nodes : List NodeView) → TextDenotes text nodes → declared_nodes text ≡ Some nodes
 denotes_typed text nodes t = typed_computes text t.respelt t.value t.known nodes t.short t.plain_is t.value_is t.type_is t.bounded
 
@@ -180,7 +180,7 @@ pub denotes_computes : (text : List ℕ) (nodes : List NodeView) → TextDenotes
 unfolding denoted_nodes nodes_that_fit
 denotes_computes text nodes t = rw (denotes_typed text nodes t, denotes_fitting text nodes t, le-leb (length (identity nodes)) max_text t.bounded) refl
 
--- what is computed of a whole text is denoted
+-- the nodes computed after all checks are denoted
 pub computed_denotes : (text : List ℕ) (nodes : List NodeView) → denoted_nodes text ≡ Some nodes → TextDenotes text nodes
 unfolding denoted_nodes nodes_that_fit
 computed_denotes text nodes e =
@@ -193,24 +193,24 @@ computed_denotes text nodes e =
 pub one_schema : (text : List ℕ) (xs ys : List NodeView) → TextDenotes text xs → TextDenotes text ys → xs ≡ ys
 one_schema text xs ys t u = same_Some _ _ (sym (denotes_typed text xs t) ∙ denotes_typed text ys u)
 
--- where no types are computed, nothing is denoted
+-- if no types are computed, nothing is denoted
 pub none_typed : (text : List ℕ) → declared_nodes text ≡ None → (nodes : List NodeView) → ¬ TextDenotes text nodes
 none_typed text none nodes t = let e = denotes_typed text nodes t in absurd cc
 
--- where a default does not fit, nothing is denoted
+-- if a default doesn't fit, nothing is denoted
 pub none_fitting : (text : List ℕ) (nodes : List NodeView) → declared_nodes text ≡ Some nodes → node_defaults_fit nodes nodes ≡ false → (others : List NodeView) → ¬ TextDenotes text others
 none_fitting text nodes e misfit others t =
     let same : nodes ≡ others = same_Some _ _ (sym e ∙ denotes_typed text others t) in
     true≢false (sym (denotes_fitting text others t) ∙ ap (λ (x : List NodeView). node_defaults_fit x x) (sym same) ∙ misfit)
 
--- where the names of the types that nodes are made of are too long, nothing is denoted
+-- if the names of the types inside other types are too long, nothing is denoted
 pub none_mentioned : (text : List ℕ) (nodes : List NodeView) → declared_nodes text ≡ Some nodes → nat_le (mentions nodes nodes) max_text ≡ false → (others : List NodeView) → ¬ TextDenotes text others
 none_mentioned text nodes e long others t =
     let same : nodes ≡ others = same_Some _ _ (sym e ∙ denotes_typed text others t) in
     let fit : mentions others others ≤ max_text = omega (arith, mentions_bounded t.value 0 others t.known t.type_is, t.bounded) in
     true≢false (sym (le-leb (mentions others others) max_text fit) ∙ ap (λ (x : List NodeView). nat_le (mentions x x) max_text) (sym same) ∙ long)
 
--- where the identity text is too long, nothing is denoted
+-- if the identity text is too long, nothing is denoted
 pub none_bounded : (text : List ℕ) (nodes : List NodeView) → declared_nodes text ≡ Some nodes → max_text < length (identity nodes) → (others : List NodeView) → ¬ TextDenotes text others
 none_bounded text nodes e long others t =
     let same : nodes ≡ others = same_Some _ _ (sym e ∙ denotes_typed text others t) in

@@ -1,4 +1,4 @@
--- A field's label is read without its type, so the type may be taken out before.
+-- The reader doesn't need a field's `type` for its other attributes, so `type` may be removed first.
 use Rattle.std.proofs.Common.{◌≡◌, ℕ, List, [], ◌∷◌, Bool, true, false, cond, Some, bytes_eq, codes, refl, ap, sym, ◌∙◌}
 use Rattle.serde_json.specs.Data.{Data, Members, no_members, member}
 use Rattle.serde_json.specs.Find.{get_member, as_object}

@@ -1,4 +1,4 @@
--- A value's weight is the size of the names of the nodes that it denotes.
+-- A value's weight is the size of the names in the nodes that it denotes.
 use Rattle.std.proofs.Common.{◌≡◌, ℕ, List, ◌∷◌, length, Bool, true, false, cond, Option, Some, None, codes, refl, sym, ap, ◌∙◌, arith}
 use Rattle.std.specs.Prelude.{option_and_then, unwrap_or}
 use Rattle.std.proofs.lemmas.Option.{same_Some}
@@ -29,7 +29,7 @@ full_there : (space name : List ℕ) → has_dot name ≡ true → full_name_in 
 unfolding full_name_in
 full_there space name dot = rw dot refl
 
--- the namespace of the full name, and the full name in it
+-- the namespace of the full name, and the full name in this namespace
 abbrev Placed : List ℕ → List ℕ → Members → List ℕ → Type 0
 Placed space text ms full = (namespace_in space text ms ≡ namespace_of full) × (full_name_in (namespace_of full) text ≡ full)
 

@@ -1,4 +1,4 @@
--- What a JSON value denotes as a type, one rule for each form of a declaration (Avro 1.11 specification, Schema Declaration).
+-- Which type a JSON value denotes, with one rule for each form of declaration (Avro 1.11 specification, Schema Declaration).
 use Rattle.std.specs.Prelude.{◌≡◌, ◌≢◌, ℕ, suc, ◌+◌, ◌<◌, ◌≤◌, List, [], ◌∷◌, ◌++◌, length, map, true, Option, Some, None, codes}
 use Rattle.serde_json.specs.Data.{Data, string, Items, no_items, item, Members, depth, members_depth}
 use Rattle.serde_json.specs.Data as json
@@ -14,22 +14,22 @@ use Rattle.avro_schema.specs.Keywords.{kind_of, type_name_of}
 use Rattle.avro_schema.specs.Attributes.{without_all, text_in, array_in, text_if_any, texts_in, texts_if_any, size_of, fallback_in, order_in}
 use Rattle.avro_schema.specs.Kinds.{BranchKind, branch_kind}
 
--- none of the list is this one
+-- no element of the list equals `x`
 abbrev pub Lacks : {X : Type 0} → List X → X → Type 0
 Lacks [] x = Unit {0}
 Lacks (y ∷ ys) x = (x ≢ y) × Lacks ys x
 
--- none stands twice
+-- the elements of the list are distinct
 abbrev pub AllDiffer : {X : Type 0} → List X → Type 0
 AllDiffer [] = Unit {0}
 AllDiffer (x ∷ xs) = Lacks xs x × AllDiffer xs
 
--- The other attributes are those of no key with a meaning. Each nests within the limit.
+-- `extra` are the members of an object whose keys aren't in `keys`. They nest within the limit.
 pub record IsExtra (keys : List (List ℕ)) (ms extra : Members) : Type 0 where
   pub are : extra ≡ without_all keys ms
   pub shallow : members_depth extra ≤ max_nesting
 
--- The names of a new definition: a full name that is not defined so far and does not end in a primitive's name, and aliases (Names; Aliases)
+-- The names of a new definition (Names; Aliases). Its full name is not defined yet, and the last part is not the name of a primitive type.
 pub record IsNamed (space : List ℕ) (ms : Members) (known : Known) (named : NamedView) : Type 0 where
   pub text : List ℕ
   pub attribute : Option (List ℕ)
@@ -40,7 +40,8 @@ pub record IsNamed (space : List ℕ) (ms : Members) (known : Known) (named : Na
   pub free : kind_of (last_part named.name) ≡ None
   pub aliases : texts_if_any (alias_in (namespace_of named.name)) (get_member (codes "aliases") ms) ≡ Some named.aliases
 
--- The symbols, simple names of which none stands twice, and the default, one of them, if there is one (Complex Types, Enums). There may be no symbol (this project's choice).
+-- The symbols and the default of an enum (Complex Types, Enums). The symbols are distinct simple names; there may be none (this project's
+-- choice). The default, if present, is one of them.
 pub record IsEnum (ms : Members) (symbols : List (List ℕ)) (fallback : Option (List ℕ)) : Type 0 where
   pub items : Items
   pub items_are : array_in (codes "symbols") ms ≡ Some items
@@ -48,7 +49,7 @@ pub record IsEnum (ms : Members) (symbols : List (List ℕ)) (fallback : Option 
   pub differ : AllDiffer symbols
   pub fallback_is : fallback_in symbols (get_member (codes "default") ms) ≡ Some fallback
 
--- What a field says beside its type (Complex Types, Records). A default nests within the limit.
+-- The attributes of a field other than its type (Complex Types, Records). The default nests within the limit.
 pub record IsField (ms : Members) (field : FieldView) : Type 0 where
   pub name : text_in (codes "name") ms ≡ Some field.name
   pub simple : is_simple field.name ≡ true
@@ -58,7 +59,7 @@ pub record IsField (ms : Members) (field : FieldView) : Type 0 where
   pub shallow : (d : Data) → field.value ≡ Some d → depth d ≤ max_nesting
   pub others : IsExtra (codes "name" ∷ codes "aliases" ∷ codes "order" ∷ codes "default" ∷ codes "type" ∷ []) ms field.extra
 
--- the keys with a meaning of an array, a map, a fixed, an enum and a record, in that order
+-- the keys that have a meaning in an array, a map, a fixed, an enum and a record, in this order
 abbrev pub array_keys : List (List ℕ)
 array_keys = codes "type" ∷ codes "items" ∷ []
 
@@ -74,24 +75,25 @@ enum_keys = codes "type" ∷ codes "name" ∷ codes "namespace" ∷ codes "alias
 abbrev pub record_keys : List (List ℕ)
 record_keys = codes "type" ∷ codes "name" ∷ codes "namespace" ∷ codes "aliases" ∷ codes "fields" ∷ []
 
--- what an object's attribute `type` says
+-- the object's attribute `type` is a string with this meaning
 abbrev pub HasTypeName : Members → TypeName → Type 0
 HasTypeName ms w = (name : List ℕ) × (text_in (codes "type") ms ≡ Some name) × (type_name_of name ≡ w)
 
--- In a nesting of so many levels and inside the namespace, with the names known so far, the value gives the type at this place and the nodes from
--- `first` on: its own node and then those of its parts, in order; and then these names are known.
+-- `Denotes n space value known first place nodes known2`: nested at most `n` levels deep, in the namespace `space` and with the names
+-- `known` defined, the value denotes the type at `place`. It adds `nodes` from the place `first` on: its own node, then those of the types
+-- inside it, in order. Then the names `known2` are defined.
 mutual
   pub data Denotes : ℕ → List ℕ → Data → Known → ℕ → ℕ → List NodeView → Known → Type 0 where
-    -- a string that is a primitive's name (Primitive Types)
+    -- a string that names a primitive type (Primitive Types)
     a_primitive : {n : ℕ} {space name : List ℕ} {known : Known} {first : ℕ} {kind : Kind} → kind_of name ≡ Some kind → first < max_places
         → Denotes (suc n) space (string name) known first first (primitive kind json.no_members ∷ []) known
-    -- any other string is a reference, which makes no node (Names)
+    -- any other string is a reference, which adds no node (Names)
     a_reference : {n : ℕ} {space name : List ℕ} {known : Known} {first place : ℕ} → kind_of name ≡ None → resolved known space name ≡ Some place
         → Denotes (suc n) space (string name) known first place [] known
-    -- an object whose type is a primitive's name, with other attributes (Primitive Types)
+    -- an object whose `type` names a primitive type, with other attributes (Primitive Types)
     primitive_type : {n : ℕ} {space : List ℕ} {ms extra : Members} {known : Known} {first : ℕ} {kind : Kind} → HasTypeName ms (type_name.Primitive kind) → IsExtra (codes "type" ∷ []) ms extra → first < max_places
         → Denotes (suc n) space (json.object ms) known first first (primitive kind extra ∷ []) known
-    -- an object whose type is a reference; its other attributes are dropped (this project's choice)
+    -- an object whose `type` is a reference; its other attributes are dropped (this project's choice)
     reference_type : {n : ℕ} {space name : List ℕ} {ms extra : Members} {known : Known} {first place : ℕ} → text_in (codes "type") ms ≡ Some name → type_name_of name ≡ type_name.Reference
         → IsExtra (codes "type" ∷ []) ms extra → resolved known space name ≡ Some place
         → Denotes (suc n) space (json.object ms) known first place [] known
@@ -111,12 +113,13 @@ mutual
     enum_type : {n : ℕ} {space : List ℕ} {ms extra : Members} {known : Known} {first : ℕ} {named : NamedView} {symbols : List (List ℕ)} {fallback : Option (List ℕ)} → HasTypeName ms type_name.Enum
         → IsNamed space ms known named → IsEnum ms symbols fallback → IsExtra enum_keys ms extra → first < max_places
         → Denotes (suc n) space (json.object ms) known first first (enumeration named symbols fallback extra ∷ []) (defined known named.name first)
-    -- A record's name is known inside it, and its namespace is the one there (Complex Types, Records; Names). No two fields have one name (this project's choice).
+    -- A record's name is defined inside it, and its namespace is the enclosing one there (Complex Types, Records; Names). Field names are
+    -- distinct (this project's choice).
     record_type : {n : ℕ} {space : List ℕ} {ms extra : Members} {items : Items} {known known2 : Known} {first : ℕ} {named : NamedView} {fields : List FieldView} {nodes : List NodeView} → HasTypeName ms type_name.Record
         → IsNamed space ms known named → array_in (codes "fields") ms ≡ Some items → IsExtra record_keys ms extra → first < max_places
         → Fields n (namespace_of named.name) items (defined known named.name first) (first + 1) fields nodes known2 → AllDiffer (map (λ f. f.name) fields)
         → Denotes (suc n) space (json.object ms) known first first (rec named fields extra ∷ nodes) known2
-    -- a JSON array is a union of its members, no two of one kind (Complex Types, Unions); it may be empty (this project's choice)
+    -- A JSON array is a union of its items, no two of the same kind (Complex Types, Unions). It may be empty (this project's choice).
     union_type : {n : ℕ} {space : List ℕ} {items : Items} {known known2 : Known} {first : ℕ} {branches : List (ℕ × BranchKind)} {nodes : List NodeView} → first < max_places
         → Branches n space items known (first + 1) branches nodes known2 → AllDiffer (map (λ b. b.1) branches)
         → Denotes (suc n) space (json.array items) known first first (union (map (λ b. b.0) branches) ∷ nodes) known2

@@ -1,5 +1,5 @@
--- The names of a schema by numbers: the rank of a name is its index among all names of the schema, which stand in the order of their bytes,
--- each once (this project's choice).
+-- The index of a schema: all its names in byte order, without duplicates. The rank of a name is its position in this list (this project's
+-- choice).
 use Rattle.std.specs.Prelude.{◌≡◌, ℕ, ◌<◌, ◌^◌, List, Some, map, length, slice_get, All, Contains}
 use Rattle.std.specs.Cmp.Lexicographic.{slice_cmp}
 use Rattle.std.specs.List.{AllPairs, AllZip}
@@ -14,47 +14,47 @@ use Rattle.avro_schema.specs.declared.index.Ranks.{Ranks}
 use Rattle.avro_schema.specs.declared.index.Ranks.TheVariants.{Unnamed, Fixed, Enum, Rec}
 use Rattle.avro_schema.specs.declared.index.Index.{Index}
 
--- each name is below all later ones in the order of their bytes, so that none stands twice
+-- the names are in byte order, without duplicates
 abbrev pub AreStrictlySorted : List (List ℕ) → Type 0
 AreStrictlySorted names = AllPairs (λ x y. slice_cmp nat_cmp x y ≡ Less) names
 
--- names that ranks tell: they rise, and 32 bits count them
+-- the names are in byte order, without duplicates, and fewer than 2^32
 pub record AreIndexNames (names : List (List ℕ)) : Type 0 where
   pub rise : AreStrictlySorted names
   pub few : length names < 2 ^ 32
 
--- the rank of a text is its index among the names
+-- the rank of a text is its position among the names
 abbrev pub IsRank : List (List ℕ) → List ℕ → ℕ → Type 0
 IsRank names text rank = slice_get names rank ≡ Some text
 
--- the ranks of the texts, in their order
+-- the ranks of the texts, in the order of the texts
 abbrev pub AreRanks : List (List ℕ) → List (List ℕ) → List ℕ → Type 0
 AreRanks names texts ranks = map (λ rank. slice_get names rank) ranks ≡ map (λ text. Some text) texts
 
--- the ranks of the texts, in rising order, so that none stands twice
+-- the ranks of the texts, ascending and without duplicates
 pub record AreSortedRanks (names texts : List (List ℕ)) (ranks : List ℕ) : Type 0 where
   pub rise : IsStrictlyIncreasing ranks
-  -- each text's rank is one of them
+  -- the rank of each text is in the list
   pub each : All (λ text. (rank : ℕ) × Contains ranks rank × IsRank names text rank) texts
-  -- and each of them is a text's
+  -- each rank in the list is the rank of a text
   pub only : All (λ rank. (text : List ℕ) × Contains texts text × IsRank names text rank) ranks
 
--- a definition's names
+-- the ranks of a definition's names
 pub record IsNamedRanked (names : List (List ℕ)) (named : NamedView) (ranks : NamedRanks) : Type 0 where
   pub last : IsRank names (last_part named.name) ranks.last
   pub full : IsRank names named.name ranks.full
   pub aliases : AreSortedRanks names named.aliases ranks.aliases.items
 
--- a field's names
+-- the ranks of a field's names
 pub record IsFieldRanked (names : List (List ℕ)) (field : FieldView) (ranks : FieldRanks) : Type 0 where
   pub name : IsRank names field.name ranks.name
   pub aliases : AreRanks names field.aliases ranks.aliases.items
 
--- those of each field, in their order
+-- the ranks of each field's names, in the order of the fields
 abbrev pub AreFieldsRanked : List (List ℕ) → List FieldView → List FieldRanks → Type 0
 AreFieldsRanked names fields ranks = AllZip (IsFieldRanked names) fields ranks
 
--- ---- the names of a node, by its form
+-- ---- the ranks of a node's names, by the form of the node
 
 abbrev pub IsUnnamed : Ranks → Type 0
 IsUnnamed Unnamed = Unit {0}
@@ -89,11 +89,11 @@ IsRanked names (enumeration named symbols fallback extra) ranks = IsEnumRanked n
 IsRanked names (fixed named size extra) ranks = IsFixedRanked names named ranks
 IsRanked names (rec named fields extra) ranks = IsRecRanked names named fields ranks
 
--- those of each node, by its place
+-- the ranks of each node's names, by place
 abbrev pub AreRanked : List (List ℕ) → List NodeView → List Ranks → Type 0
 AreRanked names nodes ranks = AllZip (IsRanked names) nodes ranks
 
--- the index of the nodes
+-- the index of these nodes
 pub record IsIndex (nodes : List NodeView) (index : Index) : Type 0 where
   pub names : AreIndexNames (texts_view index.names.items)
   pub ranked : AreRanked (texts_view index.names.items) nodes index.ranks.items

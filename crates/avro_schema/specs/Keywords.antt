@@ -1,4 +1,4 @@
--- The words of a declaration (Avro 1.11 specification, Schema Declaration; Primitive Types; Complex Types).
+-- The keywords of declarations (Avro 1.11 specification, Schema Declaration; Primitive Types; Complex Types).
 use Rattle.std.specs.Prelude.{ℕ, List, if◌then◌else◌, Option, Some, None, codes}
 use Rattle.std.specs.Str.{bytes_eq}
 use Rattle.avro_nodes.specs.declared.node.Kind.{Kind}
@@ -8,7 +8,7 @@ use Rattle.avro_nodes.specs.declared.node.Order.TheVariants.{Ascending, Descendi
 use Rattle.avro_schema.specs.declared.keywords.TypeName.{TypeName}
 use Rattle.avro_schema.specs.declared.keywords.TypeName.TheVariants.{Primitive, Array, Map, Fixed, Enum, Record, Reference}
 
--- a primitive type's name
+-- the primitive type with this name
 unfoldable pub kind_of : List ℕ → Option Kind
 kind_of s =
     if bytes_eq s (codes "null") then Some Null else
@@ -20,7 +20,7 @@ kind_of s =
     (if bytes_eq s (codes "bytes") then Some Bytes else
     (if bytes_eq s (codes "string") then Some Text else None)))))))
 
--- the name of a complex type, or else of a named one
+-- the complex type with this name, else a reference
 abbrev pub other_word : List ℕ → TypeName
 other_word s =
     if bytes_eq s (codes "record") then Record else
@@ -33,11 +33,11 @@ abbrev pub kind_or_other : Option Kind → List ℕ → TypeName
 kind_or_other (Some kind) s = Primitive kind
 kind_or_other None s = other_word s
 
--- what an object's `type` says that it is
+-- the meaning of the attribute `type` of an object
 unfoldable pub type_name_of : List ℕ → TypeName
 type_name_of s = kind_or_other (kind_of s) s
 
--- a field's `order` (Avro 1.11 specification, Complex Types, Records)
+-- the `order` of a field (Avro 1.11 specification, Complex Types, Records)
 unfoldable pub order_of : List ℕ → Option Order
 order_of s =
     if bytes_eq s (codes "ascending") then Some Ascending else

@@ -1,16 +1,18 @@
--- The kinds of a union's branches, of which no two may be one (Avro 1.11 specification, Complex Types, Unions).
+-- The kinds of a union's branches, which must be distinct (Avro 1.11 specification, Complex Types, Unions).
 use Rattle.std.specs.Prelude.{ℕ, List, [], ◌∷◌, Option, Some, None}
 use Rattle.avro_nodes.specs.declared.node.Kind.{Kind}
 use Rattle.avro_nodes.specs.Nodes.{NodeView, primitive, array, mapping, union, enumeration, fixed, rec}
 
--- Each primitive type is a kind, all arrays are of one kind and all maps of another, and each named type is a kind, known by its place.
+-- Each primitive type is a kind, all arrays are one kind, and all maps are another. Each named type is its own kind, identified by its
+-- place.
 pub data BranchKind : Type 0 where
   primitive_kind : Kind → BranchKind
   array_kind : BranchKind
   map_kind : BranchKind
   named_kind : ℕ → BranchKind
 
--- The kind of a branch at this place that adds these nodes. One that adds none is a reference to a named type. A union is no branch.
+-- The kind of a branch that has this place and added these nodes. A branch that added no nodes is a reference to a named type. A union
+-- can't be a branch.
 unfoldable pub branch_kind : ℕ → List NodeView → Option BranchKind
 branch_kind place [] = Some (named_kind place)
 branch_kind place (primitive kind extra ∷ more) = Some (primitive_kind kind)

@@ -1,4 +1,4 @@
--- What a text denotes.
+-- Which schema a text denotes.
 use Rattle.std.specs.Prelude.{◌≡◌, ℕ, ◌≤◌, List, [], length, Some}
 use Rattle.serde_json.specs.Data.{Data}
 use Rattle.serde_json.specs.Read.{read}
@@ -10,8 +10,9 @@ use Rattle.avro_schema.specs.Names.{Known, none_known}
 use Rattle.avro_schema.specs.Defaults.{DefaultsFit}
 use Rattle.avro_schema.specs.Denotes.{Denotes}
 
--- The text, whose numbers are whole ones of 64 bits, is read as JSON, and the value denotes these nodes: in the null namespace, with no names known
--- before, and from place 0 on, where the root is. Each default fits its field, and the identity text is no longer than a text may be.
+-- The text denotes these nodes. It is JSON, and all its numbers are 64-bit integers. Its value denotes the nodes in the null namespace,
+-- with no names known, from place 0 on, and the root is at place 0. Every default fits its field. Neither the text nor the identity text is
+-- longer than `max_text` bytes.
 pub record TextDenotes (text : List ℕ) (nodes : List NodeView) : Type 0 where
   pub respelt : List ℕ
   pub value : Data
@@ -27,7 +28,7 @@ pub record TextDenotes (text : List ℕ) (nodes : List NodeView) : Type 0 where
 abbrev pub IsSchema : List NodeView → Type 0
 IsSchema nodes = (text : List ℕ) × TextDenotes text nodes
 
--- what a schema keeps: its nodes and their identity text
+-- the invariant of `Schema`: some text denotes its nodes, and its text is their identity text
 pub record SchemaInvariant (nodes : List NodeView) (text : List ℕ) : Type 0 where
   pub schema : IsSchema nodes
   pub text_is : text ≡ identity nodes

@@ -1,4 +1,4 @@
-//! The attributes of a declaration, which are taken out of a JSON object one by one.
+//! Removes the attributes of a declaration from its JSON object, one at a time.
 
 ghost use Rattle.std.specs.Prelude.{IsTrue, ◌≡◌, Some, None, option_map, option_and_then, string_bytes};
 ghost use Rattle.serde_json.specs.Find.{get_member};
@@ -14,7 +14,7 @@ use crate::error::SchemaError;
 use crate::names;
 use std::alloc::Global;
 
-/// Takes an attribute out that is a string.
+/// Removes an attribute, and returns its value if it is a string.
 #[tactic(auto, unfolding(crate::specs::Attributes::text_in))]
 pub fn take_text<'a>(attributes: &mut Attributes<'a>, key: &str) -> Option<&'a str>
     requires { IsTrue (is_reserved_name key.now) }
@@ -29,7 +29,7 @@ pub fn take_text<'a>(attributes: &mut Attributes<'a>, key: &str) -> Option<&'a s
     }
 }
 
-/// Takes an attribute out that is an array.
+/// Removes an attribute, and returns its value if it is an array.
 #[tactic(auto, unfolding(crate::specs::Attributes::array_in))]
 pub fn take_items<'a>(attributes: &mut Attributes<'a>, key: &str) -> Option<Vec<Json<'a>>>
     requires { IsTrue (is_reserved_name key.now) }
@@ -44,11 +44,11 @@ pub fn take_items<'a>(attributes: &mut Attributes<'a>, key: &str) -> Option<Vec<
     }
 }
 
-/// Takes an attribute out that is a string, and may be missing.
+/// Removes an optional attribute that must be a string, and returns it.
 ///
 /// # Errors
 ///
-/// `BadShape` where it is no string. It is taken out then too.
+/// `BadShape` if it isn't a string. The attribute is removed even then.
 #[tactic(auto, unfolding(crate::specs::Attributes::text_if_any))]
 pub fn take_text_if_any<'a>(
     attributes: &mut Attributes<'a>,
@@ -69,7 +69,8 @@ pub fn take_text_if_any<'a>(
     }
 }
 
-/// The name as the rule gives it: an alias of a type in the namespace, or else a simple name.
+/// The name that an item of a list gives. With a namespace it is the full name of an alias, without
+/// one a simple name.
 #[tactic(auto, unfolding(crate::specs::Inside::Declarations::rule_by))]
 fn name_by(alloc: Global, text: &str, space: Option<&str>) -> Result<String, SchemaError>
     ensures { Gives string_bytes result
@@ -88,12 +89,13 @@ fn name_by(alloc: Global, text: &str, space: Option<&str>) -> Result<String, Sch
     }
 }
 
-/// The names in an array, each by the rule.
+/// The names that the items of an array give: full names of aliases in the namespace, or simple
+/// names if there is no namespace.
 ///
 /// # Errors
 ///
-/// `BadShape` for an item that is no string, `BadName` for one that is no name by the rule, and
-/// `OutOfMemory` where memory is refused.
+/// `BadShape` if an item isn't a string, `BadName` if it isn't such a name, and `OutOfMemory` if
+/// allocation fails.
 pub fn names_of(
     alloc: Global,
     items: Vec<Json<'_>>,
@@ -112,11 +114,11 @@ pub fn names_of(
     Ok(names)
 }
 
-/// The names in an attribute that is an array and may be missing, each by the rule.
+/// The same for an optional attribute. If it is missing, there are no names.
 ///
 /// # Errors
 ///
-/// `BadShape` where it is no array, and the errors of `names_of`.
+/// `BadShape` if the attribute isn't an array, and the errors of `names_of`.
 pub fn names_if_any(
     alloc: Global,
     attribute: Option<Json<'_>>,
@@ -134,7 +136,7 @@ pub fn names_if_any(
     }
 }
 
-/// A fixed's size in bytes, below 2^31.
+/// The size in bytes of a `fixed` type. It must be an integer below 2^31.
 #[tactic(auto, unfolding(crate::specs::Attributes::size_of))]
 pub fn size_of(attribute: Option<Json<'_>>) -> Option<u32>
     ensures { result ≡ size_of (option_map value_data attribute.entry) }

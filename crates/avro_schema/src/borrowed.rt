@@ -1,5 +1,4 @@
-//! JSON as a schema text has it. Reserved members are borrowed from the text, other members are
-//! owned.
+//! The JSON value of a schema text. Reserved members borrow from the text; other members are owned.
 
 ghost use Rattle.std.specs.Prelude.{◌≡◌, ◌<◌, None, Some, IsTrue, MatchOption, length, option_map, option_and_then, slice_get, OnOk, not, filter};
 ghost use Rattle.std.specs.List.{list_any};
@@ -14,7 +13,7 @@ use crate::others::OtherMembers;
 use serde_json::Number;
 use std::alloc::{AllocError, Global};
 
-/// A value.
+/// A JSON value whose strings borrow from the text.
 #[derive(Debug, Drop)]
 pub enum Json<'a> {
     Null,
@@ -25,10 +24,10 @@ pub enum Json<'a> {
     Object(Object<(&'a str, Json<'a>)>),
 }
 
-/// An object whose reserved members are of the type `M`.
+/// A JSON object. Its reserved members have the type `M`.
 #[derive(Debug, Drop)]
 pub struct Object<M> {
-    /// at most one of each name
+    /// at most one for each name
     pub reserved: Vec<M>,
     pub others: OtherMembers,
 }
@@ -36,8 +35,8 @@ pub struct Object<M> {
 /// The attributes of a declaration.
 pub type Attributes<'a> = Object<(&'a str, Json<'a>)>;
 
-/// Whether an attribute of this name has a meaning in some declaration. A default, which has one
-/// too, isn't reserved: it is owned, as the attributes without a meaning are.
+/// Whether an attribute with this name is borrowed: it has a meaning in some declaration. `default`
+/// has a meaning, too, but is owned like the attributes without one.
 #[tactic(auto, unfolding(crate::specs::Inside::Reserved::is_reserved))]
 pub fn is_reserved(key: &str) -> bool
     ensures { result ≡ is_reserved key.now }
@@ -52,7 +51,7 @@ pub fn is_reserved(key: &str) -> bool
     }
 }
 
-/// The text that the value is.
+/// The string, or `None` for another kind of value.
 pub fn text_of<'a>(value: &Json<'a>) -> Option<&'a str>
     ensures { option_map (λ s. s.now) result ≡ as_str (value_data value.now) }
 {
@@ -62,7 +61,7 @@ pub fn text_of<'a>(value: &Json<'a>) -> Option<&'a str>
     }
 }
 
-/// The items of the array that the value is.
+/// The items of an array, or `None` for another kind of value.
 pub fn items_of(value: Json<'_>) -> Option<Vec<Json<'_>>>
     ensures { option_map (λ v. items_data v.items) result ≡ as_array (value_data value.entry) }
 {
@@ -72,7 +71,7 @@ pub fn items_of(value: Json<'_>) -> Option<Vec<Json<'_>>>
     }
 }
 
-/// The items of the array that the value is, where it stands.
+/// The items of a borrowed array, or `None` for another kind of value.
 pub fn array_of<'t, 'a>(value: &'t Json<'a>) -> Option<&'t Vec<Json<'a>>>
     ensures { option_map (λ v. items_data v.now.items) result ≡ as_array (value_data value.now) }
 {
@@ -82,7 +81,7 @@ pub fn array_of<'t, 'a>(value: &'t Json<'a>) -> Option<&'t Vec<Json<'a>>>
     }
 }
 
-/// The members of the object that the value is, where it stands.
+/// The members of a borrowed object, or `None` for another kind of value.
 pub fn object_of<'t, 'a>(value: &'t Json<'a>) -> Option<&'t Attributes<'a>>
     ensures { option_map (λ m. members_data m.now) result ≡ as_object (value_data value.now) }
 {
@@ -92,7 +91,7 @@ pub fn object_of<'t, 'a>(value: &'t Json<'a>) -> Option<&'t Attributes<'a>>
     }
 }
 
-/// The members of the object that the value is.
+/// The members of an object, or `None` for another kind of value.
 pub fn members_of(value: Json<'_>) -> Option<Attributes<'_>>
     ensures { option_map (λ m. members_data m) result ≡ as_object (value_data value.entry) }
 {
@@ -102,7 +101,7 @@ pub fn members_of(value: Json<'_>) -> Option<Attributes<'_>>
     }
 }
 
-/// The whole number that the value is, if it isn't negative.
+/// The number, if the value is a nonnegative 64-bit integer.
 pub fn unsigned_of(value: &Json<'_>) -> Option<u64>
     ensures { result ≡ option_and_then as_u64 (as_number (value_data value.now)) }
 {
@@ -112,7 +111,7 @@ pub fn unsigned_of(value: &Json<'_>) -> Option<u64>
     }
 }
 
-/// The place of the last member of this name.
+/// The index of the last reserved member with this name.
 fn last_index(attributes: &Attributes<'_>, key: &str) -> Option<usize>
     requires { IsTrue (is_reserved_name key.now) }
     ensures { MatchOption result (get_member key.now (members_data attributes.now) ≡ None)
@@ -131,7 +130,7 @@ fn last_index(attributes: &Attributes<'_>, key: &str) -> Option<usize>
     None
 }
 
-/// The attribute of this reserved name.
+/// The attribute with this reserved name.
 pub fn find<'t, 'a>(attributes: &'t Attributes<'a>, key: &str) -> Option<&'t Json<'a>>
     requires { IsTrue (is_reserved_name key.now) }
     ensures { option_map (λ v. value_data v.now) result
@@ -149,7 +148,7 @@ fn has_member(members: &[(&str, Json<'_>)], key: &str) -> bool
     members.iter().any(|member| member.0 == key)
 }
 
-/// Takes out the members of this name, of which there are rarely any.
+/// Removes all members with this name. There are rarely any.
 fn remove_members<'a>(members: &mut Vec<(&'a str, Json<'a>)>, key: &str)
     ensures { members.new.items ≡ filter (λ m. not (bytes_eq m.0.now key.now)) members.old.items }
 {
@@ -163,7 +162,7 @@ fn remove_members<'a>(members: &mut Vec<(&'a str, Json<'a>)>, key: &str)
     );
 }
 
-/// Takes out the attribute of this reserved name.
+/// Removes the attribute with this reserved name, and returns it.
 pub fn take<'a>(attributes: &mut Attributes<'a>, key: &str) -> Option<Json<'a>>
     requires { IsTrue (is_reserved_name key.now) }
     ensures value { option_map value_data result
@@ -179,7 +178,7 @@ pub fn take<'a>(attributes: &mut Attributes<'a>, key: &str) -> Option<Json<'a>>
     Some(value)
 }
 
-/// No attributes.
+/// An object without members.
 pub fn no_attributes<'a>(alloc: Global) -> Attributes<'a>
     ensures { members_data result ≡ no_members }
 {
@@ -189,8 +188,8 @@ pub fn no_attributes<'a>(alloc: Global) -> Attributes<'a>
     }
 }
 
-/// Makes room for two values in a list that has none. Most objects have one or two reserved members,
-/// and most unions two branches.
+/// Reserves room for two values in a list that has no room yet. Most objects have one or two
+/// reserved members, and most unions have two branches.
 pub fn make_room<T>(list: &mut Vec<T>) -> Result<(), AllocError>
     ensures { list.new.items ≡ list.old.items }
 {
@@ -200,7 +199,7 @@ pub fn make_room<T>(list: &mut Vec<T>) -> Result<(), AllocError>
     Ok(())
 }
 
-/// Drops the attribute of this reserved name, of which there rarely is one.
+/// Drops the attribute with this reserved name. There rarely is one.
 fn drop_member(attributes: &mut Attributes<'_>, key: &str)
     requires { IsTrue (is_reserved_name key.now) }
     ensures { (value : Data) → put key.now value (members_data attributes.new)
@@ -213,7 +212,7 @@ fn drop_member(attributes: &mut Attributes<'_>, key: &str)
     remove_members(&mut attributes.reserved, key);
 }
 
-/// Adds an attribute of a reserved name, or replaces the one of this name.
+/// Adds an attribute with a reserved name, and replaces an earlier one with this name.
 ///
 /// # Errors
 ///

@@ -1,4 +1,4 @@
-//! Which JSON values fit a type as a default.
+//! Which JSON values fit a type as a default value.
 
 ghost use Rattle.std.specs.Prelude.{◌≡◌, map, option_map, Some, IfOk, IfSome, slice_get, string_bytes};
 ghost use Rattle.std.specs.List.{list_all};
@@ -20,7 +20,7 @@ mod fields;
 mod lookups;
 mod primitives;
 
-/// The member of this name.
+/// The member with this name.
 fn member_of<'a>(members: &'a Extra, key: &str) -> Option<&'a Value>
     ensures { option_map (λ v. view v.now) result
         ≡ get_member key.now (members_view members.now.entries) }
@@ -28,7 +28,7 @@ fn member_of<'a>(members: &'a Extra, key: &str) -> Option<&'a Value>
     members.get(key)
 }
 
-/// Whether the value, which nests less deep than the number, fits the type at the place.
+/// Whether the value, which must nest less than `depth` levels deep, fits the type at the place.
 #[cycle(fit)]
 #[tactic(auto, unfolding(crate::specs::Inside::Fitting::fits))]
 pub fn fits(
@@ -53,7 +53,7 @@ pub fn fits(
     }
 }
 
-/// Whether the value fits the node, whose fields the table has if there is one.
+/// Whether the value fits the node. If the node is a record, `table` may have its fields.
 #[cycle(fit)]
 fn node_fits(
     value: &Value,
@@ -150,7 +150,7 @@ fn fields_fit(
     true
 }
 
-/// The same, where only those fields are looked at that the members name or may not leave out.
+/// The same by the table: checks the required fields, and those that the members name.
 #[cycle(fit)]
 fn table_fits(
     members: &Extra,
@@ -208,7 +208,7 @@ fn named_fit(
     true
 }
 
-/// Whether the field fits that the table has at the name, if there is one.
+/// Whether the field fits that the table has for the name. `true` if the table has none.
 #[cycle(fit)]
 fn name_fits(
     name: &str,
@@ -228,7 +228,7 @@ fn name_fits(
     }
 }
 
-/// Whether the field at the index fits, if there is one.
+/// Whether the field at the index fits. `true` if the index is out of range.
 #[cycle(fit)]
 fn index_fits(
     members: &Extra,
@@ -264,11 +264,11 @@ fn field_fits(
     }
 }
 
-/// Whether each default fits its field.
+/// Whether every default fits its field.
 ///
 /// # Errors
 ///
-/// `AllocError` where room for the tables of the fields is refused.
+/// `AllocError` if allocation of the field tables fails.
 pub fn defaults_fit(alloc: Global, nodes: &[Node]) -> Result<bool, AllocError>
     ensures { IfOk result (λ b. b ≡ node_defaults_fit (nodes_view nodes.now) (nodes_view nodes.now)) }
 {

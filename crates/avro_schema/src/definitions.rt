@@ -1,4 +1,5 @@
-//! What a declaration says beside the types inside it: names, symbols, sizes, other attributes.
+//! The parts of a declaration other than the types inside it: names, symbols, sizes and other
+//! attributes.
 
 ghost use Rattle.std.specs.Prelude.{◌≡◌, length, Some, None, IfOk, OnOk, option_map, string_bytes, codes, ◌∷◌, []};
 ghost use Rattle.std.specs.Str.{bytes_eq};
@@ -26,11 +27,11 @@ use avro_nodes::{Extra, MAX_NESTING, MAX_PLACES, Named, Node, last_part, namespa
 use serde_json::Value;
 use std::alloc::Global;
 
-/// The place of the next node, if there is room.
+/// The place of the next node.
 ///
 /// # Errors
 ///
-/// `TooLarge` where there are as many nodes as a schema may have.
+/// `TooLarge` if the schema has the maximum number of nodes.
 #[tactic(auto, unfolding(crate::specs::Inside::ValueReaders::room_at))]
 pub fn next_place(nodes: &Vec<Node>) -> Result<u32, SchemaError>
     ensures room { Gives (λ p. p) result (room_at (length nodes.now.items)) }
@@ -43,11 +44,11 @@ pub fn next_place(nodes: &Vec<Node>) -> Result<u32, SchemaError>
     }
 }
 
-/// The other attributes, which nest within the limit.
+/// The remaining attributes as a map.
 ///
 /// # Errors
 ///
-/// `TooLarge` where one of them nests deeper, and `OutOfMemory` where memory is refused.
+/// `TooLarge` if one of them nests too deep, and `OutOfMemory` if allocation fails.
 #[tactic(auto, unfolding(crate::specs::Inside::Declarations::bounded))]
 pub fn other_attributes(alloc: Global, attributes: Attributes<'_>) -> Result<Extra, SchemaError>
     ensures { Gives (λ m. members_view m.entries) result
@@ -61,7 +62,8 @@ pub fn other_attributes(alloc: Global, attributes: Attributes<'_>) -> Result<Ext
     }
 }
 
-/// The full name, where it may be defined.
+/// Returns the full name if it may be defined: it is new and doesn't end in the name of a primitive
+/// type.
 fn if_free(full: String, known: &NameTable) -> Result<String, SchemaError>
     ensures { Gives string_bytes result (if_new (known_in known.now) (string_bytes full)) }
 {
@@ -74,7 +76,8 @@ fn if_free(full: String, known: &NameTable) -> Result<String, SchemaError>
     Ok(full)
 }
 
-/// The full name of a new definition.
+/// The full name of a new definition, from its attributes `name` and `namespace`, which are
+/// removed.
 #[tactic(auto, unfolding(crate::specs::Inside::Declarations::new_name))]
 fn new_name(
     alloc: Global,
@@ -97,13 +100,14 @@ fn new_name(
     if_free(full, known)
 }
 
-/// The names of a new definition.
+/// The names of a new definition, from its attributes `name`, `namespace` and `aliases`, which are
+/// removed.
 ///
 /// # Errors
 ///
-/// `BadShape` where the name is missing, or an attribute of the three has another JSON type,
-/// `BadName` where a name isn't well formed or is a primitive's, `Redefined` where the full name is
-/// known, and `OutOfMemory` where memory is refused. Some of the attributes may be taken out then.
+/// `BadShape` if the name is missing or an attribute has the wrong JSON type. `BadName` if a name
+/// is malformed or belongs to a primitive type. `Redefined` if the full name is defined already.
+/// `OutOfMemory` if allocation fails. After an error, some of the attributes may be gone.
 #[tactic(auto, unfolding(crate::specs::Inside::Declarations::named_in))]
 pub fn named_of(
     alloc: Global,
@@ -122,7 +126,7 @@ pub fn named_of(
     Ok(Named { name, aliases })
 }
 
-/// An enum's symbols.
+/// The symbols of an enum. The attribute is removed.
 #[tactic(auto, unfolding(crate::specs::Inside::Declarations::symbols_in))]
 fn symbols_of(alloc: Global, attributes: &mut Attributes<'_>) -> Result<Vec<String>, SchemaError>
     ensures symbols { Gives (λ v. texts_view v.items) result
@@ -147,7 +151,7 @@ fn has_symbol(symbols: &[String], name: &str) -> bool
     symbols.iter().any(|symbol| symbol.as_str() == name)
 }
 
-/// The text that the value is.
+/// The string, or `None` for another kind of value.
 fn text_of(value: Value) -> Option<String>
     ensures { option_map string_bytes result ≡ as_str (view value) }
 {
@@ -158,7 +162,7 @@ fn text_of(value: Value) -> Option<String>
     }
 }
 
-/// An enum's default, which may be missing.
+/// The default of an enum, which may be missing.
 fn fallback_of(attribute: Option<Value>, symbols: &[String]) -> Result<Option<String>, SchemaError>
     ensures { Gives (option_map string_bytes) result
         (fallback_in (texts_view symbols.now) (option_map view attribute)) }
@@ -176,14 +180,14 @@ fn fallback_of(attribute: Option<Value>, symbols: &[String]) -> Result<Option<St
     }
 }
 
-/// Reads an enum, whose other attributes are left.
+/// Reads an enum from the attributes without `type`, and returns its place.
 ///
 /// # Errors
 ///
-/// `TooLarge` where there is no place left or an attribute nests too deep, the errors of
-/// `named_of`, `BadShape` where the symbols are missing or no array of strings, or the default is
-/// none of them, `BadName` for a symbol that isn't well formed, `Redefined` for one that stands
-/// twice, and `OutOfMemory` where memory is refused. The name may be known then.
+/// `TooLarge` if there is no room for a node or an attribute nests too deep. `BadShape` if the
+/// symbols are missing or no array of strings, or if the default isn't one of them. `BadName` if a
+/// symbol is malformed, and `Redefined` if it occurs twice. `OutOfMemory` if allocation fails. Also
+/// the errors of `named_of`. After an error, the name may be defined.
 #[tactic(auto, unfolding(crate::specs::Inside::Declarations::enum_at))]
 pub fn enum_at(
     alloc: Global,
@@ -213,13 +217,13 @@ pub fn enum_at(
     Ok(place)
 }
 
-/// Reads a fixed, whose other attributes are left.
+/// Reads a `fixed` type from the attributes without `type`, and returns its place.
 ///
 /// # Errors
 ///
-/// `TooLarge` where there is no place left or an attribute nests too deep, the errors of
-/// `named_of`, `BadShape` where the size is missing or no size, and `OutOfMemory` where memory is
-/// refused. The name may be known then.
+/// `TooLarge` if there is no room for a node or an attribute nests too deep. `BadShape` if the size
+/// is missing or not an integer below 2^31. `OutOfMemory` if allocation fails. Also the errors of
+/// `named_of`. After an error, the name may be defined.
 #[tactic(auto, unfolding(crate::specs::Inside::Declarations::fixed_at))]
 pub fn fixed_at(
     alloc: Global,

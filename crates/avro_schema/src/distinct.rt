@@ -1,4 +1,4 @@
-//! Whether the names or kinds in a list are all different.
+//! Whether the names or kinds in a list are distinct.
 
 ghost use Rattle.std.specs.Prelude.{◌≡◌, ◌==◌, List, ℕ, IfOk, IsTrue, true, map, string_bytes};
 ghost use Rattle.std.specs.Cmp.Lexicographic.{slice_cmp};
@@ -10,10 +10,10 @@ ghost use Rattle.avro_schema.specs.Inside.Distinct.{all_differ, text_hash};
 use avro_nodes::Field;
 use std::alloc::{AllocError, Global};
 
-/// What the hash of a text is multiplied by before the next byte is added.
+/// The factor of the hash: each step multiplies by it and adds a byte.
 const FACTOR: u64 = 1099511628211;
 
-/// What a text names in its list.
+/// An item that has a name, by which lists are checked for duplicates.
 pub trait Titled {
     ghost title_of: { Self → List ℕ };
 
@@ -37,7 +37,7 @@ impl Titled for Field {
     }
 }
 
-/// What each item names.
+/// The name of each item.
 fn titles_of<T: Titled>(alloc: Global, items: &[T]) -> Result<Vec<&str>, AllocError>
     ensures { IfOk result (λ v. map (λ t. t.now) v.items ≡ map T.title_of items.now) }
 {
@@ -48,7 +48,7 @@ fn titles_of<T: Titled>(alloc: Global, items: &[T]) -> Result<Vec<&str>, AllocEr
     Ok(titles)
 }
 
-/// Whether each text is below the next.
+/// Whether each text is less than the next.
 fn texts_rise(texts: &[&str]) -> bool
     ensures { IsAllAdjacentAnswer (λ x y b. b ≡ is_lt (slice_cmp nat_cmp x.now y.now)) texts.now result }
 {
@@ -59,7 +59,7 @@ fn texts_rise(texts: &[&str]) -> bool
     )
 }
 
-/// Whether each number is below the next.
+/// Whether each number is less than the next.
 fn numbers_rise(numbers: &[u64]) -> bool
     ensures { IsAllAdjacentAnswer (λ x y b. b ≡ is_lt (nat_cmp x y)) numbers.now result }
 {
@@ -70,7 +70,6 @@ fn numbers_rise(numbers: &[u64]) -> bool
     )
 }
 
-/// A hash of a text.
 fn hash_of(text: &str) -> u64
     ensures { result ≡ text_hash text.now }
 {
@@ -79,7 +78,7 @@ fn hash_of(text: &str) -> u64
     })
 }
 
-/// The hash of each item's title.
+/// The hash of each item's name.
 fn hashes_of<T: Titled>(alloc: Global, items: &[T]) -> Result<Vec<u64>, AllocError>
     ensures { IfOk result (λ v. v.items ≡ map (λ t. text_hash (T.title_of t)) items.now) }
 {
@@ -90,7 +89,7 @@ fn hashes_of<T: Titled>(alloc: Global, items: &[T]) -> Result<Vec<u64>, AllocErr
     Ok(hashes)
 }
 
-/// Whether the hashes of the titles differ. Then the titles differ, too.
+/// Whether the hashes of the names are distinct. If so, the names are distinct, too.
 fn hashes_differ<T: Titled>(alloc: Global, items: &[T]) -> Result<bool, AllocError>
     ensures { IfOk result (λ b. IsTrue b → true ≡ all_differ bytes_eq (map T.title_of items.now)) }
 {
@@ -116,7 +115,8 @@ pub fn texts_differ<T: Titled>(alloc: Global, items: &[T]) -> Result<bool, Alloc
     Ok(texts_rise(&titles))
 }
 
-/// Whether the kinds of the branches, their second parts, are all different.
+/// Whether the kinds of the branches are distinct. A branch is its place and the number of its
+/// kind.
 ///
 /// # Errors
 ///

@@ -1,4 +1,4 @@
-//! Why a text denotes no schema.
+//! The reasons why a text denotes no schema.
 
 ghost use Rattle.std.specs.Prelude.{◌≡◌};
 ghost use Rattle.avro_schema.specs.declared.error.JsonError.TheVariants.{OutOfMemory as no_memory, Invalid as invalid};
@@ -8,38 +8,38 @@ use avro_nodes::OutOfMemory as NoMemory;
 use std::alloc::{AllocError, AllocFailed};
 use thiserror::Error;
 
-/// Why a text was not read. But for `OutOfMemory` it denotes no schema.
+/// Why `Schema::read` failed. Every error but `OutOfMemory` means that the text denotes no schema.
 #[derive(Debug, Drop, Error)]
 pub enum SchemaError {
-    /// The text is no JSON.
+    /// The text isn't JSON.
     #[error("the text is not JSON")]
     NotJson,
-    /// A number is not whole, has an exponent or is past 64 bits.
+    /// A number isn't an integer, has an exponent or doesn't fit in 64 bits.
     #[error("a number is not a whole number of 64 bits")]
     BadNumber,
-    /// A name, a namespace, an alias or a symbol is not well formed, or a definition takes a
-    /// primitive type's name.
+    /// A name, a namespace, an alias or a symbol is malformed, or a definition has the name of a
+    /// primitive type.
     #[error("a name is not well formed")]
     BadName,
-    /// A reference names nothing that is defined so far.
+    /// A reference names a type that isn't defined before it.
     #[error("a reference names no definition before it")]
     Undefined,
-    /// A full name, a field of a record or a symbol stands twice.
+    /// A full name, a field of a record or a symbol occurs twice.
     #[error("a name is defined twice")]
     Redefined,
-    /// An attribute is missing or has the wrong JSON type, or a value is no declaration.
+    /// An attribute is missing or has the wrong JSON type, or a value isn't a declaration.
     #[error("an attribute is missing or of the wrong type")]
     BadShape,
-    /// A branch of a union is a union, or two are of one kind.
+    /// A branch of a union is a union, or two branches have the same kind.
     #[error("a union holds a union, or two types of one kind")]
     BadUnion,
-    /// A default does not fit its field's type.
+    /// A default doesn't fit its field's type.
     #[error("a default does not fit its field")]
     BadDefault,
-    /// The text, the nesting, the number of places or the identity text is past its limit.
+    /// The text, the nesting depth, the number of nodes or the identity text exceeds its limit.
     #[error("the schema is past a limit")]
     TooLarge,
-    /// There was no memory.
+    /// Allocation failed.
     #[error("out of memory")]
     OutOfMemory,
 }
@@ -68,12 +68,12 @@ impl<T: Drop> From<AllocFailed<T>> for SchemaError {
     }
 }
 
-/// Why a text was not read as JSON.
+/// Why a text couldn't be read as JSON.
 #[derive(Clone, Copy, Debug, Drop)]
 pub enum JsonError {
-    /// it is none
+    /// the text isn't JSON
     Invalid,
-    /// there was no memory
+    /// allocation failed
     OutOfMemory,
 }
 

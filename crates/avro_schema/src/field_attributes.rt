@@ -1,4 +1,4 @@
-//! What a field says beside its type: its name, aliases, order and default.
+//! The attributes of a field other than its type: name, aliases, order and default.
 
 ghost use Rattle.std.specs.Prelude.{◌≡◌, OnOk, option_map};
 ghost use Rattle.serde_json.specs.View.{view};
@@ -18,7 +18,7 @@ use avro_nodes::{MAX_NESTING, Order};
 use serde_json::Value;
 use std::alloc::Global;
 
-/// A field's order, ascending where it is missing.
+/// The order of a field; ascending if the attribute is missing.
 fn order_if_any(attribute: Option<Json<'_>>) -> Result<Order, SchemaError>
     ensures { Gives (λ o. o) result (order_in (option_map value_data attribute.entry)) }
 {
@@ -34,7 +34,7 @@ fn order_if_any(attribute: Option<Json<'_>>) -> Result<Order, SchemaError>
     }
 }
 
-/// A default that nests within the limit, and may be missing.
+/// The default, if it nests within the limit. It may be missing.
 fn value_if_any(attribute: Option<Value>) -> Result<Option<Value>, SchemaError>
     ensures { Gives (option_map view) result (bounded_value (option_map view attribute)) }
 {
@@ -48,7 +48,7 @@ fn value_if_any(attribute: Option<Value>) -> Result<Option<Value>, SchemaError>
     }
 }
 
-/// What a field says beside its type.
+/// The attributes of a field other than its type.
 #[derive(Debug, Drop)]
 pub struct FieldAttributes {
     pub name: String,
@@ -57,13 +57,13 @@ pub struct FieldAttributes {
     pub value: Option<Value>,
 }
 
-/// What a field says beside its type and its other attributes, which are left.
+/// Removes the name, aliases, order and default from the attributes of a field, and returns them.
 ///
 /// # Errors
 ///
-/// `BadShape` where the name is missing, the order is none, or an attribute of these has another
-/// JSON type, `BadName` where a name isn't well formed, `TooLarge` where the default nests too
-/// deep, and `OutOfMemory` where memory is refused. Some of the attributes may be taken out then.
+/// `BadShape` if the name is missing, the order is unknown, or one of these attributes has the
+/// wrong JSON type. `BadName` if a name is malformed. `TooLarge` if the default nests too deep.
+/// `OutOfMemory` if allocation fails. After an error, some of the attributes may be gone.
 #[tactic(auto, unfolding(crate::specs::Inside::Declarations::field_attributes_in))]
 pub fn field_attributes_of(
     alloc: Global,

@@ -1,4 +1,5 @@
-//! The index of a list of nodes: their names are listed, sorted, and then looked for.
+//! Builds the index of a list of nodes: collects their names, sorts them, and then finds the rank
+//! of each.
 
 ghost use Rattle.std.specs.Prelude.{◌≡◌, ◌++◌, All, Contains, IfOk, OnOk, map};
 ghost use Rattle.avro_nodes.specs.Nodes.{field_view, named_view, node_view, nodes_view, texts_view};
@@ -11,8 +12,8 @@ use avro_nodes::{Field, Named, Node, last_part};
 use std::alloc::{AllocError, Global};
 use std::slice::Iter;
 
-/// The most names that ranks can count. No schema has so many, since each takes a byte of its
-/// text.
+/// The maximum number of names, so that a rank fits in 32 bits. No schema reaches it, since each
+/// name takes at least one byte of the text.
 const MAX_NAMES: usize = 4294967295;
 
 fn push_texts<'a>(list: &mut Vec<&'a str>, texts: &'a [String]) -> Result<(), AllocError>
@@ -76,7 +77,7 @@ fn push_node<'a>(list: &mut Vec<&'a str>, node: &'a Node) -> Result<(), AllocErr
     Ok(())
 }
 
-/// The names of the nodes, as they come.
+/// The names in the nodes, in order of occurrence.
 fn texts_of(alloc: Global, nodes: &[Node]) -> Result<Vec<&str>, AllocError>
     ensures { IfOk result (λ v. borrowed v.items ≡ nodes_texts (nodes_view nodes.now)) }
 {
@@ -171,7 +172,7 @@ fn node_ranks(
     }
 }
 
-/// The ranks of each node.
+/// The ranks of each node's names.
 fn nodes_ranks(
     alloc: Global,
     names: &[&str],
@@ -189,7 +190,7 @@ fn nodes_ranks(
     Ok(ranks)
 }
 
-/// The index of the nodes.
+/// Builds the index of these nodes.
 ///
 /// # Errors
 ///

@@ -1,11 +1,11 @@
-//! The words of a declaration.
+//! The keywords of declarations.
 
 ghost use Rattle.std.specs.Prelude.{◌≡◌, Some, None};
 ghost use Rattle.avro_schema.specs.Keywords.{kind_of, type_name_of, order_of};
 
 use avro_nodes::{Kind, Order};
 
-/// What an object's `type` says that it is (Avro 1.11 specification, Schema Declaration).
+/// The meaning of the attribute `type` of an object (Avro 1.11 specification, Schema Declaration).
 #[derive(Clone, Copy, Debug, PartialEq, Eq)]
 pub enum TypeName {
     /// a primitive type
@@ -24,16 +24,16 @@ pub enum TypeName {
     Reference,
 }
 
-/// A type of many values of one other type (Avro 1.11 specification, Arrays; Maps).
+/// A type whose values contain values of one other type (Avro 1.11 specification, Arrays; Maps).
 #[derive(Clone, Copy, Debug, PartialEq, Eq)]
 pub enum Container {
-    /// an array, of `items`
+    /// an array; its attribute `items` is the type of its items
     Items,
-    /// a map, of `values`
+    /// a map; its attribute `values` is the type of its values
     Values,
 }
 
-/// The primitive type of this name.
+/// The primitive type with this name.
 #[tactic(auto, unfolding(crate::specs::Keywords::kind_of))]
 pub fn kind_of(name: &str) -> Option<Kind>
     ensures { result ≡ kind_of name.now }
@@ -51,7 +51,7 @@ pub fn kind_of(name: &str) -> Option<Kind>
     }
 }
 
-/// What the word says in an object's `type`.
+/// The meaning of this name as the `type` of an object.
 #[tactic(auto, unfolding(crate::specs::Keywords::type_name_of))]
 pub fn type_name_of(name: &str) -> TypeName
     ensures { result ≡ type_name_of name.now }
@@ -74,7 +74,7 @@ pub fn type_name_of(name: &str) -> TypeName
     }
 }
 
-/// The sort order of this name.
+/// The sort order with this name.
 #[tactic(auto, unfolding(crate::specs::Keywords::order_of))]
 pub fn order_of(name: &str) -> Option<Order>
     ensures { result ≡ order_of name.now }

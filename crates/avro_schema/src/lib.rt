@@ -1,4 +1,5 @@
-//! Reads the text of an Avro schema exactly where it denotes one.
+//! Reads the texts of Avro schemas. Accepts exactly the texts that denote a schema, unless
+//! allocation fails.
 
 #![tactic(auto)]
 

@@ -1,5 +1,5 @@
-//! How many bytes the names of the types that nodes are made of will take in the identity text. It
-//! refers to a type by its full name, so that it may be far longer than the nodes are large.
+//! The bytes that the names of types inside other types take in the identity text. It refers to a
+//! type by its full name, so it may be far longer than the nodes are large.
 
 ghost use Rattle.std.specs.Prelude.{◌≡◌, ◌-◌, length, map, nat_le};
 ghost use Rattle.avro_nodes.specs.Nodes.{field_view, node_view, nodes_view};
@@ -8,7 +8,7 @@ ghost use Rattle.avro_schema.specs.Inside.Mentions.{mention, places_mentions, fi
 
 use avro_nodes::{Field, MAX_TEXT, Node};
 
-/// How long the full name of the type at the place is.
+/// The length in bytes of the full name of the type at the place, 0 if it has no name.
 #[tactic(auto, unfolding(crate::specs::Inside::Mentions::mention))]
 fn name_length(nodes: &[Node], place: u32) -> usize
     ensures { result ≡ mention (nodes_view nodes.now) place }
@@ -22,8 +22,8 @@ fn name_length(nodes: &[Node], place: u32) -> usize
     }
 }
 
-/// What is left of a number of bytes after the name of the type at the place, and nothing where
-/// they do not suffice.
+/// What remains of a budget of bytes after the name of the type at the place. If the budget doesn't
+/// suffice, 0 remains.
 fn after_place(budget: usize, place: u32, nodes: &[Node]) -> usize
     ensures { result ≡ budget - mention (nodes_view nodes.now) place }
 {
@@ -50,7 +50,7 @@ fn after_fields(budget: usize, fields: &Vec<Field>, nodes: &[Node]) -> usize
     rest
 }
 
-/// What is left after the names of the types that a node is made of.
+/// What remains after the names of the types inside a node.
 fn after_node(budget: usize, node: &Node, nodes: &[Node]) -> usize
     ensures { result ≡ budget - node_mentions (nodes_view nodes.now) (node_view node.now) }
 {
@@ -73,7 +73,7 @@ fn after_nodes(budget: usize, nodes: &[Node]) -> usize
     rest
 }
 
-/// Whether the names of the types that the nodes are made of keep to their limit.
+/// Whether the names of all types inside other types fit in the maximum length of a text.
 pub fn mentions_fit(nodes: &[Node]) -> bool
     ensures { result ≡ nat_le (mentions (nodes_view nodes.now) (nodes_view nodes.now)) max_text }
 {

@@ -1,5 +1,5 @@
-//! The names that are defined, each under its namespace. A namespace has a number, by which a
-//! reference is looked up: so it costs its own length, and not that of its namespace.
+//! The defined names, by namespace. Each namespace has a number. A reference without a dot is
+//! looked up by the number of its namespace, so the cost doesn't depend on the namespace's length.
 
 ghost use Rattle.std.specs.Prelude.{◌≡◌, ◌<◌, ℕ, List, Some, length};
 ghost use Rattle.std.specs.BTreeMap.{get_by_text};
@@ -9,7 +9,7 @@ use avro_nodes::{has_dot, namespace_of};
 use std::alloc::{AllocError, Global};
 use std::collections::BTreeMap;
 
-/// A namespace, and the number that it has in `NameTable`.
+/// A namespace, and its number in the `NameTable`.
 #[derive(Drop)]
 pub struct Namespace<'a> {
     pub text: &'a str,
@@ -21,11 +21,11 @@ pub struct Namespace<'a> {
 pub struct NameTable {
     /// the number of each namespace
     numbers: BTreeMap<String, usize>,
-    /// the places in the namespace of each number, by the names without their namespace
+    /// for each namespace, by its number: the places of the names in it
     tables: Vec<BTreeMap<String, u32>>,
     ghost below: { (space : List ℕ) (n : ℕ) → get_by_text numbers space ≡ Some n
         → n < length tables.items },
-    // each namespace has its own number
+    // different namespaces have different numbers
     ghost differ: { (space other : List ℕ) (n : ℕ) → get_by_text numbers space ≡ Some n
         → get_by_text numbers other ≡ Some n → space ≡ other },
 }
@@ -36,7 +36,7 @@ impl NameTable {
     ghost use Rattle.avro_nodes.specs.Names.{namespace_of};
     ghost use Rattle.avro_schema.specs.Inside.NameTables.{in_table, number_in, place_in, known_in, HasNumber, KeepsNumbers};
 
-    /// No names.
+    /// An empty table.
     pub fn none(alloc: Global) -> NameTable
         ensures { known_in result ≡ none_known }
     {
@@ -46,12 +46,11 @@ impl NameTable {
         }
     }
 
-    /// The number of a namespace: the one that it has, or else a new one.
+    /// The number of a namespace. A new namespace gets a new number.
     ///
     /// # Errors
     ///
-    /// `AllocError` where memory for a new one is refused. The contract leaves open what is known
-    /// then.
+    /// `AllocError` if allocation fails. The contract doesn't say which names are then known.
     pub fn number(&mut self, alloc: Global, space: &str) -> Result<usize, AllocError>
         ensures there { IfOk result (λ n. number_in self.new space.now ≡ Some n) }
         ensures kept { OnOk result (KeepsNumbers self.old self.new) }
@@ -68,7 +67,7 @@ impl NameTable {
         Ok(number)
     }
 
-    /// The place of a name in the namespace of the number.
+    /// The place of a name in the namespace with this number.
     fn place_at(&self, number: usize, name: &str) -> Option<u32>
         ensures { result ≡ in_table (slice_get self.now.tables.items number) name.now }
     {
@@ -82,7 +81,7 @@ impl NameTable {
         self.place_at(*self.numbers.get(space)?, name)
     }
 
-    /// The place of the definition of this full name.
+    /// The place of the definition with this full name.
     pub fn place_of(&self, full: &str) -> Option<u32>
         ensures { result ≡ known_in self.now full.now }
     {
@@ -90,12 +89,11 @@ impl NameTable {
         self.place_in(space, without_namespace(space, full))
     }
 
-    /// Adds a definition's full name, and gives the number of its namespace.
+    /// Adds the full name of a definition, and returns the number of its namespace.
     ///
     /// # Errors
     ///
-    /// `AllocError` where memory for the name is refused. The contract leaves open what is known
-    /// then.
+    /// `AllocError` if allocation fails. The contract doesn't say which names are then known.
     pub fn define(&mut self, alloc: Global, full: &str, place: u32) -> Result<usize, AllocError>
         ensures defined { OnOk result (known_in self.new ≡ defined (known_in self.old) full.now place) }
         ensures there { IfOk result (λ n. number_in self.new (namespace_of full.now) ≡ Some n) }
@@ -108,7 +106,8 @@ impl NameTable {
         Ok(number)
     }
 
-    /// The place of what a reference names, in the enclosing namespace or else in the null one.
+    /// The place of the type that a reference names. A name without a dot is looked up in the
+    /// enclosing namespace, then in the null namespace.
     #[tactic(auto, unfolding(crate::specs::Names::resolved))]
     pub fn resolve(&self, space: &Namespace, name: &str) -> Option<u32>
         requires { HasNumber self.now space.now }

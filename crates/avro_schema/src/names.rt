@@ -26,7 +26,7 @@ fn are_name_parts(bytes: &[u8]) -> bool
     bytes.iter().all(|c| is_name_part(*c))
 }
 
-/// Whether these are simple names joined by dots.
+/// Whether the text is one or more simple names, separated by dots.
 pub fn is_name_sequence(text: &str) -> bool
     ensures { result ≡ is_name_sequence text.now }
 {
@@ -47,7 +47,7 @@ pub fn is_name_sequence(text: &str) -> bool
     !fresh
 }
 
-/// Whether this is a simple name: one without a dot.
+/// Whether the text is a simple name, which has no dot.
 #[tactic(auto, unfolding(crate::specs::Names::is_simple))]
 pub fn is_simple(text: &str) -> bool
     ensures { result ≡ is_simple text.now }
@@ -58,14 +58,14 @@ pub fn is_simple(text: &str) -> bool
     }
 }
 
-/// Whether this is a namespace: the null one, or simple names joined by dots.
+/// Whether the text is a namespace: empty, or simple names separated by dots.
 pub fn is_namespace(text: &str) -> bool
     ensures { result ≡ is_namespace text.now }
 {
     text.is_empty() || is_name_sequence(text)
 }
 
-/// The name behind a namespace that is not the null one.
+/// The full name of a simple name in a namespace that isn't the null namespace.
 #[tactic(auto, unfolding(crate::specs::Names::qualified))]
 fn dotted(alloc: Global, space: &str, name: &str) -> Result<String, AllocError>
     requires { 0 < length space.now }
@@ -78,7 +78,7 @@ fn dotted(alloc: Global, space: &str, name: &str) -> Result<String, AllocError>
     Ok(full)
 }
 
-/// The full name that the simple name has in the namespace.
+/// The full name of a simple name in a namespace.
 #[tactic(auto, unfolding(crate::specs::Names::qualified))]
 fn qualified(alloc: Global, space: &str, name: &str) -> Result<String, AllocError>
     ensures { IfOk result (λ s. string_bytes s ≡ qualified space.now name.now) }
@@ -89,7 +89,7 @@ fn qualified(alloc: Global, space: &str, name: &str) -> Result<String, AllocErro
     dotted(alloc, space, name)
 }
 
-/// A full name without its namespace, which is given.
+/// The full name without its namespace `space`.
 pub fn without_namespace<'a>(space: &str, full: &'a str) -> &'a str
     ensures { result.now ≡ without_namespace space.now full.now }
 {
@@ -100,11 +100,12 @@ pub fn without_namespace<'a>(space: &str, full: &'a str) -> &'a str
     }
 }
 
-/// The full name of a definition, from its `name` and `namespace` and the enclosing namespace.
+/// The full name of a definition, from its attributes `name` and `namespace` and the enclosing
+/// namespace. `None` if the name is malformed, or a `namespace` that it needs.
 ///
 /// # Errors
 ///
-/// `AllocError` where memory for it is refused.
+/// `AllocError` if allocation fails.
 #[tactic(auto, unfolding(crate::specs::Names::full_name))]
 pub fn full_name(
     alloc: Global,
@@ -133,11 +134,11 @@ pub fn full_name(
     }
 }
 
-/// The full name of an alias of a type in the namespace.
+/// The full name of an alias of a type in the namespace. `None` if the alias is malformed.
 ///
 /// # Errors
 ///
-/// `AllocError` where memory for it is refused.
+/// `AllocError` if allocation fails.
 #[tactic(auto, unfolding(crate::specs::Names::alias_in))]
 pub fn alias_in(alloc: Global, space: &str, name: &str) -> Result<Option<String>, AllocError>
     ensures { IfOk result (λ o. option_map string_bytes o ≡ alias_in space.now name.now) }

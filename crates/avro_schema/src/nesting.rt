@@ -1,4 +1,4 @@
-//! How deep JSON values nest.
+//! The nesting depth of JSON values.
 
 ghost use Rattle.std.specs.Prelude.{◌≡◌, nat_le};
 ghost use Rattle.serde_json.specs.Data.{depth, items_depth, members_depth};
@@ -7,8 +7,8 @@ ghost use Rattle.serde_json.specs.View.{view, items_view, members_view};
 use avro_nodes::Extra;
 use serde_json::Value;
 
-/// Whether the value nests within the limit: 0 for a scalar, and for an array or object 1 more
-/// than the deepest of what it holds.
+/// Whether the value's nesting depth is within the limit. A scalar has depth 0; an array or object
+/// is one level deeper than its deepest element.
 #[cycle(nest)]
 pub fn nests_within(value: &Value, limit: u32) -> bool
     ensures { result ≡ nat_le (depth (view value.now)) limit }
@@ -32,7 +32,7 @@ fn items_within(items: &Vec<Value>, limit: u32) -> bool
     true
 }
 
-/// Whether each member nests within the limit.
+/// Whether each member's nesting depth is within the limit.
 #[cycle(nest)]
 pub fn members_within(members: &Extra, limit: u32) -> bool
     ensures { result ≡ nat_le (members_depth (members_view members.now.entries)) limit }

@@ -11,7 +11,7 @@ use avro_nodes::Extra;
 use serde_json::Value;
 use std::alloc::{AllocError, Global};
 
-/// Members without a reserved name, by name.
+/// A map of members whose names aren't reserved.
 #[derive(Debug, Drop)]
 pub struct OtherMembers {
     members: Extra,
@@ -20,7 +20,7 @@ pub struct OtherMembers {
 }
 
 impl OtherMembers {
-    /// No members.
+    /// An empty map.
     pub fn none(alloc: Global) -> OtherMembers
         ensures { members_view result.members.entries ≡ no_members }
     {
@@ -29,7 +29,7 @@ impl OtherMembers {
         }
     }
 
-    /// Adds a member, or replaces the one of this name.
+    /// Adds a member, and replaces an earlier one with this name.
     ///
     /// # Errors
     ///
@@ -43,7 +43,7 @@ impl OtherMembers {
         Ok(())
     }
 
-    /// Takes out the member of this name.
+    /// Removes the member with this name, and returns its value.
     pub fn take(&mut self, key: &str) -> Option<Value>
         ensures value { option_map view result
             ≡ get_member key.now (members_view self.old.members.entries) }

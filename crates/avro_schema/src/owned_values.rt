@@ -1,4 +1,4 @@
-//! Values that are kept as they are read.
+//! Reads JSON values as `serde_json` values, which own their strings.
 
 ghost use Rattle.std.specs.Prelude.{◌≡◌, ◌==◌, ◌<◌, true, false, Some, None, Err, IfOk, OnOk, length, option_map, slice_index};
 ghost use Rattle.json.specs.Json.{value, items, members};
@@ -23,7 +23,7 @@ fn has_minus(bytes: &[u8]) -> bool
     }
 }
 
-/// The number of a text, as `serde_json` reads it.
+/// The number that the text denotes. The result is that of `serde_json`.
 #[inline(always)]
 pub fn number_of(text: &str) -> Option<Number>
     ensures { option_map number_view result ≡ number_of text.now }
@@ -65,11 +65,12 @@ fn nearest(is_negative: bool, numeral: &Numeral<'_>) -> Option<Number>
     Number::from_f64(numeral.to_float::<f64>(is_negative))
 }
 
-/// Reads a value, nested no deeper than the number.
+/// Reads a value that nests at most `depth` levels deep.
 ///
 /// # Errors
 ///
-/// `Invalid` where none begins here that may be read, and `OutOfMemory` where memory is refused.
+/// `Invalid` if the reader isn't at the start of such a value, and `OutOfMemory` if allocation
+/// fails.
 #[cycle(keep)]
 #[inline(always)]
 pub fn owned_value_at(

@@ -1,4 +1,4 @@
-//! Owned values among the attributes, and borrowed ones made into owned ones.
+//! Converts borrowed values to owned ones, and gives access to the owned attributes.
 
 ghost use Rattle.std.specs.Prelude.{◌≡◌, false, IfOk, OnOk, option_map, codes};
 ghost use Rattle.serde_json.specs.Data.{put};
@@ -13,11 +13,11 @@ use avro_nodes::Extra;
 use serde_json::Value;
 use std::alloc::{AllocError, Global};
 
-/// A value of its own.
+/// The value as a `serde_json` value, which owns its strings.
 ///
 /// # Errors
 ///
-/// `AllocError` where memory for it is refused.
+/// `AllocError` if allocation fails.
 #[cycle(own)]
 pub fn owned(alloc: Global, value: Json<'_>) -> Result<Value, AllocError>
     ensures { IfOk result (λ v. view v ≡ value_data value.entry) }
@@ -43,7 +43,7 @@ fn owned_items(alloc: Global, items: Vec<Json<'_>>) -> Result<Vec<Value>, AllocE
     Ok(list)
 }
 
-/// The attributes as a map.
+/// All attributes as one map.
 ///
 /// # Errors
 ///
@@ -68,7 +68,7 @@ pub fn owned_members(alloc: Global, attributes: Attributes<'_>) -> Result<Extra,
     Ok(map)
 }
 
-/// Takes out the attribute `default`.
+/// Removes the attribute `default`, and returns it.
 pub fn take_default(attributes: &mut Attributes<'_>) -> Option<Value>
     ensures value { option_map view result
         ≡ get_member (codes "default") (members_data attributes.old) }
@@ -78,7 +78,7 @@ pub fn take_default(attributes: &mut Attributes<'_>) -> Option<Value>
     attributes.others.take("default")
 }
 
-/// Adds an attribute whose name isn't reserved, or replaces the one of this name.
+/// Adds an attribute whose name isn't reserved, and replaces an earlier one with this name.
 ///
 /// # Errors
 ///

@@ -1,5 +1,5 @@
-//! Names sorted, and the ranks of texts among them. The sort leaves a hint for each text, so that its
-//! rank is compared and not searched for.
+//! Sorts names, and finds the rank of each text among them. Sorting yields a hint for each text, so
+//! finding a rank usually takes one comparison, not a search.
 
 ghost use Rattle.std.specs.Prelude.{◌≡◌, ◌<◌, ◌^◌, All, Contains, IfOk, IfSome, length, map};
 ghost use Rattle.avro_nodes.specs.Nodes.{texts_view};
@@ -9,7 +9,7 @@ ghost use Rattle.avro_schema.specs.Inside.NodeTexts.{borrowed};
 use std::alloc::{AllocError, Global};
 use std::slice::Iter;
 
-/// The texts, each with its place in the list.
+/// The texts, each with its index in the list.
 fn with_indices<'a>(alloc: Global, texts: &[&'a str]) -> Result<Vec<(&'a str, usize)>, AllocError>
     ensures { IfOk result (λ v. map (λ p. p.0) v.items ≡ texts.now) }
 {
@@ -20,7 +20,7 @@ fn with_indices<'a>(alloc: Global, texts: &[&'a str]) -> Result<Vec<(&'a str, us
     Ok(list)
 }
 
-/// The texts without their places.
+/// The texts without their indices.
 fn without_indices<'a>(alloc: Global, list: &[(&'a str, usize)]) -> Result<Vec<&'a str>, AllocError>
     ensures { IfOk result (λ v. v.items ≡ map (λ p. p.0) list.now) }
 {
@@ -31,8 +31,8 @@ fn without_indices<'a>(alloc: Global, list: &[(&'a str, usize)]) -> Result<Vec<&
     Ok(texts)
 }
 
-/// The rank of each text of a sorted list, by its place. A rank found here is compared with its
-/// name before it is used, so no clause says that it is right.
+/// The rank of each text of a sorted list, by the text's index. `confirmed` compares each hint with
+/// its name, so no contract needs to say that hints are right.
 fn hints_of(alloc: Global, sorted: &[(&str, usize)]) -> Result<Vec<u32>, AllocError> {
     let mut hints = vec![in alloc; 0u32; sorted.len()]?;
     let mut rank: u32 = 0;
@@ -52,7 +52,8 @@ fn hints_of(alloc: Global, sorted: &[(&str, usize)]) -> Result<Vec<u32>, AllocEr
     Ok(hints)
 }
 
-/// The texts sorted, each once, and for each place in the list the rank that its text should have.
+/// The texts in byte order without duplicates, and for each index of the given list the likely rank
+/// of its text.
 ///
 /// # Errors
 ///
@@ -73,7 +74,7 @@ pub fn sorted_unique<'a>(
     Ok((names, hints))
 }
 
-/// Texts of their own.
+/// Copies of the texts.
 ///
 /// # Errors
 ///
@@ -88,7 +89,7 @@ pub fn owned(alloc: Global, texts: &[&str]) -> Result<Vec<String>, AllocError>
     Ok(list)
 }
 
-/// The hint, if it is the rank of the text.
+/// Returns the hint if it is the rank of the text.
 fn confirmed(names: &[&str], hint: Option<&u32>, text: &str) -> Option<u32>
     ensures { IfSome result (λ rank. IsRank (borrowed names.now) text.now rank) }
 {
@@ -101,7 +102,7 @@ fn confirmed(names: &[&str], hint: Option<&u32>, text: &str) -> Option<u32>
     }
 }
 
-/// The rank of a text, which is one of the names.
+/// The rank of a text that is one of the names. The next hint is tried first, then a binary search.
 pub fn rank_of(names: &[&str], hints: &mut Iter<'_, u32>, text: &str) -> u32
     requires names { AreIndexNames (borrowed names.now) }
     requires known { Contains (borrowed names.now) text.now }
@@ -116,7 +117,7 @@ pub fn rank_of(names: &[&str], hints: &mut Iter<'_, u32>, text: &str) -> u32
     }
 }
 
-/// The ranks of the texts, in their order.
+/// The ranks of the texts, in the order of the texts.
 ///
 /// # Errors
 ///
@@ -138,7 +139,7 @@ pub fn ranks_of(
     Ok(ranks)
 }
 
-/// The ranks of the texts, sorted, each once.
+/// The ranks of the texts, ascending and without duplicates.
 ///
 /// # Errors
 ///

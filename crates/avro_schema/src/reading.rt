@@ -1,4 +1,4 @@
-//! From a JSON value to the nodes of a type.
+//! Makes the nodes of a type from a JSON value.
 
 ghost use Rattle.std.specs.Prelude.{length, map, OnOk};
 ghost use Rattle.avro_nodes.specs.Nodes.{field_view, nodes_view};
@@ -26,12 +26,14 @@ mod kinds;
 mod names;
 mod nodes;
 
-/// Reads a type, nested no deeper than the number, and answers its place.
+/// Reads a type that nests at most `depth` levels deep, and returns its place. The namespace
+/// `space` encloses it.
 ///
 /// # Errors
 ///
-/// `TooLarge` where it is past a limit, `OutOfMemory` where memory is refused, and else what makes
-/// the value no type (see `SchemaError`). Nodes and names may be left behind then.
+/// `TooLarge` if the type exceeds a limit, and `OutOfMemory` if allocation fails. Every other error
+/// says why the value isn't a type (see `SchemaError`). After an error, some nodes may be in the
+/// list and some names defined.
 #[cycle(read)]
 pub fn type_at(
     alloc: Global,
@@ -289,7 +291,8 @@ fn field_at(
     let Some(mut rest) = members_of(value) else {
         return Err(SchemaError::BadShape);
     };
-    // most fields have a name and then a type, and what is last is found first
+    // Most fields list `name` before `type`, and lookups start at the end. So `type` is removed
+    // first.
     let inner = take(&mut rest, "type");
     let label = field_attributes_of(alloc, &mut rest)?;
     let Some(inner) = inner else {

@@ -1,4 +1,4 @@
-//! A schema, and how it is read.
+//! An Avro schema, and how it is read.
 
 ghost use Rattle.std.specs.Prelude.{◌≡◌, ◌≢◌, ◌<◌, ◌≤◌, ◌↔◌, ℕ, List, Some, length, option_and_then, IsTrue, slice_get, string_bytes, IfOk, IfErr};
 ghost use Rattle.avro_nodes.specs.Plain.{plain};
@@ -27,11 +27,11 @@ use json::{Reader, Scratch};
 use std::alloc::Global;
 use std::marker::Model;
 
-/// How deep JSON may nest.
+/// The maximum nesting depth of the JSON text.
 const MAX_DEPTH: usize = 127;
 
-/// An Avro schema: the nodes that its text denotes, numbered from the root, which is node 0
-/// (Avro 1.11 specification, Schema Declaration).
+/// An Avro schema: the nodes that its text denotes. A node's place is its index; the root is at
+/// place 0 (Avro 1.11 specification, Schema Declaration).
 #[derive(Debug, Drop)]
 pub struct Schema {
     nodes: Vec<Node>,
@@ -59,7 +59,7 @@ impl Model for Schema {
         × IsIndex (nodes_view s.nodes.items) s.index };
 }
 
-/// The JSON value of a text whose numbers are respelt.
+/// The JSON value of a text whose numbers `plain_of` has rewritten.
 fn value_of<'a>(
     alloc: Global,
     respelt: &'a str,
@@ -76,7 +76,7 @@ fn value_of<'a>(
     Ok(value)
 }
 
-/// The nodes of a value, before their defaults and their identity text are looked at.
+/// The nodes of a JSON value, before the checks of their defaults and their identity text.
 fn nodes_of_value(alloc: Global, value: Json<'_>) -> Result<Vec<Node>, SchemaError>
     ensures { Gives (λ v. nodes_view v.items) result
         (option_and_then (λ p. Some p.nodes) (root_in (value_data value.entry))) }
@@ -94,7 +94,7 @@ fn nodes_of_value(alloc: Global, value: Json<'_>) -> Result<Vec<Node>, SchemaErr
     Ok(nodes)
 }
 
-/// The nodes of a text, before their defaults and their identity text are looked at.
+/// The nodes of a text, before the checks of their defaults and their identity text.
 #[tactic(auto, unfolding(crate::specs::Inside::DeclaredNodes::declared_nodes, crate::specs::Inside::DeclaredNodes::root_in))]
 fn nodes_of(alloc: Global, text: &str) -> Result<Vec<Node>, SchemaError>
     ensures { Gives (λ v. nodes_view v.items) result (declared_nodes text.now) }
@@ -111,13 +111,13 @@ fn nodes_of(alloc: Global, text: &str) -> Result<Vec<Node>, SchemaError>
 }
 
 impl Schema {
-    /// Reads a schema text. It succeeds only where the text denotes a schema, and gives that
-    /// schema.
+    /// Reads a schema text (Avro 1.11 specification, Schema Declaration). Succeeds only if the text
+    /// denotes a schema, and returns this schema.
     ///
     /// # Errors
     ///
-    /// `OutOfMemory` where memory is refused. Each other one says that the text denotes no schema;
-    /// the reason that it names (see `SchemaError`) stands in no clause.
+    /// `OutOfMemory` if allocation fails. Every other error implies that the text denotes no
+    /// schema. No contract says which reason (see `SchemaError`) a text gets.
     pub fn read(alloc: Global, text: &str) -> Result<Schema, SchemaError>
         ensures ok { IfOk result (λ s. TextDenotes text.now (nodes_view s)) }
         // a text denotes at most one schema
@@ -141,12 +141,12 @@ impl Schema {
         Ok(Schema { nodes, text, index })
     }
 
-    /// The identity text: one JSON text for the schema, compact and with its members in byte
-    /// order. It denotes this schema and no other, so reading it gives the schema back.
+    /// The identity text: the schema as compact JSON with its members in byte order. It denotes
+    /// this schema and no other, so `Schema::read` returns the same schema for it.
     ///
     /// # Errors
     ///
-    /// `OutOfMemory` where memory for the copy is refused.
+    /// `OutOfMemory` if allocation of the copy fails.
     pub fn text(&self, alloc: Global) -> Result<String, OutOfMemory>
         ensures text { IfOk result (λ s. string_bytes s ≡ identity (nodes_view self.now)) }
         ensures denotes { IfOk result (λ s. TextDenotes (string_bytes s) (nodes_view self.now)) }
@@ -156,7 +156,7 @@ impl Schema {
         Ok(String::from_str(alloc, self.text.as_str())?)
     }
 
-    /// Whether the two are the same schema, which they are where their identity texts are equal.
+    /// Whether the schemas are equal. This is so exactly if their identity texts are equal.
     pub fn is_same(&self, other: &Schema) -> bool
         ensures schemas { IsTrue result ↔ (nodes_view self.now ≡ nodes_view other.now) }
         ensures texts { IsTrue result ↔ (identity (nodes_view self.now)
@@ -165,8 +165,7 @@ impl Schema {
         self.text == other.text
     }
 
-    /// The number of places, at most `MAX_PLACES`. As for every schema, some text denotes its
-    /// nodes.
+    /// The number of nodes, at most `MAX_PLACES`. For every `Schema`, some text denotes its nodes.
     pub fn places(&self) -> u32
         ensures places { result ≡ length self.now }
         ensures few { result ≤ max_places }
@@ -183,7 +182,7 @@ impl Schema {
         &self.nodes[place as usize]
     }
 
-    /// The names of the nodes by their ranks.
+    /// The index: the names of the schema in byte order, and the ranks of each node's names.
     pub fn index(&self) -> &Index
         ensures { IsIndex (nodes_view self.now) result.now }
     {
@@ -191,13 +190,13 @@ impl Schema {
     }
 }
 
-/// A law: the identity text of each schema denotes it. The schema need not have been read here:
-/// that some text denotes its nodes is enough.
+/// A law: the identity text of a schema denotes the schema. It is true of any nodes that some text
+/// denotes, even if no `Schema` was read.
 pub fn identity_denotes()
     ensures { (nodes : List NodeView) → IsSchema nodes → TextDenotes (identity nodes) nodes }
 {}
 
-/// A law: what a text denotes can be computed.
+/// A law: `denoted_nodes` computes the nodes that a text denotes.
 pub fn denoting_is_decided()
     ensures { (text : List ℕ) (nodes : List NodeView)
         → (denoted_nodes text ≡ Some nodes) ↔ TextDenotes text nodes }

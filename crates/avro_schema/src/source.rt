@@ -1,4 +1,4 @@
-//! A schema text as JSON.
+//! Reads a schema text as JSON that borrows from it.
 
 ghost use Rattle.std.specs.Prelude.{◌≡◌, ◌<◌, Some, None, Err, IfOk, OnOk, length};
 ghost use Rattle.json.specs.Json.{value, items, members};
@@ -13,11 +13,12 @@ use crate::owning::put_other;
 use json::{Reader, Token};
 use std::alloc::Global;
 
-/// Reads a value, nested no deeper than the number.
+/// Reads a value that nests at most `depth` levels deep.
 ///
 /// # Errors
 ///
-/// `Invalid` where none begins here that may be read, and `OutOfMemory` where memory is refused.
+/// `Invalid` if the reader isn't at the start of such a value, and `OutOfMemory` if allocation
+/// fails.
 #[cycle(source)]
 #[inline(always)]
 pub fn value_at<'a>(
@@ -79,7 +80,7 @@ fn items_at<'a>(
     Ok(found)
 }
 
-/// Reads the value of a member, and puts it among the attributes.
+/// Reads the value of a member, and adds it to the attributes.
 #[cycle(source)]
 #[inline(always)]
 fn member_at<'a>(

@@ -1,5 +1,5 @@
-//! The fields of a record by name, so that a default is judged by its own members and not by all
-//! the fields that the record has.
+//! The fields of a record by name. A default value of a large record needs a check only of its own
+//! members and of the required fields.
 
 ghost use Rattle.std.specs.Prelude.{IfOk, IfSome, map};
 ghost use Rattle.avro_nodes.specs.Nodes.{field_view, node_view, nodes_view};
@@ -10,19 +10,19 @@ use serde_json::Value;
 use std::alloc::{AllocError, Global};
 use std::collections::BTreeMap;
 
-/// The most fields that a default looks through one by one.
+/// The maximum number of fields of a record that gets no table.
 const FEW_FIELDS: usize = 16;
 
-/// The indices of a record's fields, by what a default's members say of them.
+/// The indices of a record's fields.
 #[derive(Drop)]
 pub struct FieldTable<'a> {
-    /// the fields that each default is asked for, as they have no default themselves
+    /// fields to check for every default value: those without a default of their own
     pub required: Vec<usize>,
-    /// the other fields, which a default may leave out
+    /// fields with a default, which a default value may omit
     pub by_name: BTreeMap<&'a str, usize>,
 }
 
-/// The table of these fields. A name that stands twice is always asked for.
+/// The table of these fields. A later field with a repeated name counts as required.
 fn table_of(alloc: Global, fields: &[Field]) -> Result<FieldTable, AllocError>
     ensures { IfOk result (λ t. IsFieldTable t (map field_view fields.now)) }
 {
@@ -39,7 +39,7 @@ fn table_of(alloc: Global, fields: &[Field]) -> Result<FieldTable, AllocError>
     Ok(FieldTable { required, by_name })
 }
 
-/// The table of a record that has more than a few fields.
+/// The table of a record with more than `FEW_FIELDS` fields.
 fn table_if_any(alloc: Global, node: &Node) -> Result<Option<FieldTable>, AllocError>
     ensures { IfOk result (λ o. IfSome o (λ t. IsFieldTableOf t (node_view node.now))) }
 {
@@ -49,7 +49,7 @@ fn table_if_any(alloc: Global, node: &Node) -> Result<Option<FieldTable>, AllocE
     }
 }
 
-/// Whether the value holds others.
+/// Whether the value is a nonempty array or object.
 fn is_nested(value: &Value) -> bool {
     match value {
         Value::Array(items) => !items.is_empty(),
@@ -58,7 +58,7 @@ fn is_nested(value: &Value) -> bool {
     }
 }
 
-/// Whether a default of the node's fields holds other values.
+/// Whether a field of the node has a nonempty array or object as its default.
 fn has_nested_default(node: &Node) -> bool {
     match node {
         Node::Rec { fields, .. } => fields.iter().any(|field| match &field.value {
@@ -69,12 +69,12 @@ fn has_nested_default(node: &Node) -> bool {
     }
 }
 
-/// The tables of the records that have more than a few fields, each at its record's place. There
-/// are none where no default holds other values.
+/// The field tables of the records with more than `FEW_FIELDS` fields, by place. The list is empty
+/// if no default is a nonempty array or object.
 ///
 /// # Errors
 ///
-/// `AllocError` where memory for them is refused.
+/// `AllocError` if allocation fails.
 pub fn tables_of(alloc: Global, nodes: &[Node]) -> Result<Vec<Option<FieldTable>>, AllocError>
     ensures { IfOk result (λ v. AreFieldTables (nodes_view nodes.now) v.items) }
 {

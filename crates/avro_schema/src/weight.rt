@@ -1,5 +1,5 @@
-//! How many bytes the names of a value's definitions will take. A short name or alias takes its
-//! namespace on, so nodes may hold far more bytes than the text that they are read from.
+//! The bytes that the names of a value's definitions will take. A short name or alias gets its
+//! namespace added, so nodes may take far more bytes than their text.
 
 ghost use Rattle.std.specs.Prelude.{IsTrue, ◌≡◌, ◌-◌, length, option_map, nat_le, codes, []};
 ghost use Rattle.serde_json.specs.Find.{get_member};
@@ -13,7 +13,7 @@ use crate::borrowed::{Attributes, Json, array_of, find, object_of, text_of};
 use crate::keywords::{TypeName, type_name_of};
 use avro_nodes::{MAX_NESTING, MAX_TEXT, has_dot, namespace_of};
 
-/// The attribute of this name, if it is a string.
+/// The attribute with this name, if it is a string.
 #[tactic(auto, unfolding(crate::specs::Attributes::text_in))]
 fn text_at<'a>(members: &'a Attributes<'_>, key: &str) -> Option<&'a str>
     requires { IsTrue (is_reserved_name key.now) }
@@ -25,7 +25,7 @@ fn text_at<'a>(members: &'a Attributes<'_>, key: &str) -> Option<&'a str>
     }
 }
 
-/// The attribute of this name, if it is an array.
+/// The attribute with this name, if it is an array.
 #[tactic(auto, unfolding(crate::specs::Attributes::array_in))]
 fn items_at<'t, 'a>(members: &'t Attributes<'a>, key: &str) -> Option<&'t Vec<Json<'a>>>
     requires { IsTrue (is_reserved_name key.now) }
@@ -38,8 +38,8 @@ fn items_at<'t, 'a>(members: &'t Attributes<'a>, key: &str) -> Option<&'t Vec<Js
     }
 }
 
-/// What is left of a number of bytes after the full name that the name has in the namespace. As
-/// everywhere here, nothing is left where the bytes do not suffice.
+/// What remains of a budget of bytes after the full name of this name in the namespace. In every
+/// function here, 0 remains if the budget doesn't suffice.
 #[tactic(auto, unfolding(crate::specs::Inside::Weight::full_name_in, crate::specs::Names::qualified))]
 fn after_name(budget: usize, name: &str, space: &str) -> usize
     ensures { result ≡ budget - length (full_name_in space.now name.now) }
@@ -52,7 +52,7 @@ fn after_name(budget: usize, name: &str, space: &str) -> usize
     }
 }
 
-/// What is left after an alias of a type in the namespace.
+/// What remains after an alias of a type in the namespace.
 fn after_alias(budget: usize, alias: &Json<'_>, space: &str) -> usize
     ensures { result ≡ budget - alias_weight space.now (value_data alias.now) }
 {
@@ -72,7 +72,7 @@ fn after_aliases(budget: usize, aliases: &Vec<Json<'_>>, space: &str) -> usize
     rest
 }
 
-/// The namespace of a definition of this name, inside an enclosing one.
+/// The namespace of a definition with this name, declared inside the namespace `enclosing`.
 #[tactic(auto, unfolding(crate::specs::Inside::Weight::namespace_in))]
 fn definition_namespace<'a>(
     members: &'a Attributes<'_>,
@@ -90,7 +90,7 @@ fn definition_namespace<'a>(
     }
 }
 
-/// What is left after the name and the aliases of a definition in the namespace.
+/// What remains after the name and the aliases of a definition in the namespace.
 #[tactic(auto, unfolding(crate::specs::Inside::Weight::names_weight))]
 fn after_names(budget: usize, members: &Attributes<'_>, name: &str, space: &str) -> usize
     ensures { result ≡ budget - names_weight space.now name.now (members_data members.now) }
@@ -102,7 +102,7 @@ fn after_names(budget: usize, members: &Attributes<'_>, name: &str, space: &str)
     }
 }
 
-/// What is left after a definition that has no types inside.
+/// What remains after a definition without types inside it.
 #[tactic(auto, unfolding(crate::specs::Inside::Weight::definition_weight))]
 fn after_definition(budget: usize, members: &Attributes<'_>, enclosing: &str) -> usize
     ensures { result ≡ budget - definition_weight enclosing.now (members_data members.now) }
@@ -118,7 +118,7 @@ fn after_definition(budget: usize, members: &Attributes<'_>, enclosing: &str) ->
     }
 }
 
-/// What is left after the definitions of a type, nested no deeper than the number.
+/// What remains after the definitions of a type that nests at most `depth` levels deep.
 #[cycle(weigh)]
 #[tactic(auto, unfolding(crate::specs::Inside::Weight::weight))]
 fn after_type(budget: usize, value: &Json<'_>, space: &str, depth: u32) -> usize
@@ -209,8 +209,8 @@ fn after_field(budget: usize, field: &Json<'_>, space: &str, depth: u32) -> usiz
     }
 }
 
-/// Whether the names of the value's definitions, as full names, keep to their limit: they stand in
-/// the identity text, which may not be longer.
+/// Whether the full names of the value's definitions fit in the maximum length of a text. The
+/// identity text contains them, so it would be too long otherwise.
 pub fn names_fit(value: &Json<'_>) -> bool
     ensures { result ≡ nat_le (weight max_nesting [] (value_data value.now)) max_text }
 {

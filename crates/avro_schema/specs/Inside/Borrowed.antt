@@ -1,4 +1,4 @@
--- What a borrowed JSON value stands for.
+-- The JSON data of a value that borrows from the text.
 use Rattle.std.specs.Prelude.{ℕ, List, [], ◌∷◌, map, cond}
 use Rattle.std.specs.Borrow.{Bor}
 use Rattle.serde_json.specs.Data.{Data, null, boolean, number, string, array, object, Items, no_items, item, Members, put}
@@ -12,12 +12,12 @@ abbrev pub listed : List Data → Items
 listed [] = no_items
 listed (d ∷ ds) = item d (listed ds)
 
--- the reserved members go in among the other ones, one after another, so the last value of a name stays
+-- adds the reserved members to `others`, in order, so the last value of a repeated name counts
 abbrev pub put_all : List (Bor (List ℕ) × Data) → Members → Members
 put_all [] others = others
 put_all (m ∷ ms) others = put_all ms (cond (is_reserved m.0.now) (put m.0.now m.1 others) others)
 
--- one level, with the values inside already as data
+-- the data of a value, given the data of the values inside it
 abbrev pub data_step : Json-F Data → Data
 data_step Json-F.Null = null
 data_step (Json-F.Bool b) = boolean b

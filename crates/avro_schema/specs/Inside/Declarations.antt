@@ -1,4 +1,4 @@
--- What a declaration says beside the types inside it, computed.
+-- The parts of a declaration other than the types inside it, computed.
 use Rattle.std.specs.Prelude.{ℕ, List, [], ◌∷◌, ◌||◌, nat_le, if◌then◌else◌, Option, Some, None, option_map, is_some, codes, string_bytes}
 use Rattle.std.specs.Str.{bytes_eq}
 use Rattle.serde_json.specs.Data.{Data, Members, depth, members_depth}
@@ -15,23 +15,23 @@ use Rattle.avro_schema.specs.Attributes.{◌>>=◌, without_all, text_in, array_
 use Rattle.avro_schema.specs.Inside.Distinct.{all_differ}
 use Rattle.avro_schema.specs.Inside.ValueReaders.{Part, room_at}
 
--- other attributes, none of which nests too deep
+-- these attributes, if they nest within the limit
 unfoldable pub bounded : Members → Option Members
 bounded ms = if nat_le (members_depth ms) max_nesting then Some ms else None
 
--- a default that does not nest too deep, and may be missing
+-- an optional default, if it nests within the limit
 abbrev pub bounded_value : Option Data → Option (Option Data)
 bounded_value None = Some None
 bounded_value (Some d) = if nat_le (depth d) max_nesting then Some (Some d) else None
 
 -- ---- names
 
--- the rule for a name in a list: an alias of a type in the namespace, or else a simple name
+-- the name that an item of a list gives: with a namespace, the full name of an alias; without one, a simple name
 abbrev pub rule_by : Option (List ℕ) → List ℕ → Option (List ℕ)
 rule_by None text = allowed is_simple text
 rule_by (Some space) text = alias_in space text
 
--- a full name that may be defined: not known, and its last part no primitive's name
+-- the full name, if it is not defined yet and its last part is not the name of a primitive type
 abbrev pub if_new : Known → List ℕ → Option (List ℕ)
 if_new known full = if is_some (known full) || is_some (kind_of (last_part full)) then None else Some full
 
@@ -43,18 +43,17 @@ new_name space ms known = do
   full ← full_name name attribute space
   if_new known full
 
--- the keys of a definition's names
+-- the keys of the attributes that name a definition
 abbrev pub name_keys : List (List ℕ)
 name_keys = codes "name" ∷ codes "namespace" ∷ codes "aliases" ∷ []
 
--- the names of a new definition
 unfoldable pub named_in : List ℕ → Members → Known → Option NamedView
 named_in space ms known = do
   full ← new_name space ms known
   aliases ← texts_if_any (alias_in (namespace_of full)) (get_member (codes "aliases") (without_all (codes "name" ∷ codes "namespace" ∷ []) ms))
   Some (record { name = full; aliases = aliases })
 
--- an enum's symbols
+-- the symbols of an enum
 unfoldable pub symbols_in : Members → Option (List (List ℕ))
 symbols_in ms = do
   items ← array_in (codes "symbols") ms
@@ -78,7 +77,7 @@ fixed_at space ms known first = do
   extra ← bounded (without_all (codes "size" ∷ []) (without_all name_keys ms))
   Some (record { it = place; nodes = fixed named size extra ∷ []; known = defined known named.name place })
 
--- what a field says beside its type
+-- the attributes of a field other than its type
 pub record FieldAttributesView : Type 0 where
   pub name : List ℕ
   pub aliases : List (List ℕ)
@@ -97,6 +96,6 @@ field_attributes_in ms = do
   value ← bounded_value (get_member (codes "default") (without_all (codes "name" ∷ codes "aliases" ∷ codes "order" ∷ []) ms))
   Some (record { name = name; aliases = aliases; order = order; value = value })
 
--- the keys of these
+-- the keys of the attributes in `FieldAttributesView`
 abbrev pub field_attribute_keys : List (List ℕ)
 field_attribute_keys = codes "name" ∷ codes "aliases" ∷ codes "order" ∷ codes "default" ∷ []

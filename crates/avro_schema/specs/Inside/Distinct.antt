@@ -1,7 +1,7 @@
--- Whether the elements of a list are all different.
+-- Whether the elements of a list are distinct.
 use Rattle.std.specs.Prelude.{ℕ, ◌+◌, ◌*◌, ◌%◌, ◌^◌, List, [], ◌∷◌, Bool, true, false, not, cond, ◌&&◌, fold}
 
--- whether each is new: neither seen nor before it in the list
+-- whether each element is new: `seen` doesn't accept it, and it doesn't occur earlier in the list
 unfoldable pub all_new : {X : Type 0} → (X → X → Bool) → (X → Bool) → List X → Bool
 all_new same seen [] = true
 all_new same seen (x ∷ xs) = not (seen x) && all_new same (λ y. cond (same x y) true (seen y)) xs

@@ -1,4 +1,5 @@
--- Which fields of a record every default is asked for, and which only a default that names them (this project's choice).
+-- The table of a record's fields by name. It says which fields to check for every default value of the record, and which only if the value
+-- has a member of that name (this project's choice).
 use Rattle.std.specs.Prelude.{◌≡◌, ◌==◌, ◌<◌, ℕ, List, length, Bool, true, ◌&&◌, ◌⊎◌, Option, Some, None, is_some, slice_get}
 use Rattle.std.specs.Ordering.{nat_cmp}
 use Rattle.std.specs.BTreeMap.{get_by}
@@ -10,27 +11,27 @@ use Rattle.avro_nodes.specs.Nodes.{NamedView, FieldView, NodeView, rec}
 use Rattle.avro_schema.specs.declared.tables.FieldTable.{FieldTable}
 use Rattle.avro_schema.specs.Inside.Fitting.{Fitting, field_fits_by}
 
--- the index that the table has at a name
+-- the index that the table has for a name
 abbrev pub named_in : FieldTable → List ℕ → Option ℕ
 named_in t name = get_by (λ k. slice_cmp nat_cmp name k.now) t.by_name
 
--- whether the field at the index is always asked for
+-- whether the list of required fields has the index
 abbrev pub is_required : List ℕ → ℕ → Bool
 is_required required i = list_any (λ j. j == i) required
 
--- the field at the index is always asked for, or has a default and is found by its name
+-- the field at the index is required, or it has a default and the table finds it by name
 abbrev pub IsCovered : List ℕ → (List ℕ → Option ℕ) → ℕ → FieldView → Type 0
 IsCovered required named i f = (is_required required i ≡ true) ⊎ ((is_some f.value ≡ true) × (named f.name ≡ Some i))
 
--- so is each of the first n fields
+-- the table covers each of the first n fields
 unfoldable pub CoversFirst : ℕ → List ℕ → (List ℕ → Option ℕ) → List FieldView → Type 0
 CoversFirst n required named fields = (i : ℕ) (f : FieldView) → i < n → slice_get fields i ≡ Some f → IsCovered required named i f
 
--- so is each field of the table
+-- the table covers all fields
 abbrev pub IsFieldTable : FieldTable → List FieldView → Type 0
 IsFieldTable t fields = CoversFirst (length fields) t.required.items (named_in t) fields
 
--- the table is that of the fields, where the node is a record
+-- if the node is a record, the table is that of its fields
 unfoldable pub IsFieldTableOf : FieldTable → NodeView → Type 0
 IsFieldTableOf t node = (named : NamedView) (fields : List FieldView) (extra : Members) → node ≡ rec named fields extra → IsFieldTable t fields
 
@@ -38,17 +39,17 @@ IsFieldTableOf t node = (named : NamedView) (fields : List FieldView) (extra : M
 unfoldable pub AreFieldTables : List NodeView → List (Option FieldTable) → Type 0
 AreFieldTables nodes tables = (place : ℕ) (t : FieldTable) (node : NodeView) → slice_get tables place ≡ Some (Some t) → slice_get nodes place ≡ Some node → IsFieldTableOf t node
 
--- whether the field at an index fits, if there is one
+-- whether the field fits its member; `None` fits
 abbrev pub fits_if_any : Fitting → Members → Option FieldView → Bool
 fits_if_any one ms None = true
 fits_if_any one ms (Some f) = field_fits_by one f (get_member f.name ms)
 
--- whether the index fits, if there is one
+-- whether the field at the index fits its member; no index and no field fit
 abbrev pub index_fits : Fitting → Members → List FieldView → Option ℕ → Bool
 index_fits one ms fields None = true
 index_fits one ms fields (Some i) = fits_if_any one ms (slice_get fields i)
 
--- whether the fields fit that these members name
+-- whether the fields fit that the members name
 abbrev pub named_fit : Fitting → Members → List FieldView → FieldTable → Members → Bool
 named_fit one ms fields t no_members = true
 named_fit one ms fields t (member k d more) = index_fits one ms fields (named_in t k) && named_fit one ms fields t more

@@ -1,4 +1,4 @@
--- Which defaults fit, computed: the same as `FitsDefault` and `DefaultsFit` say.
+-- Which defaults fit, computed. The result agrees with `FitsDefault` and `DefaultsFit`.
 use Rattle.std.specs.Prelude.{ℕ, zero, suc, List, [], ◌∷◌, length, Bool, true, false, ◌&&◌, ◌==◌, ℤ, Option, Some, None, is_some, slice_get}
 use Rattle.std.specs.Str.{chars}
 use Rattle.serde_json.specs.Data.{Data, null, boolean, number, string, Items, no_items, item, Members, no_members, member}
@@ -62,7 +62,7 @@ primitive_fits (string s) kind = string_fits kind s
 primitive_fits (json.array ds) kind = false
 primitive_fits (json.object ms) kind = false
 
--- whether a value fits the type at a place
+-- a function that returns whether a value fits the type at a place
 abbrev pub Fitting : Type 0
 Fitting = Data → ℕ → Bool
 
@@ -122,7 +122,7 @@ record_fits one (string s) fields = false
 record_fits one (json.array ds) fields = false
 record_fits one (json.object ms) fields = fields_fit one ms fields
 
--- by the form of the type
+-- whether the value fits a node that is no union
 abbrev pub node_fits : Fitting → Data → Option NodeView → Bool
 node_fits one v None = false
 node_fits one v (Some (primitive kind extra)) = primitive_fits v kind
@@ -133,7 +133,7 @@ node_fits one v (Some (enumeration named symbols fallback extra)) = is_string v
 node_fits one v (Some (fixed named size extra)) = fixed_fits v size
 node_fits one v (Some (rec named fields extra)) = record_fits one v fields
 
--- a type, or the first branch of a union
+-- the type that a default must fit: for a union its first branch, else the node itself
 abbrev pub default_type : List NodeView → Option NodeView → Option NodeView
 default_type nodes None = None
 default_type nodes (Some (primitive kind extra)) = Some (primitive kind extra)
@@ -145,12 +145,12 @@ default_type nodes (Some (enumeration named symbols fallback extra)) = Some (enu
 default_type nodes (Some (fixed named size extra)) = Some (fixed named size extra)
 default_type nodes (Some (rec named fields extra)) = Some (rec named fields extra)
 
--- for values that nest less deep than the number
+-- whether a value that nests less than n levels deep fits the type at a place
 unfoldable pub fits : ℕ → List NodeView → Fitting
 fits zero nodes v place = false
 fits (suc n) nodes v place = node_fits (fits n nodes) v (default_type nodes (slice_get nodes place))
 
--- a default, if there is one, fits its field
+-- whether a default fits its field; a field without a default passes
 abbrev pub value_fits : List NodeView → Option Data → ℕ → Bool
 value_fits nodes None place = true
 value_fits nodes (Some v) place = fits (suc max_nesting) nodes v place

@@ -1,4 +1,4 @@
--- The numbers by which kinds of branches are told apart.
+-- Numbers that identify the kinds of branches.
 use Rattle.std.specs.Prelude.{ℕ, ◌+◌, List, Option, option_map}
 use Rattle.avro_nodes.specs.declared.node.Kind.{Kind}
 use Rattle.avro_nodes.specs.declared.node.Kind.TheVariants.{Null, Boolean, Int, Long, Float, Double, Bytes, Text}
@@ -21,6 +21,6 @@ kind_number array_kind = 8
 kind_number map_kind = 9
 kind_number (named_kind place) = 10 + place
 
--- the number of the kind of a branch at this place that adds these nodes
+-- the number of the kind of a branch that has this place and added these nodes
 unfoldable pub branch_number : ℕ → List NodeView → Option ℕ
 branch_number place nodes = option_map kind_number (branch_kind place nodes)

@@ -1,11 +1,11 @@
--- How many bytes the names of the types that nodes are made of take in the identity text. It has such a name once for each node that is made of
--- the type: in the type's definition, or in a reference to it.
+-- The bytes that the names of types inside other types take in the identity text. The identity text has such a name once for each use of
+-- the type: in its definition or in a reference.
 use Rattle.std.specs.Prelude.{ℕ, ◌+◌, List, [], ◌∷◌, length, slice_get}
 use Rattle.avro_nodes.specs.Identity.{name_of}
 use Rattle.avro_nodes.specs.Nodes.{FieldView, NodeView, primitive, array, mapping, union, enumeration, fixed, rec}
 
 module _ (all : List NodeView) where
-  -- the type at a place
+  -- the length of the full name of the type at the place, 0 if it has no name
   unfoldable pub mention : ℕ → ℕ
   mention place = length (name_of (slice_get all place))
 

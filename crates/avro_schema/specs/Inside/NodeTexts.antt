@@ -1,10 +1,10 @@
--- The names of nodes, as they come.
+-- The names of nodes, in order of occurrence, with duplicates.
 use Rattle.std.specs.Prelude.{ℕ, List, [], ◌∷◌, ◌++◌, map}
 use Rattle.std.specs.Borrow.{Bor}
 use Rattle.avro_nodes.specs.Names.{last_part}
 use Rattle.avro_nodes.specs.Nodes.{NamedView, FieldView, NodeView, primitive, array, mapping, union, enumeration, fixed, rec}
 
--- texts behind references
+-- the texts that these references borrow
 abbrev pub borrowed : List (Bor (List ℕ)) → List (List ℕ)
 borrowed texts = map (λ text. text.now) texts
 

@@ -1,5 +1,5 @@
--- What a JSON value gives as a type, computed: its place, the nodes that it adds and the names known afterwards. The rules, one for
--- each form, are those of `Denotes`, which says the same.
+-- The type that a JSON value declares, computed: its place, the nodes that it adds, and the names known afterwards. There is one function
+-- for each rule of `Denotes`, and the results agree.
 use Rattle.std.specs.Prelude.{ℕ, zero, suc, ◌+◌, List, [], ◌∷◌, map, ◌==◌, if◌then◌else◌, Option, Some, None, option_map, codes}
 use Rattle.std.specs.Str.{bytes_eq}
 use Rattle.serde_json.specs.Data.{Data, string, Items, Members, no_members}
@@ -20,7 +20,7 @@ use Rattle.avro_schema.specs.Inside.Distinct.{all_differ}
 use Rattle.avro_schema.specs.Inside.Declarations.{name_keys, named_in, enum_at, fixed_at, FieldAttributesView, field_attributes_in, field_attribute_keys, bounded}
 use Rattle.avro_schema.specs.Inside.ValueReaders.{Part, PartReader, TypeReader, parts_of, room_at}
 
--- a reference makes no node
+-- a reference, which adds no node
 unfoldable pub reference_to : List ℕ → List ℕ → Known → Option (Part ℕ)
 reference_to space name known = option_map (λ p. record { it = p; nodes = []; known = known }) (resolved known space name)
 
@@ -34,7 +34,7 @@ abbrev pub kind_or_reference : Option Kind → List ℕ → List ℕ → Known �
 kind_or_reference (Some kind) space name known first = primitive_at kind no_members known first
 kind_or_reference None space name known first = reference_to space name known
 
--- a primitive's name, or else a reference
+-- a string: the name of a primitive type, else a reference
 unfoldable pub name_at : List ℕ → List ℕ → Known → ℕ → Option (Part ℕ)
 name_at space name known first = kind_or_reference (kind_of name) space name known first
 
@@ -58,7 +58,7 @@ container_at container one ms known first = do
 
 -- ---- unions
 
--- a branch: its place and the number of its kind
+-- a branch of a union: its place and the number of its kind
 unfoldable pub branch_of : PartReader ℕ → PartReader (ℕ × ℕ)
 branch_of one d known first = do
   p ← one d known first
@@ -96,7 +96,7 @@ record_at types space ms known first = do
 
 -- ---- types
 
--- an object, by what its `type` says, with its other members
+-- an object, by its type name; `ms` are its other members
 abbrev pub by_type_name : TypeName → List ℕ → TypeReader → List ℕ → Members → Known → ℕ → Option (Part ℕ)
 by_type_name (type_name.Primitive kind) name types space ms known first = primitive_at kind ms known first
 by_type_name type_name.Array name types space ms known first = container_at of_items (types space) ms known first
@@ -111,7 +111,7 @@ object_at types space ms known first = do
   name ← text_in (codes "type") ms
   by_type_name (type_name_of name) name types space (without_all (codes "type" ∷ []) ms) known first
 
--- a type by its form; the first is the reader of the types inside
+-- a value, by its JSON form; `types` reads the types inside it
 abbrev pub form_at : TypeReader → List ℕ → PartReader ℕ
 form_at types space (string s) known first = name_at space s known first
 form_at types space (json.array ds) known first = union_at (types space) ds known first
@@ -120,7 +120,7 @@ form_at types space json.null known first = None
 form_at types space (json.boolean b) known first = None
 form_at types space (json.number n) known first = None
 
--- a type, nested no deeper than the number
+-- a type that nests at most n levels deep
 unfoldable pub type_at : ℕ → TypeReader
 type_at zero space d known first = None
 type_at (suc n) space d known first = form_at (type_at n) space d known first

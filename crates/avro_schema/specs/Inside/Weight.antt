@@ -1,5 +1,5 @@
--- How many bytes the names of definitions take, once they are full names (Avro 1.11 specification, Names; Aliases): in nodes, and in a JSON
--- value before any node is made of it.
+-- The bytes that the full names and aliases of all definitions take (Avro 1.11 specification, Names; Aliases): in nodes, and in a JSON
+-- value before its nodes exist.
 use Rattle.std.specs.Prelude.{ℕ, zero, suc, ◌+◌, List, [], ◌∷◌, length, if◌then◌else◌, Option, Some, None, option_and_then, unwrap_or, codes}
 use Rattle.serde_json.specs.Data.{Data, string, Items, no_items, item, Members}
 use Rattle.serde_json.specs.Data as json
@@ -28,12 +28,12 @@ node_size (enumeration named symbols fallback extra) = named_size named
 node_size (fixed named size extra) = named_size named
 node_size (rec named fields extra) = named_size named
 
--- the names and aliases of the nodes
+-- the names and aliases in the nodes
 abbrev pub names_size : List NodeView → ℕ
 names_size [] = 0
 names_size (node ∷ nodes) = node_size node + names_size nodes
 
--- ---- the same of the nodes that a JSON value denotes, and any number where it denotes none
+-- ---- the same for a JSON value; the number has no meaning if the value denotes no nodes
 
 abbrev pub if_any : {A : Type 0} → (A → ℕ) → Option A → ℕ
 if_any one None = 0
@@ -43,14 +43,14 @@ abbrev pub items_weight : (Data → ℕ) → Items → ℕ
 items_weight one no_items = 0
 items_weight one (item d ds) = one d + items_weight one ds
 
--- the full name that a name has in a namespace; with a dot it is one
+-- the full name of a name in a namespace; a name with a dot is a full name already
 unfoldable pub full_name_in : List ℕ → List ℕ → List ℕ
 full_name_in space name = if has_dot name then name else qualified space name
 
 abbrev pub alias_weight : List ℕ → Data → ℕ
 alias_weight space d = if_any (λ alias. length (full_name_in space alias)) (as_str d)
 
--- the namespace of a definition of this name, inside an enclosing one
+-- the namespace of a definition, by its name, its attributes and the enclosing namespace
 unfoldable pub namespace_in : List ℕ → List ℕ → Members → List ℕ
 namespace_in enclosing name ms = if has_dot name then namespace_of name else unwrap_or (text_in (codes "namespace") ms) enclosing
 
@@ -61,7 +61,7 @@ names_weight space name ms = length (full_name_in space name) + if_any (items_we
 unfoldable pub definition_weight : List ℕ → Members → ℕ
 definition_weight space ms = if_any (λ name. names_weight (namespace_in space name ms) name ms) (text_in (codes "name") ms)
 
--- a type, in a namespace
+-- the bytes of a type, given the namespace
 abbrev pub Weigher : Type 0
 Weigher = List ℕ → Data → ℕ
 
@@ -73,7 +73,7 @@ record_weight types space ms =
     if_any (λ name. names_weight (namespace_in space name ms) name ms + if_any (items_weight (field_weight (types (namespace_in space name ms)))) (array_in (codes "fields") ms))
     (text_in (codes "name") ms)
 
--- an object, by what its `type` says
+-- the bytes of an object, by its type name
 abbrev pub by_type_name : TypeName → Weigher → List ℕ → Members → ℕ
 by_type_name (type_name.Primitive kind) types space ms = 0
 by_type_name type_name.Array types space ms = if_any (types space) (get_member (codes "items") ms)
@@ -94,7 +94,7 @@ form_weight types space json.null = 0
 form_weight types space (json.boolean b) = 0
 form_weight types space (json.number n) = 0
 
--- a type, nested no deeper than the number
+-- the bytes of a type that nests at most n levels deep
 unfoldable pub weight : ℕ → Weigher
 weight zero space d = 0
 weight (suc n) space d = form_weight (weight n) space d

@@ -9,7 +9,7 @@ use crate::defaults::fits;
 use crate::tables::FieldTable;
 use avro_nodes::{Field, MAX_NESTING, Node};
 
-/// Whether each default of the fields fits its field.
+/// Whether the default of each field fits the field's type.
 fn field_defaults_fit(fields: &[Field], nodes: &[Node], tables: &[Option<FieldTable>]) -> bool
     requires tables { AreFieldTables (nodes_view nodes.now) tables.now }
     ensures { result ≡ field_defaults_fit (nodes_view nodes.now) (map field_view fields.now) }
@@ -24,7 +24,7 @@ fn field_defaults_fit(fields: &[Field], nodes: &[Node], tables: &[Option<FieldTa
     true
 }
 
-/// Whether each default of a record fits its field. Other types have none.
+/// Whether every default in a record fits its field. Other types have no fields.
 pub fn node_default_fits(node: &Node, nodes: &[Node], tables: &[Option<FieldTable>]) -> bool
     requires tables { AreFieldTables (nodes_view nodes.now) tables.now }
     ensures { result ≡ node_default_fits (nodes_view nodes.now) (node_view node.now) }

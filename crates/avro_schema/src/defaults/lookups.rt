@@ -1,4 +1,4 @@
-//! Members by name, and the tables of records.
+//! The type that a default must fit, and the field table of a record.
 
 ghost use Rattle.std.specs.Prelude.{◌≡◌, option_map, Some, IfSome, slice_get};
 ghost use Rattle.avro_nodes.specs.Nodes.{node_view, nodes_view};
@@ -8,7 +8,8 @@ ghost use Rattle.avro_schema.specs.Inside.FieldTables.{IsFieldTableOf, AreFieldT
 use crate::tables::FieldTable;
 use avro_nodes::Node;
 
-/// The type at the place, or where that is a union its first branch, with the place where it is.
+/// The type that a default must fit, with its place: for a union its first branch, else the type at
+/// `place`.
 pub fn default_type(nodes: &[Node], place: u32) -> Option<(u32, &Node)>
     ensures node { option_map (λ p. node_view p.1.now) result
         ≡ default_type (nodes_view nodes.now) (slice_get (nodes_view nodes.now) place) }
@@ -24,7 +25,7 @@ pub fn default_type(nodes: &[Node], place: u32) -> Option<(u32, &Node)>
     }
 }
 
-/// The table of the node at the place, where it has one.
+/// The field table of the node at the place, or `None`.
 #[tactic(auto, unfolding(crate::specs::Inside::FieldTables::AreFieldTables))]
 pub fn table_at<'a, 'b>(
     tables: &'a [Option<FieldTable<'b>>],

@@ -1,4 +1,4 @@
-//! Whether a value fits a primitive type, or a text some bytes.
+//! Whether a value fits a primitive type or a `fixed` type.
 
 ghost use Rattle.std.specs.Prelude.{◌≡◌, ◌&&◌, ◌==◌, length};
 ghost use Rattle.std.specs.Str.{chars};
@@ -9,7 +9,7 @@ ghost use Rattle.avro_schema.specs.Defaults.{is_bytes};
 use avro_nodes::Kind;
 use serde_json::Value;
 
-/// Whether each code point stands for a byte.
+/// Whether every code point of the text is at most 255 and so denotes a byte.
 fn is_bytes(text: &str) -> bool
     ensures { result ≡ is_bytes text.now }
 {
@@ -22,14 +22,13 @@ fn char_count(text: &str) -> usize
     text.chars().count()
 }
 
-/// Whether the text has so many code points, each of which stands for a byte.
+/// Whether the text denotes exactly `size` bytes.
 pub fn is_bytes_of(text: &str, size: u32) -> bool
     ensures { result ≡ (is_bytes text.now && (length (chars text.now) == size)) }
 {
     is_bytes(text) && char_count(text) == size as usize
 }
 
-/// Whether the value fits a primitive type.
 pub fn primitive_fits(value: &Value, kind: Kind) -> bool
     ensures { result ≡ primitive_fits (view value.now) kind }
 {

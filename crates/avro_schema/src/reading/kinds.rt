@@ -8,7 +8,7 @@ ghost use Rattle.avro_schema.specs.Inside.Types.{member_name};
 use crate::keywords::Container;
 use avro_nodes::{Kind, Node};
 
-/// A number for each primitive type.
+/// The number of a primitive type.
 fn primitive_number(kind: Kind) -> u32
     ensures { result ≡ primitive_number kind }
 {
@@ -24,8 +24,8 @@ fn primitive_number(kind: Kind) -> u32
     }
 }
 
-/// The number of the kind of a branch at the place that added these nodes: two branches share it
-/// where a union may not hold both. A union is no branch.
+/// The number of the kind of a branch that has this place and added these nodes. Two branches with
+/// the same number can't be in one union. `None` if the branch is a union.
 #[tactic(auto, unfolding(crate::specs::Inside::KindNumbers::branch_number, crate::specs::Kinds::branch_kind,))]
 pub fn branch_number(place: u32, added: &[Node]) -> Option<u64>
     ensures { result ≡ branch_number place (nodes_view added.now) }
@@ -44,7 +44,7 @@ pub fn branch_number(place: u32, added: &[Node]) -> Option<u64>
     }
 }
 
-/// The attribute that holds what an array or a map is of.
+/// The attribute with the type of an array's items or a map's values.
 pub fn member_name(container: Container) -> &'static str
     ensures { result.now ≡ member_name container }
 {

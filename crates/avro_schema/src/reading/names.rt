@@ -1,4 +1,4 @@
-//! Types that are said by a name.
+//! Types that are given by a name: primitive types and references.
 
 ghost use Rattle.std.specs.Prelude.{length};
 ghost use Rattle.avro_nodes.specs.Nodes.{nodes_view};
@@ -15,12 +15,12 @@ use crate::name_table::{NameTable, Namespace};
 use avro_nodes::{Extra, Kind, Node};
 use std::alloc::Global;
 
-/// Reads a primitive type, whose other attributes are left.
+/// Reads a primitive type from the attributes without `type`, and returns its place.
 ///
 /// # Errors
 ///
-/// `TooLarge` where there is no place left or an attribute nests too deep, and `OutOfMemory` where
-/// memory is refused.
+/// `TooLarge` if there is no room for a node or an attribute nests too deep, and `OutOfMemory` if
+/// allocation fails.
 #[tactic(auto, unfolding(crate::specs::Inside::Types::primitive_at))]
 pub fn primitive_at(
     alloc: Global,
@@ -39,11 +39,11 @@ pub fn primitive_at(
     Ok(place)
 }
 
-/// Finds what a reference names.
+/// The place of the type that a reference names.
 ///
 /// # Errors
 ///
-/// `Undefined` where nothing known has the name.
+/// `Undefined` if no definition so far has this name.
 #[tactic(auto, unfolding(crate::specs::Inside::Types::reference_to))]
 pub fn reference_to(
     name: &str,
@@ -61,7 +61,7 @@ pub fn reference_to(
     }
 }
 
-/// Reads a string: a primitive's name, or else a reference.
+/// Reads a string: the name of a primitive type, else a reference. Returns the place of the type.
 ///
 /// # Errors
 ///

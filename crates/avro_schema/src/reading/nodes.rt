@@ -1,4 +1,4 @@
-//! Nodes from what was read of them.
+//! Makes nodes from their parts.
 
 ghost use Rattle.std.specs.Prelude.{◌≡◌, ◌<◌, length, slice_set};
 ghost use Rattle.serde_json.specs.View.{members_view};
@@ -11,7 +11,7 @@ use crate::keywords::Container;
 use avro_nodes::{Extra, Field, Node};
 use std::alloc::Global;
 
-/// The node of an array or a map, of the type at a place.
+/// The node of an array or a map whose items or values have the type at `place`.
 pub fn container_node(container: Container, place: u32, extra: Extra) -> Node
     ensures { node_view result ≡ container_node container place (members_view extra.entries) }
 {
@@ -27,14 +27,14 @@ pub fn container_node(container: Container, place: u32, extra: Extra) -> Node
     }
 }
 
-/// A node that stands until the types inside it are read.
+/// A placeholder for a node until the types inside it are read.
 pub fn blank(alloc: Global) -> Node {
     Node::Union {
         branches: Vec::new(alloc),
     }
 }
 
-/// Puts a node in the place of the blank one that stands there.
+/// Replaces the placeholder at the place by the node.
 pub fn fill_blank(nodes: &mut Vec<Node>, place: u32, node: Node)
     requires { place < length nodes.old.items }
     ensures { nodes_view nodes.new.items
@@ -43,7 +43,7 @@ pub fn fill_blank(nodes: &mut Vec<Node>, place: u32, node: Node)
     nodes[place as usize] = node;
 }
 
-/// A field, of the type at a place.
+/// A field whose type is at `place`.
 pub fn field_from(label: FieldAttributes, place: u32, extra: Extra) -> Field
     ensures { field_view result ≡ field_at (field_attributes_view label) place (members_view extra.entries) }
 {
