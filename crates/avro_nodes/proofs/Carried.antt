@@ -1,4 +1,5 @@
--- What holds of the defaults, other attributes and sizes of nodes, and is carried by arrays and objects, holds of the whole identity value.
+-- If arrays and objects preserve a property, and the defaults, other attributes and sizes of nodes have it, so does the whole identity
+-- value.
 use Rattle.std.proofs.Common.{◌≡◌, ℕ, zero, suc, ◌+◌, ◌*◌, List, [], ◌∷◌, Bool, true, false, cond, ◌==◌, Option, Some, None, Ordering, Less, Equal, Greater, subst, arith}
 use Rattle.std.specs.Prelude.{codes, slice_get, option_map, IfSome}
 use Rattle.std.specs.List.{AllByRecursion}
@@ -21,11 +22,11 @@ abbrev pub AllItems : (Data → Type 0) → Items → Type 0
 AllItems P no_items = Unit {0}
 AllItems P (item d ds) = P d × AllItems P ds
 
--- E holds of the default, and F of the other attributes
+-- the default has property E, and all other attributes have property F
 abbrev pub OfField : (Data → Type 0) → (Members → Type 0) → FieldView → Type 0
 OfField E F f = IfSome f.value E × F f.extra
 
--- E holds of each default and size, and F of all other attributes
+-- each default and size has property E, and all other attributes have property F
 abbrev pub OfNode : (Data → Type 0) → (Members → Type 0) → NodeView → Type 0
 OfNode E F (primitive kind extra) = F extra
 OfNode E F (array items extra) = F extra
@@ -35,7 +36,7 @@ OfNode E F (enumeration named symbols fallback extra) = F extra
 OfNode E F (fixed named size extra) = E (number (unsigned size)) × F extra
 OfNode E F (rec named fields extra) = AllByRecursion (OfField E F) fields × F extra
 
--- what holds of each node holds of the one at a place
+-- a property of each node is one of the node at any place
 of_place : (P : NodeView → Type 0) (nodes : List NodeView) → AllByRecursion P nodes → (i : ℕ) → IfSome (slice_get nodes i) P
 of_place P [] h i = tt
 of_place P (node ∷ nodes) h zero = h.0
@@ -49,14 +50,14 @@ module _ (P : Data → Type 0) where
   put_at Equal k l d e ms p q h more = (p, h)
   put_at Greater k l d e ms p q h more = (q, more)
 
-  -- what holds of each member and of a value still does where it is put among them
+  -- if each member and a value have the property, so have the members with the value inserted
   pub all_put : (k : List ℕ) (d : Data) (ms : Members) → P d → AllMembers P ms → AllMembers P (put k d ms)
   all_put k d no_members p h = (p, tt)
   all_put k d (member l e ms) p h = put_at (slice_cmp nat_cmp k l) k l d e ms p h.0 h.1 (all_put k d ms p h.1)
 
 -- ---- attributes
 
--- M holds of members to which a value is put of which P holds
+-- members with property M keep it when a value with property P is inserted
 module _ (P : Data → Type 0) (M : Members → Type 0) (puts : (k : List ℕ) (d : Data) (ms : Members) → P d → M ms → M (put k d ms)) (of_text : (t : List ℕ) → P (string t))
     (of_texts : (ts : List (List ℕ)) → P (json.array (texts ts))) where
   all_text : (k t : List ℕ) (ms : Members) → M ms → M (with_text k t ms)
@@ -89,7 +90,8 @@ module _ (P : Data → Type 0) (M : Members → Type 0) (puts : (k : List ℕ) (
 
 -- ---- types
 
--- K n and L n hold of values and members that are n levels above a default, of which E holds, or other attributes, of which F holds
+-- Values and members that are n levels above a default with property E, or above other attributes with property F, have properties
+-- K n and L n.
 module _ (E : Data → Type 0) (F : Members → Type 0) (K : ℕ → Data → Type 0) (L : ℕ → Members → Type 0) (from : (n : ℕ) (d : Data) → E d → K n d) (extra_is : (n : ℕ) (ms : Members) → F ms → L n ms)
     (puts : (n : ℕ) (k : List ℕ) (d : Data) (ms : Members) → K n d → L n ms → L n (put k d ms)) (more : (n k : ℕ) (d : Data) → K n d → K (n + k) d) (of_null : (n : ℕ) → K n null)
     (of_text : (n : ℕ) (t : List ℕ) → K n (string t)) (of_texts : (n : ℕ) (ts : List (List ℕ)) → K n (json.array (texts ts))) (of_array : (n : ℕ) (ds : Items) → AllItems (K n) ds → K (n + 1) (json.array ds))
@@ -175,7 +177,7 @@ module _ (E : Data → Type 0) (F : Members → Type 0) (K : ℕ → Data → Ty
   either_is true m x y h g = h
   either_is false m x y h g = g
 
-  -- what holds so of each node holds of the value of each type
+  -- if each node has these properties, so has the value of the type at any place
   pub spelt_is : (n : ℕ) (nodes : List NodeView) → AllByRecursion (OfNode E F) nodes → (enclosing : List ℕ) (place written : ℕ) → K (3 * n) (identity_at n nodes enclosing place written).0
   unfolding identity_at
   spelt_is zero nodes all enclosing place written = of_null (3 * zero)

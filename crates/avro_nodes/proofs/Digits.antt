@@ -12,7 +12,7 @@ use Rattle.serde_json.specs.declared.number.N.TheVariants.{PosInt, NegInt, Float
 use Rattle.serde_json.proofs.Numbers.{number_of-decimal, number_of-negative}
 use Rattle.serde_json.proofs.Texts.{unless_float-number_of}
 
--- the text reads as the number
+-- the text is read as the number, and is the number's text unless it is a float
 abbrev pub Spells : List ℕ → Num → Type 0
 Spells s x = (number_of s ≡ Some x) × (unless_float s ≡ number_text x)
 

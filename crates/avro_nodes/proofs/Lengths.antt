@@ -1,4 +1,4 @@
--- How many bytes the strings of a value take, which is no more than its text does.
+-- The strings of a value have no more bytes than the text of the value.
 use Rattle.std.proofs.Common.{◌≡◌, ℕ, suc, ◌+◌, ◌/◌, ◌%◌, ◌≤◌, List, [], ◌∷◌, ◌++◌, length, Bool, true, false, nat_lt, cond, ap, length-append, arith}
 use Rattle.std.specs.Char.{digit_char}
 use Rattle.std.specs.List.{flat_map}
@@ -19,7 +19,7 @@ abbrev mutual
   items_size no_items = 0
   items_size (item d ds) = data_size d + items_size ds
 
-  -- the keys are left out
+  -- without the keys
   pub members_size : Members → ℕ
   members_size no_members = 0
   members_size (member k d ms) = data_size d + members_size ms

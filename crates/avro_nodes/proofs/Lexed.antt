@@ -1,4 +1,4 @@
--- Where each run of a text that begins as a number does is the text of a whole number, so is each number that is lexed.
+-- If each run that begins as a number is the text of an integer, so is each number that the lexer finds.
 use Rattle.std.proofs.Common.{◌≡◌, ℕ, zero, suc, ◌-◌, ◌<◌, ◌≤◌, ◌==◌, List, [], ◌∷◌, ◌++◌, length, take, drop, Bool, true, false, ◌&&◌, ◌||◌, cond, Option, Some, None, is_some, refl, sym, ap, subst, ◌∙◌, length-append, take_at, arith}
 use Rattle.std.specs.Prelude.{nat_eq}
 use Rattle.std.specs.List.{list_all, starts_with}
@@ -18,7 +18,7 @@ use Rattle.avro_nodes.proofs.Unchanged.{Stops, run_copies}
 use Rattle.avro_nodes.proofs.Respelt.{IsWholeText, AllGood}
 use Rattle.avro_nodes.proofs.NumberFronts.{Leaves, leaves, first_byte}
 
--- what is asked of a token, and what of those after it, of which none counts behind a fault
+-- a number token is the text of an integer, and `more` is true of the tokens after it; nothing is required after a bad token
 abbrev pub FineToken : Token → Type 0 → Type 0
 FineToken begin_object more = more
 FineToken end_object more = more
@@ -31,7 +31,7 @@ FineToken (boolean b) more = more
 FineToken null more = more
 FineToken bad more = Unit {0}
 
--- each number that is lexed before a fault is the text of a whole number
+-- each number before a bad token is the text of an integer
 abbrev pub Fine : List Lexeme → Type 0
 Fine [] = Unit {0}
 Fine (token t ∷ ls) = FineToken t (Fine ls)
@@ -40,7 +40,7 @@ Fine (colon ∷ ls) = Fine ls
 
 -- ---- bytes
 
--- a number character stands for nothing else
+-- a number character is no quote, operator or space
 module _ (c : ℕ) (chars : is_number_char c ≡ true) where
   no : (k : ℕ) → is_number_char k ≡ false → (c == k) ≡ false
   no k e = ne_eqb c k (λ is. true≢false (sym chars ∙ ap is_number_char is ∙ e))
@@ -54,7 +54,7 @@ module _ (c : ℕ) (chars : is_number_char c ≡ true) where
   its_class : class c ≡ lexer.other
   its_class = rw (no 34 refl, no 92 refl, no_operator, no_space) refl
 
--- what holds of no number character holds of other bytes alone
+-- a byte that passes a test that no number character passes is no number character
 none_of : (test : ℕ → Bool) → ((c : ℕ) → is_number_char c ≡ true → test c ≡ false) → (c : ℕ) (b : Bool) → is_number_char c ≡ b → test c ≡ true → b ≡ false
 none_of test apart c true e h = absurd (true≢false (sym h ∙ apart c e))
 none_of test apart c false e h = refl
@@ -63,12 +63,12 @@ none_of test apart c false e h = refl
 delimits : (c : ℕ) → (is_operator c || is_space c) ≡ true → is_number_char c ≡ false
 delimits c h = none_of (λ x. is_operator x || is_space x) (λ x e. rw (no_operator x e, no_space x e) refl) c (is_number_char c) refl h
 
--- where a word ends, no number character follows
+-- no number character follows the end of a word
 stops_word : (rest : List ℕ) → ends_word rest ≡ true → Stops rest
 stops_word [] e = tt
 stops_word (c ∷ cs) e = delimits c e
 
--- in a word the lexer passes over number characters
+-- the lexer skips number characters in a word
 in_word_passes : (s rest : List ℕ) → list_all is_number_char s ≡ true → lex in_word (s ++ rest) ≡ lex in_word rest
 unfolding lex
 in_word_passes [] rest e = refl
@@ -78,11 +78,11 @@ in_word_passes (c ∷ cs) rest e =
 
 -- ---- a word
 
--- the rest behind a word that ends there
+-- the induction hypothesis for shorter texts
 abbrev Onward : List ℕ → Type 0
 Onward t = (rest : List ℕ) → length rest < length t → AllGood (pieces Outside rest) → Fine (lex between rest)
 
--- a word, and what the lexer goes on with behind its first byte
+-- the token of a word, and the tokens after its first byte
 abbrev FineWord : List ℕ → Token → Type 0
 FineWord t w = FineToken w (Fine (lex in_word (drop 1 t)))
 
@@ -91,7 +91,7 @@ fine_pick : (t : List ℕ) (b : Bool) (x y : Token) → (b ≡ true → FineWord
 fine_pick t true x y p q = p refl
 fine_pick t false x y p q = q
 
--- a whole run of number characters is a good one
+-- a word that is a run of number characters is the text of an integer
 number_fine : (s rest : List ℕ) → 0 < length s → list_all is_number_char s ≡ true → ends_word rest ≡ true → begins_number (s ++ rest) ≡ true → AllGood (pieces Outside (s ++ rest)) → Onward (s ++ rest)
     → FineWord (s ++ rest) (number s)
 number_fine [] rest some chars ended begins good on = absurd (omega arith)
@@ -100,7 +100,7 @@ number_fine (c ∷ cs) rest some chars ended begins good on =
     let passed = in_word_passes cs rest (and_parts (is_number_char c) (list_all is_number_char cs) chars).1 ∙ in_word-ended rest ended in
     (g.0 begins, subst Fine (sym passed) (on rest (omega (arith, length-append cs rest)) g.1))
 
--- a word that goes on has a byte before where it ends
+-- a word isn't empty
 some_front : (t s rest : List ℕ) → t ≡ s ++ rest → ends_word t ≡ false → ends_word rest ≡ true → 0 < length s
 some_front t [] rest e f g = absurd (true≢false (sym g ∙ ap ends_word (sym e) ∙ f))
 some_front t (c ∷ cs) rest e f g = omega arith
@@ -116,19 +116,19 @@ fine_number t (Some rest) e begins l unended good on =
     let cut : s ≡ take (length t - length rest) t = sym (ap (take (length t - length rest)) l.1 ∙ take_at s rest (length t - length rest) size) in
     subst (λ (x : List ℕ). FineWord t (number x)) cut (subst (λ (x : List ℕ). FineWord x (number s)) (sym l.1) here)) tt
 
--- a text that begins with a name is the name and what follows it
+-- a text that begins with a name is the name and the rest
 begins_with : (name t : List ℕ) → starts_with nat_eq t name ≡ true → t ≡ name ++ drop (length name) t
 begins_with name t h = sym (take-append-drop (length name) t) ∙ ap (λ (x : List ℕ). x ++ drop (length name) t) (sym (same_text name (take (length name) t) (sym h)))
 
--- a literal is passed, and its runs are no numbers
+-- the lexer skips a literal, and no run in it begins as a number
 abbrev Passed : List ℕ → Type 0
 Passed name = (rest : List ℕ) → Stops rest → (lex in_word (drop 1 (name ++ rest)) ≡ lex in_word rest) × (AllGood (pieces Outside (name ++ rest)) → AllGood (pieces Outside rest))
 
--- behind a byte that is no number character
+-- after a byte that is no number character
 other_good : (c : ℕ) (cs : List ℕ) → is_number_char c ≡ false → after Outside c ≡ Outside → AllGood (pieces Outside (c ∷ cs)) → AllGood (pieces Outside cs)
 other_good c cs e f g = subst (λ (q : Quoting). AllGood (pieces q cs)) f (subst AllGood (no_number_next c cs e) g)
 
--- behind an e that ends a literal
+-- after an `e` that ends a literal
 e_good : (rest : List ℕ) → Stops rest → AllGood (pieces Outside (101 ∷ rest)) → AllGood (pieces Outside rest)
 e_good rest s g = (subst AllGood (run_copies 101 [] rest refl s) g).1
 
@@ -145,7 +145,7 @@ null_passed : Passed ascii.null_text
 unfolding lex
 null_passed rest s = (refl, λ g. other_good 108 rest refl refl (other_good 108 (108 ∷ rest) refl refl (other_good 117 (108 ∷ 108 ∷ rest) refl refl (other_good 110 (117 ∷ 108 ∷ 108 ∷ rest) refl refl g))))
 
--- what follows a literal
+-- the tokens after a literal
 literal_fine : (name t : List ℕ) → 0 < length name → Passed name → (starts_with nat_eq t name && ends_word (drop (length name) t)) ≡ true → AllGood (pieces Outside t) → Onward t → Fine (lex in_word (drop 1 t))
 literal_fine name t some passed e good on =
     let h = and_parts (starts_with nat_eq t name) (ends_word (drop (length name) t)) e in
@@ -160,7 +160,7 @@ literal_fine name t some passed e good on =
 fine_literal : (name t : List ℕ) (w : Token) → 0 < length name → Passed name → (Fine (lex in_word (drop 1 t)) → FineWord t w) → AllGood (pieces Outside t) → Onward t → FineWord t (literal name w t)
 fine_literal name t w some passed use_it good on = fine_pick t (starts_with nat_eq t name && ends_word (drop (length name) t)) w bad (λ e. use_it (literal_fine name t some passed e good on)) tt
 
--- each word
+-- any word
 fine_word : (c : ℕ) (cs : List ℕ) → ends_word (c ∷ cs) ≡ false → AllGood (pieces Outside (c ∷ cs)) → Onward (c ∷ cs) → FineWord (c ∷ cs) (word (c ∷ cs))
 unfolding word
 fine_word c cs unended good on =
@@ -191,7 +191,7 @@ fine_mark : (c : ℕ) (ls : List Lexeme) → Fine ls → Fine (operator_lexeme c
 fine_mark c ls h =
     mark (c == 123) (token begin_object) _ ls h (mark (c == 125) (token end_object) _ ls h (mark (c == 91) (token begin_array) _ ls h (mark (c == 93) (token end_array) _ ls h (mark (c == 44) comma colon ls h h))))
 
--- the class of a byte, by the tests for one
+-- the class of a byte, given the results of the tests
 abbrev class_by : Bool → Bool → Bool → Bool → Class
 class_by q b o s = cond q quote (cond b backslash (cond o operator (cond s space lexer.other)))
 
@@ -223,7 +223,7 @@ module _ (c : ℕ) (cs : List ℕ) (good : AllGood (pieces (after Inside c) cs))
   fine_letter false false false true eq eb = inside (into Inside (rw (eq, eb) refl))
   fine_letter false false false false eq eb = inside (into Inside (rw (eq, eb) refl))
 
--- the lexer goes along with the pieces, outside the strings, inside one and behind a backslash; n bounds what is left
+-- The lexer and the pieces agree outside the strings, inside one and after a backslash; n is the induction variable.
 mutual
   unfolding lex pieces
 
@@ -244,6 +244,6 @@ mutual
   fine_escaped zero (c ∷ cs) h g = absurd (omega arith)
   fine_escaped (suc n) (c ∷ cs) h g = fine_inside n cs (omega arith) g
 
--- where each run is good, the lexemes are fine
+-- if each run is good, so is each lexeme
 pub fine_lexemes : (r : List ℕ) → AllGood (pieces Outside r) → Fine (lex between r)
 fine_lexemes r g = fine_outside (length r) r (omega arith) g

@@ -1,4 +1,4 @@
--- Branches and fields that are written one after the other.
+-- Branches and fields that are written in turn.
 use Rattle.std.proofs.Common.{◌≡◌, ℕ, ◌+◌, ◌<◌, ◌≤◌, List, [], ◌∷◌, length, drop, get_or, map, refl, sym, ap, ◌∙◌, subst, drop-cons, add-one, arith}
 use Rattle.std.specs.Prelude.{codes}
 use Rattle.std.proofs.lemmas.List.{drop_all}
@@ -25,7 +25,7 @@ pub primitive_with : (kind : Kind) (es : List Entry) → (length es ≡ 0 → �
 primitive_with kind [] other = absurd (other refl)
 primitive_with kind (x ∷ es) other = refl
 
--- items that begin with a value, where the count goes on after it
+-- items with one more value at the front, and the count after it
 items_turn : (d : Data) (more : ℕ → Counted Items) (all : Counted Items) (next next2 : ℕ) (old mid new : List Token) → all ≡ then_items d (more next) → next2 ≡ next → WritesValue d old mid → WritesItems (more next2).0 mid new → WritesItems all.0 old new
 items_turn d more all next next2 old mid new is same value rest =
     subst (λ (s : Counted Items). WritesItems s.0 old new) (sym is) (items_on d (more next).0 old mid new value (subst (λ (n : ℕ). WritesItems (more n).0 mid new) same rest))

@@ -1,4 +1,4 @@
--- Attributes that are put among others in byte order stand where a merge writes them.
+-- Inserting attributes in byte order of their names gives the same members as merging them.
 use Rattle.std.proofs.Common.{◌≡◌, ℕ, List, [], ◌∷◌, Bool, true, ◌&&◌, Some, None, Ordering, Less, Equal, Greater, is_eq, refl, sym, ap, ◌∙◌}
 use Rattle.std.specs.Ordering.{nat_cmp, is_lt}
 use Rattle.std.specs.Cmp.Lexicographic.{slice_cmp}
@@ -30,7 +30,7 @@ put-before_then k d (member l e ms) = put-at (order k l) k d l e ms refl (put-be
 -- ---- an attribute before another one
 
 module _ (k l : List ℕ) (d : Data) (below : order k l ≡ Less) where
-  -- what is put behind a name changes nothing before it
+  -- an insertion after a name changes nothing before it
   abbrev Apart : Members → Type 0
   Apart ms = ((more : Members) → before_then k (put l d ms) more ≡ before_then k ms more) × (rest_after k (put l d ms) ≡ put l d (rest_after k ms))
 
@@ -92,7 +92,7 @@ merged-put_attributes ((k, Some d) ∷ ps) others e =
     ∙ sym (before_later k ps others (member k d (rest_after k (put_attributes ps others))) h.0)
     ∙ sym (put-before_then k d (put_attributes ps others))
 
--- ---- a member that stands before the name
+-- ---- a member before the name
 
 pub rest_next : (k l : List ℕ) (d : Data) (ms : Members) → order k l ≡ Greater → rest_after k (member l d ms) ≡ rest_after k ms
 rest_next k l d ms is = rw is refl

@@ -49,7 +49,7 @@ pub boundary : (s : List ℕ) (end i : ℕ) → IsUtf8 s → i ≤ length s → 
 boundary s end i u h (inl e) = rw e (IsCharBoundary-start s u)
 boundary s end i u h (inr e) = IsCharBoundary-before_ascii s end (omega arith) (omega arith)
 
--- ---- the part behind the last dot, looked for from the end
+-- ---- the part after the last dot, searched from the end
 
 abbrev pub Stops : List ℕ → ℕ → Type 0
 Stops s start = (start ≡ 0) ⊎ ((0 < start) × (get_or s (start - 1) 0 ≡ 46))

@@ -1,4 +1,4 @@
--- A number of JSON at the front of a text: it begins with a minus or a digit, and has number characters alone.
+-- A JSON number at the front of a text: it begins with a minus or a digit, and has only number characters.
 use Rattle.std.proofs.Common.{◌≡◌, ℕ, suc, ◌+◌, ◌==◌, ◌⊎◌, inl, inr, List, [], ◌∷◌, ◌++◌, drop, Bool, true, false, ◌||◌, cond, Option, Some, None, is_some, option_and_then, refl, sym, ap, subst, ◌∙◌, append_assoc, arith}
 use Rattle.std.specs.Prelude.{IfSome}
 use Rattle.std.specs.Char.{is_ascii_digit}
@@ -9,15 +9,15 @@ use Rattle.std.proofs.Math.Bool.{or-true}
 use Rattle.json.specs.Word.{head, after_digits, after_minus, after_sign, after_whole, after_fraction, after_exponent, after_number}
 use Rattle.avro_nodes.specs.Plain.{is_number_char, begins_number}
 
--- u stands behind number characters in t
+-- t is number characters followed by u
 abbrev pub Front : List ℕ → List ℕ → Type 0
 Front t u = (s : List ℕ) × (t ≡ s ++ u) × (list_all is_number_char s ≡ true)
 
--- what a part leaves, if it is there, stands so
+-- the rest after a part, if the part is there, follows number characters
 abbrev pub Leaves : List ℕ → Option (List ℕ) → Type 0
 Leaves t o = IfSome o (Front t)
 
--- what stands so behind what stands so
+-- two such steps in a row
 further : (t u : List ℕ) (o : Option (List ℕ)) → Front t u → Leaves u o → Leaves t o
 further t u None f l = tt
 further t u (Some r) f l = (f.0 ++ l.0, f.1 ∙ ap (λ (x : List ℕ). f.0 ++ x) l.1 ∙ sym (append_assoc f.0 l.0 r), rw (list_all-append is_number_char f.0 l.0, f.2, l.2) refl)
@@ -27,17 +27,17 @@ pick : (t : List ℕ) (b : Bool) (x y : Option (List ℕ)) → (b ≡ true → L
 pick t true x y p q = p refl
 pick t false x y p q = q
 
--- behind one number character
+-- the rest after one number character
 one_front : (k : ℕ) (t : List ℕ) → (32 == k) ≡ false → is_number_char k ≡ true → (head t == k) ≡ true → Front t (drop 1 t)
 one_front k [] n chars h = absurd (true≢false (sym h ∙ n))
 one_front k (x ∷ xs) n chars h = (k ∷ [], ap (λ y. y ∷ xs) (eqb-true x k h), rw chars refl)
 
--- behind one, if it is there
+-- after an optional one
 optional : (t : List ℕ) (b : Bool) → (b ≡ true → Front t (drop 1 t)) → Front t (cond b (drop 1 t) t)
 optional t true f = f refl
 optional t false f = ([], refl, refl)
 
--- behind a digit and those after it
+-- after one more digit
 digit_front : (b : Bool) (x : ℕ) (xs : List ℕ) (n : ℕ) → is_ascii_digit x ≡ b → Front xs (drop n xs) → Front (x ∷ xs) (drop (cond b (1 + n) 0) (x ∷ xs))
 digit_front false x xs n e f = ([], refl, refl)
 digit_front true x xs n e f =
@@ -45,42 +45,42 @@ digit_front true x xs n e f =
     let P : ℕ → Type 0 = λ k. Front (x ∷ xs) (drop k (x ∷ xs)) in
     subst P one (x ∷ f.0, ap (λ (y : List ℕ). x ∷ y) f.1, rw e f.2)
 
--- behind all digits
+-- after all digits
 digits_front : (t : List ℕ) → Front t (drop (prefix_len is_ascii_digit t) t)
 digits_front [] = ([], refl, refl)
 digits_front (x ∷ xs) = digit_front (is_ascii_digit x) x xs (prefix_len is_ascii_digit xs) refl (digits_front xs)
 
--- behind one digit or more
+-- after one digit or more
 digits : (t : List ℕ) → Leaves t (after_digits t)
 digits t = pick t (prefix_len is_ascii_digit t == 0) None (Some (drop (prefix_len is_ascii_digit t) t)) (λ e. tt) (digits_front t)
 
--- behind a minus, if there is one
+-- after an optional minus
 minus_front : (t : List ℕ) → Front t (after_minus t)
 minus_front t = optional t (head t == 45) (one_front 45 t refl refl)
 
--- behind a sign
+-- after a sign
 either_front : (t : List ℕ) → ((head t == 45) ≡ true) ⊎ ((head t == 43) ≡ true) → Front t (drop 1 t)
 either_front t (inl e) = one_front 45 t refl refl e
 either_front t (inr e) = one_front 43 t refl refl e
 
--- behind a sign, if there is one
+-- after an optional sign
 sign_front : (t : List ℕ) → Front t (after_sign t)
 sign_front t = optional t ((head t == 45) || (head t == 43)) (λ e. either_front t (or_cases (head t == 45) (head t == 43) e))
 
--- behind the whole part
+-- after the whole part
 whole : (t : List ℕ) → Leaves t (after_whole t)
 whole t = pick t (head t == 48) (Some (drop 1 t)) (after_digits t) (one_front 48 t refl refl) (digits t)
 
--- behind a fraction, if there is one
+-- after an optional fraction
 fraction : (t : List ℕ) → Leaves t (after_fraction t)
 fraction t = pick t (head t == 46) (after_digits (drop 1 t)) (Some t) (λ e. further t (drop 1 t) (after_digits (drop 1 t)) (one_front 46 t refl refl e) (digits (drop 1 t))) ([], refl, refl)
 
--- behind an e
+-- after an `e`
 power_front : (t : List ℕ) → ((head t == 101) ≡ true) ⊎ ((head t == 69) ≡ true) → Front t (drop 1 t)
 power_front t (inl e) = one_front 101 t refl refl e
 power_front t (inr e) = one_front 69 t refl refl e
 
--- behind an exponent, if there is one
+-- after an optional exponent
 exponent : (t : List ℕ) → Leaves t (after_exponent t)
 exponent t =
     let u = drop 1 t in
@@ -88,12 +88,12 @@ exponent t =
     pick t ((head t == 101) || (head t == 69)) o (Some t)
     (λ e. further t u o (power_front t (or_cases (head t == 101) (head t == 69) e)) (further u (after_sign u) o (sign_front u) (digits (after_sign u)))) ([], refl, refl)
 
--- one part behind another
+-- one part after another
 then : (t : List ℕ) (f : List ℕ → Option (List ℕ)) → ((u : List ℕ) → Leaves u (f u)) → (o : Option (List ℕ)) → Leaves t o → Leaves t (option_and_then f o)
 then t f g None h = tt
 then t f g (Some r) h = further t r (f r) h (g r)
 
--- what a number leaves stands behind number characters
+-- the rest after a number follows number characters
 pub leaves : (t : List ℕ) → Leaves t (after_number t)
 unfolding after_number
 leaves t =
@@ -102,7 +102,7 @@ leaves t =
 
 -- ---- a number begins with a minus or a digit
 
--- what goes on was there
+-- a step succeeds only after its predecessor
 found : (f : List ℕ → Option (List ℕ)) (o : Option (List ℕ)) → is_some (option_and_then f o) ≡ true → is_some o ≡ true
 found f None h = h
 found f (Some t) h = refl
@@ -121,12 +121,12 @@ whole_first : (t : List ℕ) (z : Bool) → (z ≡ true → head t ≡ 48) → i
 whole_first t true e h = ap is_ascii_digit (e refl)
 whole_first t false e h = digits_first t h
 
--- before it a minus may stand
+-- a minus may come before it
 minus_first : (t : List ℕ) (m : Bool) → is_some (after_whole (cond m (drop 1 t) t)) ≡ true → (is_ascii_digit (head t) || m) ≡ true
 minus_first t true h = or-true (is_ascii_digit (head t))
 minus_first t false h = rw (whole_first t (head t == 48) (eqb-true (head t) 48) h) refl
 
--- a text that begins with a number begins as one does
+-- a text that begins with a number begins with a minus or a digit
 pub first_byte : (c : ℕ) (cs : List ℕ) → is_some (after_number (c ∷ cs)) ≡ true → begins_number (c ∷ cs) ≡ true
 unfolding after_number
 first_byte c cs h = minus_first (c ∷ cs) (c == 45) (found after_fraction (after_whole (after_minus (c ∷ cs))) (found after_exponent (option_and_then after_fraction (after_whole (after_minus (c ∷ cs)))) h))

@@ -28,7 +28,7 @@ some_digits (d ∷ ds) e = omega arith
 first_zero : (c n : ℕ) → (not (c == 48) || (n == 1)) ≡ true → c ≡ 48 → n ≡ 1
 first_zero c n h e = grind (arith, tests)
 
--- digits are what is written for their value
+-- digits are the decimal text of their value
 pub spells : (ds : List ℕ) → are_digits ds ≡ true → digits_value 10 ds < 2 ^ 64 → decimal (digits_value 10 ds) ≡ ds
 spells ds e small =
     let parts = and_parts (not (length ds == 0) && list_all is_ascii_digit ds) (not (slice_index ds 0 == 48) || (length ds == 1)) e in
@@ -79,7 +79,7 @@ at_unsigned ds false small e f = rw e refl
 pub respelt_unsigned : (w : List ℕ) (m : Option ℕ) → ((rest : List ℕ) → w ≢ 45 ∷ rest) → m ≡ Magnitude w → respelt_whole w ≡ option_map (λ _. w) m
 respelt_unsigned w m h e = rw (no_minus w h, e) (at_unsigned w (are_digits w) (nat_lt (digits_value 10 w) (2 ^ 64)) refl refl)
 
--- ---- behind a minus
+-- ---- after a minus
 
 spelt_zero : (ds : List ℕ) → are_digits ds ≡ true → digits_value 10 ds ≡ 0 → signed_decimal (signed true (digits_value 10 ds)) ≡ ds
 spelt_zero ds e z = rw z (rw z at (spells ds e (omega (arith, z))))

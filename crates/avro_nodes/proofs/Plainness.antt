@@ -1,4 +1,4 @@
--- What is written for nodes with whole numbers has such numbers alone.
+-- The identity value of nodes with only integers has only integers.
 use Rattle.std.proofs.Common.{◌≡◌, ℕ, List, [], ◌∷◌, Bool, true, false, Option, Some, None, refl}
 use Rattle.std.specs.Prelude.{IfSome, IsTrue}
 use Rattle.std.specs.List.{list_all, AllByRecursion}
@@ -13,7 +13,7 @@ use Rattle.avro_nodes.specs.Identity.{texts, identity_value, members_pass, value
 use Rattle.avro_nodes.specs.Whole.{is_whole_number, has_whole_numbers, items_have_whole_numbers, members_have_whole_numbers}
 use Rattle.avro_nodes.proofs.Carried.{AllMembers, AllItems, OfField, OfNode, all_put, spelt_is}
 
--- ---- what passes a test
+-- ---- values that pass a test
 
 module _ (test : Data → Bool) where
   abbrev Passes : Data → Type 0
@@ -53,9 +53,9 @@ module _ (test : Data → Bool) where
   unfolding nodes_pass
   nodes_are nodes e = of_nodes nodes e
 
--- E holds of what passes the test, and F of members that do
+-- values with property E pass the test, and so do members with property F
 module _ (test : Data → Bool) (E : Data → Type 0) (F : Members → Type 0) (value : (d : Data) → E d → test d ≡ true) (members : (ms : Members) → F ms → members_pass test ms ≡ true) where
-  -- a default, if there is one
+  -- an optional default
   value_passing : (o : Option Data) → IfSome o E → value_passes test o ≡ true
   value_passing None h = refl
   value_passing (Some d) h = value d h
@@ -79,7 +79,7 @@ module _ (test : Data → Bool) (E : Data → Type 0) (F : Members → Type 0) (
   nodes_all [] h = refl
   nodes_all (node ∷ nodes) h = rw (node_passing node h.0) (nodes_all nodes h.1)
 
-  -- nodes of which this holds pass the test
+  -- nodes with these properties pass the test
   pub nodes_passing : (nodes : List NodeView) → AllByRecursion (OfNode E F) nodes → IsTrue (nodes_pass test nodes)
   unfolding nodes_pass
   nodes_passing nodes h = rw (nodes_all nodes h) refl

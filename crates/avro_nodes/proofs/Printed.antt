@@ -1,4 +1,4 @@
--- The text of tokens that were written for a value.
+-- The text of the tokens of a value.
 use Rattle.std.proofs.Common.{◌≡◌, List, [], false, sym, ap, ◌∙◌}
 use Rattle.json.specs.Token.{Token}
 use Rattle.json.specs.Lex.{tokens}

@@ -1,4 +1,4 @@
--- What is written for a tidy value is read back as that value, and so is the identity text of tidy and shallow nodes.
+-- The text of a tidy value is read back as that value, and so is the identity text of tidy and shallow nodes.
 use Rattle.std.proofs.Common.{◌≡◌, ℕ, suc, ◌^◌, ◌<◌, ◌≤◌, ◌==◌, pos, negsuc, List, [], ◌∷◌, length, get_or, true, false, max, decimal, Option, Some, option_map, option_and_then, refl, sym, ap, ap₂, subst, ◌∙◌, append-nil, arith}
 use Rattle.std.proofs.lemmas.Bool.{false≢true, ltb-true, ne_eqb}
 use Rattle.std.proofs.lemmas.Fmt.{decimal_is_IsNumeral}
@@ -27,12 +27,12 @@ use Rattle.avro_nodes.proofs.Written.{joined, joined_on, put_last, joined_nothin
 
 -- ---- numbers
 
--- what begins with a digit or a later byte has no sign
+-- a text that begins with a digit or a later byte has no sign
 no_sign : (ds : List ℕ) → 0 < length ds → 48 ≤ get_or ds 0 0 → (head ds == 45) ≡ false
 no_sign [] some h = absurd (omega arith)
 no_sign (d ∷ ds) some h = ne_eqb d 45 (λ e. omega (arith, e, h))
 
--- digits behind a minus are a number of JSON, also those of 2^63
+-- digits after a minus are a JSON number, also those of 2^63
 number_below : (n : ℕ) → n < 2 ^ 64 → IsNumber (45 ∷ decimal n)
 unfolding after_number
 number_below n h =
@@ -40,7 +40,7 @@ number_below n h =
     let bare = no_sign (decimal n) is.0.0 (digit_at (decimal n) 0 is.0.1 is.0.0).0 in
     rw bare at (IsNumber-decimal n h)
 
--- the text of a whole number is a number of JSON
+-- the text of an integer is a JSON number
 number_is : (n : Num) → is_whole_number n ≡ true → IsNumber (number_text n)
 number_is (unsigned n) w = IsNumber-decimal n (ltb-true n (2 ^ 64) w)
 number_is (negative (pos n)) w = absurd (false≢true w)
@@ -57,7 +57,7 @@ number_reads (float x) w = absurd (false≢true w)
 -- ---- a value as JSON
 
 mutual
-  -- its numbers are numbers of JSON
+  -- its numbers are JSON numbers
   numbers_are : (d : Data) → IsTidy d → tree.HasNumbers (outline d)
   numbers_are null t = tt
   numbers_are (boolean b) t = tt
@@ -107,7 +107,7 @@ mutual
   items_of_outline (item d ds) t =
       ap (option_and_then (λ (x : Data). option_map (item x) (of_items (items_outline ds)))) (of_outline d t.0) ∙ ap (option_map (item d)) (items_of_outline ds t.1)
 
-  -- behind those that were read
+  -- after the members that were read
   members_of_outline : (done ms : Members) → TidyMembers ms → AreOrdered (joined done ms) → of_members (members_outline ms) done ≡ Some (joined done ms)
   members_of_outline done no_members t o = ap (λ (ms : Members). Some ms) (sym (joined_nothing done))
   members_of_outline done (member k d ms) t o =
@@ -122,7 +122,7 @@ mutual
 abbrev finished : Option (json.Json × List Token) → Option Data
 finished o = option_and_then of_json (option_and_then (λ p. json.if_last p.0 p.1) o)
 
--- the compact text of a tidy value is read as that value, where it nests no deeper than JSON may
+-- the compact text of a tidy value is read as that value, if it nests no deeper than JSON may
 pub read-compact_text : (d : Data) → IsTidy d → depth d ≤ max_depth → read (compact_text d) ≡ Some d
 read-compact_text d t shallow =
     let ts = tree.json_tokens (outline d) in

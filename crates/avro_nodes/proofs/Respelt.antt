@@ -1,4 +1,4 @@
--- In a text whose numbers were respelt, each run that begins as a number does is the text of a whole number.
+-- In a rewritten text, each run that begins as a number is the text of an integer.
 use Rattle.std.proofs.Common.{◌≡◌, ℕ, zero, suc, ◌^◌, ◌<◌, List, [], ◌∷◌, ◌++◌, length, Bool, true, false, ◌&&◌, cond, Option, Some, None, refl, sym, subst, ◌∙◌, arith}
 use Rattle.std.specs.Prelude.{negsuc, decimal, slice_index, drop}
 use Rattle.std.specs.Fmt.{signed_decimal}
@@ -13,15 +13,14 @@ use Rattle.avro_nodes.specs.Plain.{Quoting, Outside, Inside, Escaped, after, is_
 use Rattle.avro_nodes.specs.Whole.{is_whole_number}
 use Rattle.avro_nodes.proofs.Unchanged.{Stops, run_copies, number_chars, some_digits, all_digits}
 
--- the text of a whole number
+-- the text of an integer of 64 bits
 abbrev pub IsWholeText : List ℕ → Type 0
 IsWholeText s = (n : Num) × (number_of s ≡ Some n) × (is_whole_number n ≡ true)
 
--- a run that begins as a number does is one
+-- if the run begins as a number, it is the text of an integer
 abbrev IsGood : List ℕ → Type 0
 IsGood s = begins_number s ≡ true → IsWholeText s
 
--- each run is so
 abbrev pub AllGood : List Piece → Type 0
 AllGood [] = Unit {0}
 AllGood (run s ∷ ps) = IsGood s × AllGood ps
@@ -29,13 +28,13 @@ AllGood (other c ∷ ps) = AllGood ps
 
 -- ---- the shape of pieces
 
--- no run comes next
+-- the first piece isn't a run
 abbrev NoRun : List Piece → Type 0
 NoRun [] = Unit {0}
 NoRun (run s ∷ ps) = ⊥
 NoRun (other c ∷ ps) = Unit {0}
 
--- a run stands outside the strings, has number characters alone and is followed by another byte or the end
+-- each run is outside the strings, consists of number characters, and is followed by another byte or the end
 abbrev Shaped : Quoting → List Piece → Type 0
 Shaped q [] = Unit {0}
 Shaped q (run s ∷ ps) = (q ≡ Outside) × (0 < length s) × (list_all is_number_char s ≡ true) × NoRun ps × Shaped Outside ps
@@ -55,13 +54,13 @@ shaped_at true Inside c cs e h g = absurd (false≢true e)
 shaped_at true Escaped c cs e h g = absurd (false≢true e)
 shaped_at false q c cs e h g = (e, g)
 
--- so are the pieces of each text
+-- the pieces of each text have this shape
 shaped : (q : Quoting) (cs : List ℕ) → Shaped q (pieces q cs)
 unfolding pieces
 shaped q [] = tt
 shaped q (c ∷ cs) = shaped_at (is_outside q && is_number_char c) q c cs refl (shaped q cs) (shaped (after q c) cs)
 
--- ---- what a run is respelt as
+-- ---- the text that replaces a run
 
 abbrev IsSpelt : List ℕ → Type 0
 IsSpelt s = (0 < length s) × (list_all is_number_char s ≡ true) × IsWholeText s
@@ -91,7 +90,7 @@ whole_spelt : (b : Bool) (w r : List ℕ) → cond b (respelt_digits true (drop 
 whole_spelt true w r e = digits_spelt true (drop 1 w) r e
 whole_spelt false w r e = digits_spelt false w r e
 
--- a whole part, where the number is whole
+-- the whole part of a number that is an integer
 run_at : (b : Bool) (w r : List ℕ) → cond b (respelt_whole w) None ≡ Some r → IsSpelt r
 run_at true w r e = whole_spelt (is_minus (slice_index w 0)) w r e
 run_at false w r e = absurd (none-some r e)
@@ -101,19 +100,19 @@ run_spelt : (s r : List ℕ) → respelt s ≡ Some r → IsSpelt r
 unfolding respelt
 run_spelt s r e = run_at (is_whole s) (whole_part s) r e
 
--- what stands for a run is a run, and a good one
+-- the text that replaces a run is a good run
 good_at : (b : Bool) (s r : List ℕ) → begins_number s ≡ b → 0 < length s → list_all is_number_char s ≡ true → cond b (respelt s) (Some s) ≡ Some r → (0 < length r) × (list_all is_number_char r ≡ true) × IsGood r
 good_at true s r e some chars is = let h = run_spelt s r is in (h.0, h.1, λ _. h.2)
 good_at false s r e some chars is = let P : List ℕ → Type 0 = λ x. (0 < length x) × (list_all is_number_char x ≡ true) × IsGood x in subst P (same_Some s r is) (some, chars, λ yes. absurd (false≢true (sym e ∙ yes)))
 
--- ---- the pieces of the respelt text
+-- ---- the pieces of the rewritten text
 
--- what is put before something
+-- the two parts of a joined text
 before_some : (a : List ℕ) (o : Option (List ℕ)) (r : List ℕ) → before a o ≡ Some r → (x : List ℕ) × (o ≡ Some x) × (a ++ x ≡ r)
 before_some a None r e = absurd (none-some r e)
 before_some a (Some x) r e = (x, refl, same_Some (a ++ x) r e)
 
--- no number character follows a run in the respelt text
+-- in the rewritten text, no number character follows a run
 stops_at : (ps : List Piece) (r : List ℕ) → NoRun ps → Shaped Outside ps → joined ps ≡ Some r → Stops r
 unfolding joined
 stops_at [] r n h e = subst Stops (same_Some [] r e) tt
@@ -130,7 +129,7 @@ good_front : (s rest : List ℕ) → 0 < length s → list_all is_number_char s 
 good_front [] rest some chars g stops h = absurd (omega arith)
 good_front (c ∷ cs) rest some chars g stops h = subst AllGood (sym (run_copies c cs rest chars stops)) (g, h)
 
--- the pieces of the text that pieces give
+-- the pieces of a joined text are good
 good : (ps : List Piece) (q : Quoting) (r : List ℕ) → Shaped q ps → joined ps ≡ Some r → AllGood (pieces q r)
 unfolding joined pieces
 good [] q r h e = subst (λ (x : List ℕ). AllGood (pieces q x)) (same_Some [] r e) tt
@@ -144,6 +143,6 @@ good (run s ∷ ps) q r h e =
     let front = good_front t x.0 g.0 g.1 g.2 (stops_at ps x.0 h.3 h.4 x.1) (good ps Outside x.0 h.4 x.1) in
     subst (λ (p : Quoting). AllGood (pieces p r)) (sym h.0) (subst (λ (y : List ℕ). AllGood (pieces Outside y)) x.2 front))
 
--- in a text that was respelt each run is good
+-- each run of a rewritten text is good
 pub good_pieces : (text r : List ℕ) → plain text ≡ Some r → AllGood (pieces Outside r)
 good_pieces text r e = good (pieces Outside text) Outside r (shaped Outside text) e

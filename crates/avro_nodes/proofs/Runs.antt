@@ -20,7 +20,7 @@ pub before_nothing : (o : Option (List ℕ)) → before [] o ≡ o
 before_nothing None = refl
 before_nothing (Some r) = refl
 
--- ---- outside the runs
+-- ---- bytes outside the runs
 
 other_next : (q : Quoting) (c : ℕ) (cs : List ℕ) → (is_outside q && is_number_char c) ≡ false → joined (pieces q (c ∷ cs)) ≡ before (c ∷ []) (joined (pieces (after q c) cs))
 unfolding pieces joined
@@ -55,7 +55,7 @@ joined_more q r bs from at end a b e =
 pub nothing_skipped : (bs : List ℕ) (at : ℕ) (q : Quoting) → joined (pieces q (drop at bs)) ≡ before (slice_range bs at at) (joined (pieces q (drop at bs)))
 nothing_skipped bs at q = let none : at - at ≡ 0 = omega arith in rw none (sym (before_nothing (joined (pieces q (drop at bs)))))
 
--- the byte behind what is left out inside a string
+-- a byte inside a string is copied
 pub inside_next : (bs : List ℕ) (at : ℕ) (q r : Quoting) → at < length bs → is_outside q ≡ false → after q (get_or bs at 0) ≡ r
     → joined (pieces q (drop at bs)) ≡ before (slice_range bs at (at + 1)) (joined (pieces r (drop (at + 1) bs)))
 inside_next bs at q r h inside goes =
@@ -96,7 +96,7 @@ marks_skipped bs from (suc n) h each =
 pub length_from : (bs : List ℕ) (from : ℕ) → length (take (length bs - from) (drop from bs)) ≡ length bs - from
 length_from bs from = length-take-le (length bs - from) (drop from bs) (omega (arith, length-drop from bs))
 
--- a byte of what is searched that is no mark is none of the text
+-- a byte that the search passes over is neither a quote nor a backslash in the text either
 pub plain_from : (bs : List ℕ) (from k : ℕ) → k < length bs - from → ¬ ((get_or (take (length bs - from) (drop from bs)) k 0 == 34 || get_or (take (length bs - from) (drop from bs)) k 0 == 92) ≡ true)
     → IsPlainByte (get_or bs (from + k) 0)
 plain_from bs from k h differs =
@@ -128,7 +128,7 @@ front_range xs k = let all : k - 0 ≡ k = omega arith in ap (λ n. take n xs) a
 taken : (xs : List ℕ) (i j : ℕ) → i ≤ j → take i xs ++ slice_range xs i j ≡ take j xs
 taken xs i j a = let there : i + (j - i) ≡ j = omega arith in sym (take-add i (j - i) xs) ∙ ap (λ n. take n xs) there
 
--- what is taken grows by what stands before a run, and then by the run
+-- a front of the text, with the bytes before a run and then the run
 pub taken_more : (xs : List ℕ) (i j k : ℕ) → i ≤ j → j ≤ k → (take i xs ++ slice_range xs i j) ++ slice_range xs j k ≡ take k xs
 taken_more xs i j k a b = ap (λ (s : List ℕ). s ++ slice_range xs j k) (taken xs i j a) ∙ taken xs j k b
 
@@ -149,7 +149,7 @@ no_number_next c cs e = rw e refl
 abbrev run_len : List ℕ → ℕ
 run_len cs = prefix_len is_number_char cs
 
--- the first run of a text, and what follows it
+-- the text begins with a run of n bytes
 abbrev BeginsRun : List ℕ → ℕ → Type 0
 BeginsRun cs n = pieces Outside cs ≡ run (take n cs) ∷ pieces Outside (drop n cs)
 
@@ -174,7 +174,7 @@ run_first : (c : ℕ) (cs : List ℕ) → is_number_char c ≡ true → BeginsRu
 run_first c [] e = let P : ℕ → Type 0 = BeginsRun (c ∷ []) in subst P (sym (one_of c [] e)) (number_next c [] e ∙ alone c)
 run_first c (d ∷ ds) e = let P : ℕ → Type 0 = BeginsRun (c ∷ d ∷ ds) in subst P (sym (one_of c (d ∷ ds) e)) (run_on c d ds (is_number_char d) refl e (λ h. run_first d ds h))
 
--- what the text gives from a run on, which ends here
+-- the text is the run `s`, followed by `more`
 abbrev FromRun : List ℕ → List ℕ → List ℕ → Type 0
 FromRun cs s more = joined (pieces Outside cs) ≡ option_and_then (λ t. before t (joined (pieces Outside more))) (piece_text (run s))
 
@@ -198,7 +198,7 @@ run_at bs start end found e =
     let left : List ℕ → Type 0 = λ more. FromRun cs (take (run_len cs) cs) more in
     subst taken (sym n) (subst left (drop-drop (run_len cs) start bs ∙ ap (λ k. drop k bs) (sym e)) (run_from bs start (cases_lt start (length bs)) found))
 
--- ---- one turn: what stands before a run is written, and then the run's spelling
+-- ---- one iteration: writes the bytes before a run, and then the text that replaces the run
 
 module _ (bs out : List ℕ) (total : Option (List ℕ)) (at start end : ℕ) (so_far : before out (joined (pieces Outside (drop at bs))) ≡ total)
     (skipped : joined (pieces Outside (drop at bs)) ≡ before (slice_range bs at start) (joined (pieces Outside (drop start bs))))
@@ -212,7 +212,7 @@ module _ (bs out : List ℕ) (total : Option (List ℕ)) (at start end : ℕ) (s
   pub turn_fails : None ≡ piece_text (run (slice_range bs start end)) → None ≡ total
   turn_fails e = sym (turn None e)
 
--- ---- where a text may be cut
+-- ---- the ends of a run are character boundaries
 
 is_ascii : (c : ℕ) → is_number_char c ≡ true → c < 128
 is_ascii c e = grind (arith, tests)
@@ -233,7 +233,7 @@ end_cut bs start end (suc n) u in_range cut is e =
 pub run_cut : (bs : List ℕ) (start end : ℕ) → IsUtf8 bs → start ≤ length bs → (start < length bs → is_number_char (get_or bs start 0) ≡ true) → end ≡ start + prefix_len is_number_char (drop start bs) → IsCharBoundary bs end
 run_cut bs start end u in_range found e = end_cut bs start end (prefix_len is_number_char (drop start bs)) u in_range (start_cut bs start in_range found (cases_lt start (length bs))) refl e
 
--- ---- the spelling of a run
+-- ---- the text that replaces a run
 
 pub whole_refused : (s : List ℕ) (b : Bool) → is_whole s ≡ b → None ≡ cond b (Some (whole_part s)) None → None ≡ respelt s
 unfolding respelt

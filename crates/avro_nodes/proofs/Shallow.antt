@@ -1,4 +1,4 @@
--- What is written for nodes, of which no default and no other attribute nests deeper than types may, nests no deeper than JSON is read.
+-- If no default and no other attribute of the nodes nests deeper than types may, the identity value nests no deeper than JSON may.
 use Rattle.std.proofs.Common.{◌≡◌, ℕ, ◌+◌, ◌*◌, ◌≤◌, List, [], ◌∷◌, refl, arith}
 use Rattle.std.specs.List.{AllByRecursion}
 use Rattle.serde_json.specs.Data.{Data, Items, no_items, item, Members, no_members, member, depth, items_depth, members_depth}
@@ -20,17 +20,17 @@ ShallowNodes nodes = AllByRecursion (OfNode IsShallow AreShallow) nodes
 abbrev Nests : ℕ → Data → Type 0
 Nests n d = depth d ≤ n + max_nesting
 
--- so are all of other attributes
+-- each other attribute nests so
 members_nest : (n : ℕ) (ms : Members) → AreShallow ms → AllMembers (Nests n) ms
 members_nest n no_members h = tt
 members_nest n (member k d ms) h = (omega arith, members_nest n ms (omega arith))
 
--- members nest as deep as each of them may
+-- members nest as deep as their deepest value
 nest_members : (n : ℕ) (ms : Members) → AllMembers (Nests n) ms → members_depth ms ≤ n + max_nesting
 nest_members n no_members h = omega arith
 nest_members n (member k d ms) h = omega (arith, h.0, nest_members n ms h.1)
 
--- and items
+-- the same for items
 nest_items : (n : ℕ) (ds : Items) → AllItems (Nests n) ds → items_depth ds ≤ n + max_nesting
 nest_items n no_items h = omega arith
 nest_items n (item d ds) h = omega (arith, h.0, nest_items n ds h.1)

@@ -1,4 +1,4 @@
--- What is written for a place, by its node.
+-- The value that is written for a place, by the kind of its node.
 use Rattle.std.proofs.Common.{◌≡◌, ℕ, suc, ◌-◌, ◌<◌, List, Option, refl, sym, ap, subst, ◌∙◌, eq-eqb, arith}
 use Rattle.std.proofs.lemmas.Bool.{eq-eqb, ne_eqb}
 use Rattle.std.specs.Prelude.{slice_get}

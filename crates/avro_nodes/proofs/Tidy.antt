@@ -1,4 +1,5 @@
--- Values as they are read of a text with its numbers respelt: each number is whole, and each object has its members in byte order of their names, each once.
+-- Tidy values, as rewritten texts denote them. Each number is an integer, and each object has its members in byte order of their names, without repeated
+-- names.
 use Rattle.std.proofs.Common.{◌≡◌, ℕ, List, [], ◌∷◌, true, refl}
 use Rattle.std.specs.Prelude.{IsTrue}
 use Rattle.std.specs.List.{AllByRecursion}
@@ -39,24 +40,24 @@ pub tidy_ordered : (ms : Members) → TidyMembers ms → AreOrdered ms
 tidy_ordered no_members t = tt
 tidy_ordered (member k d ms) t = (t.1, tidy_ordered ms t.2)
 
--- each of them is tidy
+-- each tidy member has a tidy value
 tidy_each : (ms : Members) → TidyMembers ms → AllMembers IsTidy ms
 tidy_each no_members t = tt
 tidy_each (member k d ms) t = (t.0, tidy_each ms t.2)
 
--- tidy values in order are tidy members
+-- members in order with tidy values are tidy
 tidy_from : (ms : Members) → AllMembers IsTidy ms → AreOrdered ms → TidyMembers ms
 tidy_from no_members a o = tt
 tidy_from (member k d ms) a o = (a.0, o.0, tidy_from ms a.1 o.1)
 
--- a tidy value may be put among tidy members
+-- tidy members stay tidy when a tidy value is inserted
 pub tidy_put : (k : List ℕ) (d : Data) (ms : Members) → IsTidy d → TidyMembers ms → TidyMembers (put k d ms)
 tidy_put k d ms p t = tidy_from (put k d ms) (all_put IsTidy k d ms p (tidy_each ms t)) (ordered_put k d ms (tidy_ordered ms t))
 
 -- ---- whole numbers
 
 mutual
-  -- a tidy value has whole numbers alone
+  -- a tidy value has only integers
   tidy_whole : (d : Data) → IsTidy d → has_whole_numbers d ≡ true
   tidy_whole null t = refl
   tidy_whole (boolean b) t = refl
@@ -73,12 +74,12 @@ mutual
   members_whole no_members t = refl
   members_whole (member k d ms) t = rw (tidy_whole d t.0, members_whole ms t.2) refl
 
--- each tidy member passes the test of whole numbers
+-- tidy members have only integers
 members_pass_whole : (ms : Members) → TidyMembers ms → members_pass has_whole_numbers ms ≡ true
 members_pass_whole no_members t = refl
 members_pass_whole (member k d ms) t = rw (tidy_whole d t.0, members_pass_whole ms t.2) refl
 
--- tidy nodes have whole numbers alone
+-- tidy nodes have only integers
 pub tidy_nodes_whole : (nodes : List NodeView) → TidyNodes nodes → IsTrue (nodes_pass has_whole_numbers nodes)
 tidy_nodes_whole nodes t = nodes_passing has_whole_numbers IsTidy TidyMembers tidy_whole members_pass_whole nodes t
 
@@ -89,7 +90,7 @@ tidy_texts : (ts : List (List ℕ)) → TidyItems (texts ts)
 tidy_texts [] = tt
 tidy_texts (t ∷ ts) = (tt, tidy_texts ts)
 
--- items are, where each of them is
+-- items are tidy if each of them is
 tidy_items : (ds : Items) → AllItems IsTidy ds → TidyItems ds
 tidy_items no_items h = tt
 tidy_items (item d ds) h = (h.0, tidy_items ds h.1)

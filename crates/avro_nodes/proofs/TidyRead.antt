@@ -1,4 +1,4 @@
--- What is read of a text whose numbers were respelt is tidy.
+-- The value of a rewritten text is tidy.
 use Rattle.std.proofs.Common.{◌≡◌, ℕ, List, [], ◌∷◌, ◌++◌, Bool, true, false, Option, Some, None, option_map, option_and_then, refl, subst, append_assoc}
 use Rattle.std.specs.Prelude.{IfSome}
 use Rattle.json.specs.Token.{Token, begin_object, end_object, begin_array, end_array, key, string, number, boolean, null, bad}
@@ -16,17 +16,17 @@ use Rattle.avro_nodes.proofs.Lexed.{FineToken, Fine, fine_lexemes}
 
 -- ---- tokens
 
--- each number before a fault is the text of a whole number
+-- each number before a bad token is the text of an integer
 abbrev FineTokens : List Token → Type 0
 FineTokens [] = Unit {0}
 FineTokens (t ∷ ts) = FineToken t (FineTokens ts)
 
--- a token that is let through, or a fault
+-- an accepted token, or a bad one
 allowed : (b : Bool) (t : Token) (k : Place → List Token) (next : Place) → FineToken t (FineTokens (k next)) → FineTokens (if_allowed b t k next)
 allowed true t k next p = p
 allowed false t k next p = tt
 
--- a token, where it may stand
+-- a token at a position
 placed : (p : Place) (t : Token) (b : Bool) (k : Place → List Token) (more : Type 0) → FineToken t more → (more → (n : Place) → FineTokens (k n)) → FineTokens (place_token p t b k)
 placed p begin_object b k more q h = allowed (may_begin p) begin_object k fresh (h q fresh)
 placed p end_object b k more q h = allowed (may_close p) end_object k after_value (h q after_value)
@@ -59,7 +59,7 @@ fine_tokens (colon ∷ ls) after_key h = fine_tokens ls fresh h
 
 -- ---- values as JSON
 
--- each number is the text of a whole number
+-- each number is the text of an integer
 abbrev mutual
   WholeJson : json.Json → Type 0
   WholeJson json.null = Unit {0}
@@ -78,7 +78,7 @@ abbrev mutual
   MembersWhole (json.member k j ms) = WholeJson j × MembersWhole ms
 
 mutual
-  -- a value whose tokens come first
+  -- a value at the front of the tokens
   json_from : (j : json.Json) (rest : List Token) → FineTokens (json_tokens j ++ rest) → WholeJson j × FineTokens rest
   json_from json.null rest h = (tt, h)
   json_from (json.boolean b) rest h = (tt, h)
@@ -103,18 +103,18 @@ mutual
 
 -- ---- values
 
--- what holds of a value, if there is one, after a map
+-- a property of an optional value after a map
 if_map : {A B : Type 0} (P : A → Type 0) (Q : B → Type 0) (f : A → B) → ((a : A) → P a → Q (f a)) → (o : Option A) → IfSome o P → IfSome (option_map f o) Q
 if_map P Q f h None x = tt
 if_map P Q f h (Some a) x = h a x
 
--- and after a step that may give none
+-- the same after a step that may fail
 if_then : {A B : Type 0} (P : A → Type 0) (Q : B → Type 0) (f : A → Option B) → ((a : A) → P a → IfSome (f a) Q) → (o : Option A) → IfSome o P → IfSome (option_and_then f o) Q
 if_then P Q f h None x = tt
 if_then P Q f h (Some a) x = h a x
 
 mutual
-  -- JSON with whole numbers stands for a tidy value, if for any
+  -- if JSON with only integers denotes a value, the value is tidy
   tidy_json : (j : json.Json) → WholeJson j → IfSome (of_json j) IsTidy
   tidy_json json.null h = tt
   tidy_json (json.boolean b) h = tt
@@ -128,7 +128,7 @@ mutual
   tidy_items (json.item j js) h =
       if_then IsTidy TidyItems (λ (d : Data). option_map (item d) (of_items js)) (λ d x. if_map TidyItems TidyItems (item d) (λ ds y. (x, y)) (of_items js) (tidy_items js h.1)) (of_json j) (tidy_json j h.0)
 
-  -- among those that were found
+  -- the same with the members found before
   tidy_members : (ms : json.Members) (found : Members) → MembersWhole ms → TidyMembers found → IfSome (of_members ms found) TidyMembers
   tidy_members json.no_members found h t = t
   tidy_members (json.member k j ms) found h t =
@@ -140,7 +140,7 @@ tidy_value text None e h = tt
 tidy_value text (Some (j, [])) e h = tidy_json j (json_from j [] (subst FineTokens (value-json_tokens_back max_depth (tokens text) [] j e) h)).0
 tidy_value text (Some (j, t ∷ ts)) e h = tt
 
--- what is read of a text with its numbers respelt is tidy
+-- the value of a rewritten text is tidy
 pub tidy_read : (text respelt : List ℕ) (d : Data) → plain text ≡ Some respelt → read respelt ≡ Some d → IsTidy d
 tidy_read text respelt d p r =
     let fine = fine_tokens (lex between respelt) fresh (fine_lexemes respelt (good_pieces text respelt p)) in

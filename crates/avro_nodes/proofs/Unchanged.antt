@@ -1,4 +1,4 @@
--- Respelling the numbers of a compact text leaves it as it is, where its numbers are whole.
+-- A compact text whose numbers are integers stays as it is when its numbers are rewritten.
 use Rattle.std.proofs.Common.{◌≡◌, ℕ, zero, suc, ◌+◌, ◌/◌, ◌%◌, ◌^◌, ◌<◌, ◌≤◌, ◌==◌, List, [], ◌∷◌, ◌++◌, length, get_or, Bool, true, false, not, ◌&&◌, ◌||◌, nat_lt, cond, Option, Some, refl, sym, ap, subst, ◌∙◌, append_assoc, arith, rules, tests}
 use Rattle.std.specs.Prelude.{pos, negsuc, decimal, slice_index, IsTrue, codes}
 use Rattle.std.specs.Char.{is_ascii_digit, digit_char}
@@ -22,7 +22,7 @@ use Rattle.avro_nodes.proofs.Runs.{before_before, before_nothing, number_next, n
 use Rattle.avro_nodes.proofs.Numbers.{own}
 use Rattle.avro_nodes.proofs.Plainness.{identity_is_whole}
 
--- ---- bytes that are copied, and leave the place as it was
+-- ---- bytes that are copied, and don't change the position in or outside strings
 
 abbrev From : Quoting → List ℕ → Option (List ℕ)
 From q bs = joined (pieces q bs)
@@ -282,6 +282,6 @@ plain-compact_text d e =
     let t = compact_text d in
     ap (From Outside) (sym (append-nil t)) ∙ text_copies d e [] tt ∙ ap (before t) nothing_from ∙ ap (λ (s : List ℕ). Some s) (append-nil t)
 
--- the identity text has its numbers as the rule wants them
+-- the identity text has its numbers in plain decimal digits
 pub plain-identity : (nodes : List NodeView) → IsTrue (nodes_pass has_whole_numbers nodes) → plain (identity nodes) ≡ Some (identity nodes)
 plain-identity nodes e = plain-compact_text (identity_value nodes) (identity_is_whole nodes e)

@@ -1,4 +1,4 @@
--- Values, items and members that are written one after the other.
+-- Values, items and members that are written in turn.
 use Rattle.std.proofs.Common.{◌≡◌, ℕ, ◌≤◌, List, [], ◌∷◌, ◌++◌, Bool, true, false, length, Option, Some, None, MatchOption, Ordering, Less, Equal, Greater, String, Global, string_bytes, option_map, option_and_then, refl, sym, ap, ap₂, ◌∙◌, subst, arith, append_assoc}
 use Rattle.std.specs.Ordering.{ordering_reverse}
 use Rattle.std.specs.List.{AllByRecursion}
@@ -71,7 +71,7 @@ members_on k d ms old named mid new e v w =
       (refl, (v.2, v.3, v.4), w.2),
     )
 
--- ---- members in order read as they are
+-- ---- members in order are read unchanged
 
 abbrev pub joined : Members → Members → Members
 joined no_members ms = ms
@@ -127,7 +127,7 @@ object_ended ms old opened new e w o = (
   ap json.object (members_outlined ms w.0 w.2),
 )
 
--- ---- a put keeps the order
+-- ---- an insertion keeps the order
 
 pub after_further : (k l : List ℕ) (ms : Members) → order k l ≡ Less → AllAfter l ms → AllAfter k ms
 after_further k l no_members below h = tt
@@ -174,7 +174,7 @@ unfolding IsStrictlySortedBy
 ordered_entries [] h = tt
 ordered_entries (e ∷ es) h = (after_entries e.0 es h.0, ordered_entries es h.1)
 
--- ---- attributes among others
+-- ---- attributes among other members
 
 pub name_written : (k : List ℕ) (others left : Members) (old mid named : List Token) → WritesOthersBefore k others left old mid → named ≡ mid ++ key k ∷ [] → WritesName k others left old named
 name_written k others left old mid named before e d new value ps end rest =
@@ -198,7 +198,7 @@ pub null_namespace_is : (enclosing name : List ℕ) → (length enclosing ≡ 0 
 null_namespace_is [] name other bare = absurd (other refl)
 null_namespace_is (c ∷ enclosing) name other bare = rw bare refl
 
--- two iterators at the same place take the same step
+-- two iterators at the same position take the same step
 pub next_left : {X Y : Type 0} (shows : X → Y) (r : Option X) (s t rest : List Y) (e : Y) → MatchOption r ((s ≡ []) × (t ≡ [])) (λ x. s ≡ shows x ∷ t) → s ≡ e ∷ rest → t ≡ rest
 next_left shows None s t rest e h is = absurd (cc (h.0))
 next_left shows (Some x) s t rest e h is = cc

@@ -24,7 +24,7 @@ kind_text Double = codes "double"
 kind_text Bytes = codes "bytes"
 kind_text Text = codes "string"
 
--- ---- attributes; each is put among the others, which stand in byte order of their names
+-- ---- attributes, each inserted in byte order of the members' names
 
 abbrev pub texts : List (List ℕ) → Items
 texts [] = no_items
@@ -33,7 +33,7 @@ texts (t ∷ ts) = item (string t) (texts ts)
 abbrev pub with_text : List ℕ → List ℕ → Members → Members
 with_text key text others = put key (string text) others
 
--- an empty list is as good as none, and isn't written
+-- an empty list means the same as none, and isn't written
 abbrev pub with_aliases : List (List ℕ) → Members → Members
 with_aliases [] others = others
 with_aliases (t ∷ ts) others = put (codes "aliases") (json.array (texts (t ∷ ts))) others
@@ -42,20 +42,20 @@ abbrev pub with_default : Option Data → Members → Members
 with_default None others = others
 with_default (Some d) others = put (codes "default") d others
 
--- ascending is what holds where nothing is said, and isn't written
+-- ascending is the default, and isn't written
 abbrev pub with_order : Order → Members → Members
 with_order Ascending others = others
 with_order Descending others = with_text (codes "order") (codes "descending") others
 with_order Ignore others = with_text (codes "order") (codes "ignore") others
 
--- a definition in the null namespace says so where it stands inside another one (Avro 1.11 specification, Names)
+-- a definition in the null namespace has an empty `namespace` inside another namespace (Avro 1.11 specification, Names)
 abbrev pub with_namespace : List ℕ → List ℕ → Members → Members
 with_namespace [] name others = others
 with_namespace (c ∷ enclosing) name others = if has_dot name then others else with_text (codes "namespace") [] others
 
 -- ---- types (Avro 1.11 specification, Primitive Types, Complex Types)
 
--- a primitive with no other attribute is its name alone
+-- a primitive type without other attributes is only its name
 abbrev pub primitive_value : Kind → Members → Data
 primitive_value kind no_members = string (kind_text kind)
 primitive_value kind (member k d ms) = object (with_text (codes "type") (kind_text kind) (member k d ms))
@@ -81,30 +81,30 @@ record_value enclosing named fields extra =
     object (with_aliases named.aliases (put (codes "fields") (json.array fields) (with_text (codes "name") named.name (with_namespace enclosing named.name
     (with_text (codes "type") (codes "record") extra)))))
 
--- a field, with the value of its type
+-- a field, given the value of its type
 abbrev pub field_value : FieldView → Data → Data
 field_value f type =
     object (with_aliases f.aliases (with_default f.value (with_text (codes "name") f.name (with_order f.order (put (codes "type") type f.extra)))))
 
 -- ---- places
 
--- a value, and how many places have been written with it
+-- a value, and the number of places that are written up to its end
 abbrev pub Counted : Type 0 → Type 0
 Counted A = A × ℕ
 
--- the value of a place's type, where so many places have been written before it
+-- given a place and the number of places written before: the value of the place's type
 abbrev pub ValueAt : Type 0
 ValueAt = ℕ → ℕ → Counted Data
 
 abbrev pub then_items : Data → Counted Items → Counted Items
 then_items d more = (item d more.0, more.1)
 
--- one branch after the other
+-- the branches in order
 unfoldable pub branch_items : ValueAt → List ℕ → ℕ → Counted Items
 branch_items one [] written = (no_items, written)
 branch_items one (p ∷ ps) written = then_items (one p written).0 (branch_items one ps (one p written).1)
 
--- one field after the other
+-- the fields in order
 unfoldable pub field_items : ValueAt → List FieldView → ℕ → Counted Items
 field_items one [] written = (no_items, written)
 field_items one (f ∷ fs) written = then_items (field_value f (one f.place written).0) (field_items one fs (one f.place written).1)
@@ -131,9 +131,9 @@ node_value types enclosing written (Some (enumeration named symbols fallback ext
 node_value types enclosing written (Some (fixed named size extra)) = (fixed_value enclosing named size extra, written + 1)
 node_value types enclosing written (Some (rec named fields extra)) = let fs = field_items (types (namespace_of named.name)) fields (written + 1) in (record_value enclosing named fs.0 extra, fs.1)
 
--- The type at a place, nested no deeper than the number. `written` counts the places that have been written. A schema's places are
--- numbered in the order in which they are first reached, and each is written when it is: so a place is reached for the first time
--- exactly where so many were written before it, `place == written`. There its type is written, and later a reference, by its full name.
+-- The type at a place, to this depth. `written` counts the places that are written before. A schema's places are numbered in the order
+-- of their first occurrence, and each is written then. So a place occurs for the first time exactly if `place == written`. Its type is
+-- written in full then, and by its full name later.
 unfoldable pub identity_at : ℕ → List NodeView → List ℕ → ValueAt
 identity_at zero nodes enclosing place written = (null, written)
 identity_at (suc n) nodes enclosing place written =
@@ -142,11 +142,11 @@ identity_at (suc n) nodes enclosing place written =
 abbrev pub identity_value : List NodeView → Data
 identity_value nodes = (identity_at max_nesting nodes [] 0 0).0
 
--- the JSON text of the value, with no blank
+-- the compact JSON text of the identity value
 abbrev pub identity : List NodeView → List ℕ
 identity nodes = compact_text (identity_value nodes)
 
--- ---- a test of each default, each other attribute and each size, as JSON
+-- ---- whether each default, each other attribute and each size passes a test, as JSON
 
 abbrev pub members_pass : (Data → Bool) → Members → Bool
 members_pass test no_members = true

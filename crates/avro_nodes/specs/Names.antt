@@ -8,11 +8,11 @@ is_dot c = c == 46
 unfoldable pub has_dot : List ℕ → Bool
 has_dot name = list_any is_dot name
 
--- all before the last dot, or nothing where there is none
+-- all before the last dot, or nothing without a dot
 unfoldable pub namespace_of : List ℕ → List ℕ
 namespace_of [] = []
 namespace_of (c ∷ cs) = if list_any is_dot cs then c ∷ namespace_of cs else []
 
--- all after the last dot, or the whole where there is none: the name without its namespace
+-- all after the last dot, or the whole name without a dot
 unfoldable pub last_part : List ℕ → List ℕ
 last_part name = after_last is_dot name

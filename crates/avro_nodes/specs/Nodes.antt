@@ -1,4 +1,4 @@
--- What contracts see of a node: texts as their bytes, and JSON as the data that it stands for.
+-- What contracts see of a node: texts as bytes, and JSON as the data that it denotes.
 use Rattle.std.specs.Prelude.{ℕ, List, map, Option, option_map, String, string_bytes}
 use Rattle.std.specs.declared.alloc.Global.{Global}
 use Rattle.serde_json.specs.Data.{Data, Members}
@@ -10,7 +10,7 @@ use Rattle.avro_nodes.specs.declared.node.Field.{Field}
 use Rattle.avro_nodes.specs.declared.node.Node.{Node}
 use Rattle.avro_nodes.specs.declared.node.Node.TheVariants.{Primitive, Array, Map, Union, Enum, Fixed, Rec}
 
--- the names of a definition, all of them full names (Avro 1.11 specification, Names; Aliases)
+-- the name and the aliases of a definition, as full names (Avro 1.11 specification, Names; Aliases)
 pub record NamedView : Type 0 where
   pub name : List ℕ
   pub aliases : List (List ℕ)
@@ -24,8 +24,8 @@ pub record FieldView : Type 0 where
   pub value : Option Data
   pub extra : Members
 
--- A schema is a list of these, and a place is an index into it. The root is at place 0. The members last named are the attributes
--- without a meaning of their own (Avro 1.11 specification, Schema Declaration, Primitive Types, Complex Types)
+-- A schema is a list of these. A place is an index into the list; the root has place 0. The last `Members` of a node are the
+-- attributes that have no meaning in a schema (Avro 1.11 specification, Schema Declaration, Primitive Types, Complex Types).
 pub data NodeView : Type 0 where
   primitive : Kind → Members → NodeView
   array : ℕ → Members → NodeView
@@ -53,6 +53,5 @@ node_view (Enum named symbols fallback extra) = enumeration (named_view named) (
 node_view (Fixed named size extra) = fixed (named_view named) size (members_view extra.entries)
 node_view (Rec named fields extra) = rec (named_view named) (map field_view fields.items) (members_view extra.entries)
 
--- the nodes of a schema
 abbrev pub nodes_view : List Node → List NodeView
 nodes_view nodes = map node_view nodes

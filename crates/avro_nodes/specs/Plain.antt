@@ -1,5 +1,5 @@
--- The rule for the numbers in a schema text (this project's choice, over RFC 8259, section 6): each is a whole number of 64 bits,
--- and is respelt in plain decimal digits. It looks at the text alone, before the text is read as JSON.
+-- The rule for the numbers in a schema text (this project's choice, stricter than RFC 8259, section 6). Each must be an integer of
+-- 64 bits, and is rewritten in plain decimal digits. The rule applies to the bytes of the text, before it is parsed as JSON.
 use Rattle.std.specs.Prelude.{ℕ, ◌^◌, ◌==◌, ◌&&◌, ◌||◌, not, nat_lt, nat_le, if◌then◌else◌, Bool, true, false, ℤ, pos, neg_ℤ, List, [], ◌∷◌, ◌++◌, length, drop, Option, Some, None, option_map, option_and_then, slice_index, codes}
 use Rattle.std.specs.Char.{is_ascii_digit}
 use Rattle.std.specs.Fmt.{signed_decimal}
@@ -8,13 +8,13 @@ use Rattle.std.specs.Str.Parse.{digits_value}
 
 -- ---- the runs of a text
 
--- where a byte stands: outside the strings, inside one, or inside one behind a backslash
+-- the position of a byte: outside the strings, inside one, or inside one after a backslash
 pub data Quoting : Type 0 where
   Outside : Quoting
   Inside : Quoting
   Escaped : Quoting
 
--- where what follows a byte stands (RFC 8259, section 7)
+-- the position of the byte after this one (RFC 8259, section 7)
 abbrev pub after : Quoting → ℕ → Quoting
 after Outside c = if c == 34 then Inside else Outside
 after Inside c = if c == 34 then Outside else (if c == 92 then Escaped else Inside)
@@ -33,13 +33,13 @@ pub data Piece : Type 0 where
   run : List ℕ → Piece
   other : ℕ → Piece
 
--- with a number character before them, which goes on with a run
+-- the pieces with one more number character at the front, which joins a run there
 abbrev pub in_run : ℕ → List Piece → List Piece
 in_run c [] = run (c ∷ []) ∷ []
 in_run c (run s ∷ more) = run (c ∷ s) ∷ more
 in_run c (other d ∷ more) = run (c ∷ []) ∷ other d ∷ more
 
--- the pieces of a text whose first byte stands there
+-- the pieces of a text whose first byte has this position
 unfoldable pub pieces : Quoting → List ℕ → List Piece
 pieces p [] = []
 pieces p (c ∷ cs) = if is_outside p && is_number_char c then in_run c (pieces p cs) else other c ∷ pieces (after p c) cs
@@ -56,11 +56,11 @@ is_minus c = c == 45
 abbrev pub whole_part : List ℕ → List ℕ
 whole_part s = before_first is_point s
 
--- one zero or more
+-- one or more zeros
 abbrev pub are_zeros : List ℕ → Bool
 are_zeros ds = not (length ds == 0) && list_all (λ c. c == 48) ds
 
--- no point, or one with zeros alone after it
+-- no point, or only zeros after it
 abbrev pub is_whole : List ℕ → Bool
 is_whole s = (position_or_len is_point s == length s) || are_zeros (after_first is_point s)
 
@@ -68,26 +68,26 @@ is_whole s = (position_or_len is_point s == length s) || are_zeros (after_first 
 abbrev pub are_digits : List ℕ → Bool
 are_digits ds = not (length ds == 0) && list_all is_ascii_digit ds && (not (slice_index ds 0 == 48) || (length ds == 1))
 
--- whether the number, with a minus or not, is from -2^63 to 2^64 - 1
+-- whether the number, with its sign, is from -2^63 to 2^64 - 1
 abbrev pub in_range : Bool → ℕ → Bool
 in_range negative n = if negative then nat_le n (2 ^ 63) else nat_lt n (2 ^ 64)
 
 abbrev pub signed : Bool → ℕ → ℤ
 signed negative n = if negative then neg_ℤ (pos n) else pos n
 
--- the digits, with a minus or not, as the number is spelt
+-- the plain decimal digits of the number, with its sign
 abbrev pub respelt_digits : Bool → List ℕ → Option (List ℕ)
 respelt_digits negative ds = if are_digits ds && in_range negative (digits_value 10 ds) then Some (signed_decimal (signed negative (digits_value 10 ds))) else None
 
--- the whole part, as the number is spelt
+-- the same for a whole part with its sign
 abbrev pub respelt_whole : List ℕ → Option (List ℕ)
 respelt_whole w = if is_minus (slice_index w 0) then respelt_digits true (drop 1 w) else respelt_digits false w
 
--- the number of a run, in plain decimal digits, where it is whole and in range
+-- the number of a run in plain decimal digits, if it is an integer in range
 unfoldable pub respelt : List ℕ → Option (List ℕ)
 respelt s = if is_whole s then respelt_whole (whole_part s) else None
 
--- a run that begins otherwise than a number does stays as it is: no JSON has one
+-- a run that doesn't begin as a number stays as it is, such as the `e` of `true`
 abbrev pub begins_number : List ℕ → Bool
 begins_number s = is_ascii_digit (slice_index s 0) || is_minus (slice_index s 0)
 
@@ -97,7 +97,7 @@ piece_text (run s) = if begins_number s then respelt s else Some s
 
 -- ---- the text
 
--- this text, before what the rest gives
+-- `front`, followed by the rest
 abbrev pub before : List ℕ → Option (List ℕ) → Option (List ℕ)
 before front rest = option_map (λ r. front ++ r) rest
 
@@ -105,6 +105,6 @@ unfoldable pub joined : List Piece → Option (List ℕ)
 joined [] = Some []
 joined (p ∷ ps) = option_and_then (λ s. before s (joined ps)) (piece_text p)
 
--- the text with its numbers respelt, where each is whole and in range
+-- the text with its numbers rewritten, if each is an integer in range
 abbrev pub plain : List ℕ → Option (List ℕ)
 plain text = joined (pieces Outside text)

@@ -1,6 +1,5 @@
-//! The attributes of a type or a field, written among the others of its object: all members of an
-//! object stand in byte order of their names, so what is written here takes the others before it
-//! along.
+//! Writes the attributes of a type or a field. The members of an object are in byte order of their
+//! names, so each function first writes the members that sort before its attribute.
 
 ghost use Rattle.std.specs.Prelude.{◌≡◌, OnOk, Some, option_map, codes, string_bytes};
 ghost use Rattle.serde_json.specs.Data.{string, array};
@@ -18,7 +17,7 @@ use serde_json::Value;
 use std::alloc::AllocError;
 use std::cmp::Ordering;
 
-/// An attribute among the others that has the key itself is left out.
+/// Writes the members that sort before the key, and skips a member with that key.
 fn write_others_before(
     out: &mut CompactWriter,
     others: &mut Others<'_>,
@@ -44,7 +43,8 @@ fn write_others_before(
     Ok(())
 }
 
-/// The name of an attribute, of which the value is to be written next.
+/// Writes an attribute's name, after the members that sort before it. The caller writes its value
+/// next.
 pub(crate) fn write_name(
     out: &mut CompactWriter,
     others: &mut Others<'_>,
@@ -57,7 +57,7 @@ pub(crate) fn write_name(
     out.key(key)
 }
 
-/// An attribute that is a string.
+/// Writes an attribute whose value is a string.
 pub(crate) fn write_text(
     out: &mut CompactWriter,
     others: &mut Others<'_>,
@@ -71,7 +71,7 @@ pub(crate) fn write_text(
     out.string(text)
 }
 
-/// An array of strings.
+/// Writes an array of strings.
 pub(crate) fn write_texts(out: &mut CompactWriter, list: &[String]) -> Result<(), AllocError>
     ensures { OnOk result (WritesValue (array (texts (texts_view list.now))) out.old out.new) }
 {
@@ -82,7 +82,7 @@ pub(crate) fn write_texts(out: &mut CompactWriter, list: &[String]) -> Result<()
     out.end_array()
 }
 
-/// A type's or a field's aliases, unless there are none.
+/// Writes the aliases of a type or a field, unless there are none.
 pub(crate) fn write_aliases(
     out: &mut CompactWriter,
     others: &mut Others<'_>,
@@ -98,7 +98,7 @@ pub(crate) fn write_aliases(
     write_texts(out, aliases)
 }
 
-/// A field's default, if it has one.
+/// Writes a field's default, if any.
 pub(crate) fn write_default(
     out: &mut CompactWriter,
     others: &mut Others<'_>,
@@ -114,7 +114,7 @@ pub(crate) fn write_default(
     write_value(out, value)
 }
 
-/// An enum's default, if it has one.
+/// Writes an enum's default, if any.
 pub(crate) fn write_fallback(
     out: &mut CompactWriter,
     others: &mut Others<'_>,
@@ -129,7 +129,7 @@ pub(crate) fn write_fallback(
     }
 }
 
-/// A field's order, unless it is ascending.
+/// Writes a field's order, unless it is ascending.
 pub(crate) fn write_order(
     out: &mut CompactWriter,
     others: &mut Others<'_>,
@@ -145,7 +145,7 @@ pub(crate) fn write_order(
     }
 }
 
-/// The null namespace, for a name without a namespace inside of one.
+/// Writes an empty namespace, if a name of the null namespace is defined inside another namespace.
 pub(crate) fn write_namespace(
     out: &mut CompactWriter,
     others: &mut Others<'_>,

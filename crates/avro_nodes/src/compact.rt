@@ -1,4 +1,4 @@
-//! Compact JSON, written a token at a time.
+//! A writer of compact JSON, one token at a time.
 
 ghost use Rattle.std.specs.Prelude.{◌≡◌, ◌∷◌, ◌++◌, [], OnOk, IfOk, string_bytes, decimal, Some, ℕ, List};
 ghost use Rattle.json.specs.Token.{begin_object, end_object, begin_array, end_array, key, string, number, boolean, null};
@@ -13,7 +13,7 @@ use serde_json::Number;
 use std::alloc::{AllocError, Global};
 use std::marker::Model;
 
-/// The text so far. Clauses see its tokens.
+/// A writer of compact JSON. Contracts see the tokens written so far.
 #[derive(Drop)]
 pub(crate) struct CompactWriter {
     out: Writer,
@@ -33,7 +33,7 @@ impl Model for CompactWriter {
 }
 
 impl CompactWriter {
-    /// No text yet.
+    /// Returns a writer without text.
     pub(crate) fn new(alloc: Global) -> Result<CompactWriter, AllocError>
         ensures { IfOk result (λ c. c ≡ []) }
     {
@@ -42,7 +42,7 @@ impl CompactWriter {
         })
     }
 
-    /// The text.
+    /// Returns the text.
     pub(crate) fn into_string(self) -> String
         ensures text { string_bytes result ≡ print self }
         ensures reads_back { tokens (print self) ≡ self }
@@ -51,70 +51,70 @@ impl CompactWriter {
         String::from_utf8(out.into_inner()).unwrap()
     }
 
-    /// The bracket that begins an object.
+    /// Writes the bracket that begins an object.
     pub(crate) fn begin_object(&mut self) -> Result<(), AllocError>
         ensures { OnOk result (self.new ≡ self.old ++ begin_object ∷ []) }
     {
         self.out.begin_object()
     }
 
-    /// The bracket that ends one.
+    /// Writes the bracket that ends an object.
     pub(crate) fn end_object(&mut self) -> Result<(), AllocError>
         ensures { OnOk result (self.new ≡ self.old ++ end_object ∷ []) }
     {
         self.out.end_object()
     }
 
-    /// The bracket that begins an array.
+    /// Writes the bracket that begins an array.
     pub(crate) fn begin_array(&mut self) -> Result<(), AllocError>
         ensures { OnOk result (self.new ≡ self.old ++ begin_array ∷ []) }
     {
         self.out.begin_array()
     }
 
-    /// The bracket that ends one.
+    /// Writes the bracket that ends an array.
     pub(crate) fn end_array(&mut self) -> Result<(), AllocError>
         ensures { OnOk result (self.new ≡ self.old ++ end_array ∷ []) }
     {
         self.out.end_array()
     }
 
-    /// The name of a member, of which the value is to be written next.
+    /// Writes a member's name. The caller writes its value next.
     pub(crate) fn key(&mut self, name: &str) -> Result<(), AllocError>
         ensures { OnOk result (self.new ≡ self.old ++ key name.now ∷ []) }
     {
         self.out.key(name)
     }
 
-    /// A string.
+    /// Writes a string.
     pub(crate) fn string(&mut self, text: &str) -> Result<(), AllocError>
         ensures { OnOk result (self.new ≡ self.old ++ string text.now ∷ []) }
     {
         self.out.string(text)
     }
 
-    /// `true` or `false`.
+    /// Writes `true` or `false`.
     pub(crate) fn boolean(&mut self, b: bool) -> Result<(), AllocError>
         ensures { OnOk result (self.new ≡ self.old ++ boolean b ∷ []) }
     {
         self.out.boolean(b)
     }
 
-    /// `null`.
+    /// Writes `null`.
     pub(crate) fn null(&mut self) -> Result<(), AllocError>
         ensures { OnOk result (self.new ≡ self.old ++ null ∷ []) }
     {
         self.out.null()
     }
 
-    /// A whole number that isn't negative.
+    /// Writes an unsigned integer.
     pub(crate) fn unsigned(&mut self, n: u64) -> Result<(), AllocError>
         ensures { OnOk result (self.new ≡ self.old ++ number (decimal n) ∷ []) }
     {
         self.out.u64(n)
     }
 
-    /// A number: a whole one in decimal digits.
+    /// Writes a number; an integer in decimal digits.
     pub(crate) fn number(&mut self, n: &Number) -> Result<(), AllocError>
         ensures { OnOk result ((s : List ℕ)
             × (self.new ≡ self.old ++ number s ∷ [])

@@ -1,9 +1,9 @@
-//! The refusal of memory.
+//! The error of a failed allocation.
 
 use std::alloc::{AllocError, AllocFailed};
 use thiserror::Error;
 
-/// A request for memory was refused.
+/// An allocation failed.
 #[derive(Debug, Drop, Error)]
 #[error("out of memory")]
 pub struct OutOfMemory;

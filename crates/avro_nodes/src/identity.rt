@@ -1,5 +1,5 @@
-//! The identity text of a schema: one compact JSON text for its nodes, in which each definition
-//! stands where it is first reached, and names are full names (Avro 1.11 specification, Schema
+//! The identity text of a schema: a compact JSON text of its nodes. It contains each definition at
+//! its first occurrence, and types by their full names (Avro 1.11 specification, Schema
 //! Declaration, Names; the form is this project's choice).
 
 ghost use Rattle.std.specs.Prelude.{IsTrue, ◌≡◌, ◌<◌, ◌≤◌, length, option_map, string_bytes, slice_get, IfSome, IfOk, OnOk, map};
@@ -46,7 +46,9 @@ fn node_at(nodes: &[Node], place: usize) -> Option<&Node>
     nodes.get(place)
 }
 
-/// The type at a place, where so many places have been written before it.
+/// Writes the type at a place. If `place` is the next place that isn't written yet, it writes the
+/// type in full, else the type's full name. `written` counts the places so far; types nest at most
+/// `depth` deep.
 #[cycle(spell)]
 fn write_type(
     out: &mut CompactWriter,
@@ -154,17 +156,18 @@ fn write_fields(
     out.end_array()
 }
 
-/// The identity text of a schema's nodes: compact JSON with members in byte order of their names,
-/// each definition where its place is first reached and by its full name after that (this
-/// project's choice of form). Two schemas are the same where these texts are equal.
+/// Returns the identity text of a schema's nodes. It is compact JSON, and the members of each
+/// object are in byte order of their names. A definition is written in full at its first
+/// occurrence, and by its full name afterwards (this project's choice of form). Two schemas are the
+/// same if these texts are equal.
 ///
-/// The nodes are to be those of a schema: places number them depth first, and types nest at most
-/// `MAX_NESTING` deep. A default or another attribute that has a float is written, but no clause
-/// says how.
+/// The nodes must be those of a schema: numbered depth first, with types nested at most
+/// `MAX_NESTING` deep. A float in a default or another attribute is written, but no clause says
+/// how.
 ///
 /// # Errors
 ///
-/// `OutOfMemory` where memory for the text is refused.
+/// `OutOfMemory` if an allocation for the text fails.
 pub fn identity_of(alloc: Global, nodes: &[Node]) -> Result<String, OutOfMemory>
     ensures text { IfOk result (λ s. IsTrue (nodes_pass has_whole_numbers (nodes_view nodes.now))
         → string_bytes s ≡ identity (nodes_view nodes.now)) }

@@ -1,11 +1,11 @@
 //! The limits of a schema (this project's choice).
 
-/// The most bytes of a schema text, and of its identity text.
+/// The maximum length of a schema text and of its identity text, in bytes.
 pub const MAX_TEXT: usize = 1048576;
 
-/// The most places of a schema.
+/// The maximum number of places of a schema.
 pub const MAX_PLACES: usize = 4096;
 
-/// How deep the types of a schema may nest, the root being at 1, and a default and each other
-/// attribute.
+/// The maximum nesting depth of a schema's types (the root has depth 1), and of a default and each
+/// other attribute.
 pub const MAX_NESTING: u32 = 24;

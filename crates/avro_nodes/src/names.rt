@@ -3,7 +3,7 @@
 ghost use Rattle.std.specs.Prelude.{◌≡◌};
 ghost use Rattle.avro_nodes.specs.Names.{has_dot, last_part, namespace_of};
 
-/// Whether the name has a dot, as a full name outside the null namespace has.
+/// Whether the name contains a dot, as each full name outside the null namespace does.
 #[tactic(auto, unfolding(crate::specs::Names::has_dot))]
 pub fn has_dot(name: &str) -> bool
     ensures { result ≡ has_dot name.now }

@@ -1,11 +1,11 @@
-//! The nodes of a schema, as its declaration gives them (Avro 1.11 specification, Schema
-//! Declaration). A schema is a list of nodes, numbered depth first and from left to right; a
-//! place is an index into that list, and the root stands at place 0. A reference to a named type
-//! makes no node: it is the place of the type's definition.
+//! The nodes of a schema, as its declaration defines them (Avro 1.11 specification, Schema
+//! Declaration). A schema is a list of nodes, numbered depth first and from left to right. A place
+//! is an index into that list; the root has place 0. A reference to a named type adds no node: it
+//! is the place of the type's definition.
 
 use serde_json::{Map, Value};
 
-/// The attributes without a meaning of their own, such as `doc` and `logicalType`, by name.
+/// The attributes that have no meaning in a schema, such as `doc` and `logicalType`, by name.
 pub type Extra = Map<String, Value>;
 
 /// A primitive type (Avro 1.11 specification, Primitive Types).
@@ -29,11 +29,11 @@ pub enum Kind {
     Text,
 }
 
-/// How a field counts where records are compared (Avro 1.11 specification, Complex Types,
+/// How a field counts in the sort order of records (Avro 1.11 specification, Complex Types,
 /// Records).
 #[derive(Clone, Copy, Debug, PartialEq, Eq)]
 pub enum Order {
-    /// `ascending`, also where a field says nothing
+    /// `ascending`, also the default
     Ascending,
     /// `descending`
     Descending,
@@ -41,12 +41,13 @@ pub enum Order {
     Ignore,
 }
 
-/// The names of a definition, all of them full names (Avro 1.11 specification, Names; Aliases).
+/// The name and the aliases of a definition, as full names (Avro 1.11 specification, Names;
+/// Aliases).
 #[derive(Debug, Drop)]
 pub struct Named {
-    /// the full name; a name in the null namespace is without a dot
+    /// the full name, without a dot in the null namespace
     pub name: String,
-    /// the full names of the aliases, as they are declared
+    /// the full names of the aliases, in the order of their declaration
     pub aliases: Vec<String>,
 }
 
@@ -57,17 +58,17 @@ pub struct Field {
     pub name: String,
     /// the place of its type
     pub place: u32,
-    /// the simple names of the aliases, as they are declared
+    /// the simple names of the aliases, in the order of their declaration
     pub aliases: Vec<String>,
     /// its sort order
     pub order: Order,
-    /// its default, where it has one
+    /// its default, if any
     pub value: Option<Value>,
-    /// the other attributes
+    /// its other attributes
     pub extra: Extra,
 }
 
-/// A node of a schema: a type, with the places of the types that it is made of.
+/// A node of a schema: a type, with the places of the types that it contains.
 #[derive(Debug, Drop)]
 pub enum Node {
     /// a primitive type
@@ -89,14 +90,14 @@ pub enum Node {
     Union {
         branches: Vec<u32>,
     },
-    /// an enum, with its symbols and its default, where it has one
+    /// an enum, with its symbols and its default, if any
     Enum {
         named: Named,
         symbols: Vec<String>,
         fallback: Option<String>,
         extra: Extra,
     },
-    /// a fixed, of so many bytes
+    /// a fixed, with its size in bytes
     Fixed {
         named: Named,
         size: u32,

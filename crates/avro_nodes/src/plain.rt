@@ -1,6 +1,6 @@
-//! The rule for the numbers in a schema text: each is a whole number of 64 bits, signed or
-//! unsigned, and is respelt in plain decimal digits (this project's choice, over RFC 8259,
-//! section 6).
+//! The rule for the numbers in a schema text (this project's choice, stricter than RFC 8259,
+//! section 6). Each must be an integer of 64 bits, signed or unsigned, and is rewritten in plain
+//! decimal digits.
 
 ghost use Rattle.std.specs.Prelude.{◌≡◌, ◌+◌, ◌^◌, ◌==◌, ◌<◌, ◌≤◌, ◌&&◌, ◌⊎◌, length, drop, slice_range, slice_index, nat_lt, take, IsTrue, true, false, if◌then◌else◌, Some, None, IfOk, option_map, string_bytes};
 ghost use Rattle.std.specs.Char.{is_ascii_digit};
@@ -19,7 +19,7 @@ fn is_number_char(c: u8) -> bool
     matches!(c, b'0'..=b'9' | b'+' | b'-' | b'.' | b'e' | b'E')
 }
 
-/// Where what follows a backslash inside a string and the byte that it escapes begins.
+/// The index after a backslash inside a string and the byte that it escapes.
 fn escape_end(bytes: &[u8], at: usize) -> usize
     requires { (at < length bytes.now) × (slice_index bytes.now at ≡ 92) }
     ensures bounds { (at < result) × (result ≤ length bytes.now) }
@@ -29,7 +29,8 @@ fn escape_end(bytes: &[u8], at: usize) -> usize
     if at + 1 < bytes.len() { at + 2 } else { at + 1 }
 }
 
-/// Where the first quote or backslash stands, from a byte on that is inside a string.
+/// The index of the first quote or backslash from `from` on, or the length of the text. The byte at
+/// `from` is inside a string.
 fn next_quote_or_backslash(bytes: &[u8], from: usize) -> usize
     requires { from ≤ length bytes.now }
     ensures bounds { (from ≤ result) × (result ≤ length bytes.now) }
@@ -44,7 +45,7 @@ fn next_quote_or_backslash(bytes: &[u8], from: usize) -> usize
     }
 }
 
-/// Where what follows a string begins, from a byte on that is inside it.
+/// The index after the string that contains the byte at `from`.
 fn string_end(bytes: &[u8], from: usize) -> usize
     requires { from ≤ length bytes.now }
     ensures bounds { (from ≤ result) × (result ≤ length bytes.now) }
@@ -61,7 +62,7 @@ fn string_end(bytes: &[u8], from: usize) -> usize
     at
 }
 
-/// Where what follows a string, or the byte that begins none, begins outside the strings.
+/// The index after the string that begins at `at`, or after the byte there if it begins no string.
 fn next_outside(bytes: &[u8], at: usize) -> usize
     requires { (at < length bytes.now) × (is_number_char_of (slice_index bytes.now at) ≡ false) }
     ensures bounds { (at < result) × (result ≤ length bytes.now) }
@@ -75,7 +76,8 @@ fn next_outside(bytes: &[u8], at: usize) -> usize
     }
 }
 
-/// Where the first number character outside the strings stands, from a byte on that is outside.
+/// The index of the first number character outside the strings from `from` on, or the length of the
+/// text. The byte at `from` is outside the strings.
 fn run_start(bytes: &[u8], from: usize) -> usize
     requires { from ≤ length bytes.now }
     ensures bounds { (from ≤ result) × (result ≤ length bytes.now) }
@@ -93,7 +95,7 @@ fn run_start(bytes: &[u8], from: usize) -> usize
     at
 }
 
-/// Where the run of number characters ends that begins at `start`.
+/// The end of the run of number characters that begins at `start`.
 fn run_end(bytes: &[u8], start: usize) -> usize
     requires { start ≤ length bytes.now }
     ensures { result ≡ start + prefix_len is_number_char_of (drop start bytes.now) }
@@ -124,7 +126,8 @@ fn are_zeros(text: &str) -> bool
     !text.is_empty() && all_zeros(text.as_bytes())
 }
 
-/// What stands before the point of a whole number, if the run is one.
+/// The part of a run before its point, or the whole run without a point. It is `None` if anything
+/// but zeros, or nothing, follows the point.
 fn whole_part(run: &str) -> Option<&str>
     ensures { option_map (λ s. s.now) result
         ≡ (if is_whole run.now then Some (whole_part_of run.now) else None) }
@@ -142,7 +145,7 @@ fn are_digits(text: &str) -> bool
     !bytes.is_empty() && all_digits(bytes) && (bytes[0] != b'0' || bytes.len() == 1)
 }
 
-/// The number that the digits spell, if they are digits of a number below 2^64.
+/// The value of the digits, if they are a number below 2^64 without a leading zero.
 fn magnitude(digits: &str) -> Option<u64>
     ensures { result ≡ (if are_digits_of digits.now && nat_lt (digits_value 10 digits.now) (2 ^ 64)
         then Some (digits_value 10 digits.now) else None) }
@@ -179,7 +182,7 @@ fn begins_number(run: &str) -> bool
     }
 }
 
-/// What a run is respelt as.
+/// The text that replaces a run, or `None` if the run breaks the rule.
 fn respell_run(run: &str) -> Option<&str>
     ensures { option_map (λ s. s.now) result ≡ piece_text (run_of run.now) }
 {
@@ -190,7 +193,7 @@ fn respell_run(run: &str) -> Option<&str>
     }
 }
 
-/// Whether a run is spelt as it stands.
+/// Whether a run obeys the rule and stays as it is.
 fn is_unchanged(run: &str) -> bool
     ensures { IsTrue result → piece_text (run_of run.now) ≡ Some run.now }
 {
@@ -200,7 +203,8 @@ fn is_unchanged(run: &str) -> bool
     }
 }
 
-/// Where the text is respelt first, or breaks the rule, or ends.
+/// The length of the front of the text that stays as it is. It ends before the first run that is
+/// rewritten or breaks the rule.
 fn unchanged_len(text: &str) -> usize
     ensures bounds { result ≤ length text.now }
     ensures cut { IsCharBoundary text.now result }
@@ -220,14 +224,14 @@ fn unchanged_len(text: &str) -> usize
     at
 }
 
-/// The text with each of its numbers respelt in plain decimal digits, or `None` where one of them
-/// isn't a whole number from -2^63 to 2^64 - 1 (this project's choice). A number is a maximal run
-/// of the characters `0` to `9`, `+`, `-`, `.`, `e`, `E` outside the strings that begins with a
-/// digit or `-`. It has no leading zero, no exponent, and after its point zeros alone; `-0` is 0.
+/// Returns the text with each number rewritten in plain decimal digits, or `None` if a number isn't
+/// an integer from -2^63 to 2^64 - 1 (this project's choice). A number is a maximal run of the
+/// characters `0` to `9`, `+`, `-`, `.`, `e`, `E` outside the strings that begins with a digit or
+/// `-`. It must have no leading zero, no exponent, and only zeros after its point; `-0` is 0.
 ///
 /// # Errors
 ///
-/// `OutOfMemory` where memory for the text is refused.
+/// `OutOfMemory` if an allocation for the text fails.
 pub fn plain_of(alloc: Global, text: &str) -> Result<Option<String>, OutOfMemory>
     ensures { IfOk result (λ o. option_map string_bytes o ≡ plain text.now) }
 {

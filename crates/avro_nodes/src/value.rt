@@ -1,4 +1,4 @@
-//! A JSON value as compact JSON.
+//! Writes JSON values as compact JSON.
 
 ghost use Rattle.std.specs.Prelude.{◌≡◌, OnOk};
 ghost use Rattle.serde_json.specs.Data.{array, object};
@@ -12,10 +12,10 @@ use serde_json::Value;
 use std::alloc::AllocError;
 use std::collections::btree_map::Iter;
 
-/// The members of an object that are still to be written, in byte order of their names.
+/// The members of an object that aren't written yet, in byte order of their names.
 pub(crate) type Others<'a> = Iter<'a, String, Value>;
 
-/// The members, none of which is written yet.
+/// All members of an object, in byte order of their names.
 pub(crate) fn others_of(members: &Extra) -> Others<'_>
     ensures all { result ≡ members.now.entries }
     ensures ordered { AreOrdered (members_view members.now.entries) }
@@ -23,7 +23,7 @@ pub(crate) fn others_of(members: &Extra) -> Others<'_>
     members.iter()
 }
 
-/// A JSON value.
+/// Writes a JSON value.
 #[cycle(write)]
 pub(crate) fn write_value(out: &mut CompactWriter, value: &Value) -> Result<(), AllocError>
     ensures { OnOk result (WritesValue (view value.now) out.old out.new) }
@@ -60,7 +60,7 @@ fn write_object(out: &mut CompactWriter, members: &Extra) -> Result<(), AllocErr
     out.end_object()
 }
 
-/// A member of an object.
+/// Writes a member of an object: its name and its value.
 #[cycle(write)]
 pub(crate) fn write_member(
     out: &mut CompactWriter,
@@ -73,7 +73,7 @@ pub(crate) fn write_member(
     write_value(out, value)
 }
 
-/// All that is left, with the closing bracket.
+/// Writes the remaining members of an object and its closing bracket.
 pub(crate) fn write_rest(out: &mut CompactWriter, others: Others<'_>) -> Result<(), AllocError>
     ensures { OnOk result (EndsObject (members_view others.entry) out.old out.new) }
 {

@@ -1,5 +1,5 @@
-//! What the tests and the benchmark of schemas share: texts that are described by their parts, and pairs of schemas made
-//! at random. It promises nothing.
+//! Helpers of the schema tests and of the benchmark: templates of long texts, and random pairs of schemas. They have no
+//! contracts.
 
 #![tactic(auto)]
 

@@ -1,12 +1,13 @@
-//! Pairs of schemas made at random: both draw the same words, and each differs here and there.
-//! All kinds of types occur, alone and in arrays, maps and unions, and refer to records around them.
+//! Random pairs of schemas. Both schemas draw the same random numbers, and each differs
+//! occasionally. All kinds of types occur, also in arrays, maps and unions, and refer to records
+//! around them.
 
 use crate::text::{Placeholders, push_template};
 use rand_pcg::Pcg32;
 use rand_pcg::rand_core::Rng;
 use std::alloc::{AllocError, Global};
 
-/// The primitives, each with a default.
+/// The primitive types, each with a default.
 static PRIMITIVES: [(&str, &str); 8] = [
     ("null", "null"),
     ("boolean", "true"),
@@ -18,8 +19,8 @@ static PRIMITIVES: [(&str, &str); 8] = [
     ("string", r#""b""#),
 ];
 
-/// Types around another one, with defaults: `@` is that one, and `$` a record. The default `@` is that
-/// one's, and an empty text is none.
+/// Types that contain another type, with defaults: `@` is the inner type, and `$` a record. The
+/// default `@` is that of the inner type, and an empty text means no default.
 static TYPES: [(&str, &str); 8] = [
     (r#"{"type":"array","items":@}"#, "[]"),
     (r#"{"type":"map","values":@}"#, "{}"),
@@ -37,19 +38,19 @@ static SYMBOLS: [&str; 4] = [r#""A""#, r#""A","B""#, r#""A","B","C""#, r#""C","A
 /// Defaults of the fixed types of 1 to 4 bytes.
 static BYTES: [&str; 4] = [r#""a""#, r#""ab""#, r#""abc""#, r#""abcd""#];
 
-/// A schema's text on its way.
+/// The text of a schema so far.
 #[derive(Drop)]
 struct Draft {
     text: String,
     /// the full names of the records so far
     names: Vec<String>,
-    /// what both schemas of a pair draw
+    /// the random numbers that both schemas of a pair draw
     shared: Pcg32,
-    /// what tells where this one differs
+    /// the random numbers that decide how this schema differs
     own: Pcg32,
 }
 
-/// A field by its record's level and its number there, and the words drawn for its type.
+/// A field, by its record's level and its index there, and the random numbers for its type.
 #[derive(Clone, Copy)]
 struct FieldDraw {
     level: u32,
@@ -58,7 +59,7 @@ struct FieldDraw {
     own: u32,
 }
 
-/// One of the records so far.
+/// The name of one of the records so far, or `long` if there are none.
 fn name_of(names: &[String], word: u32) -> &str {
     let at = (word as usize).checked_rem(names.len()).unwrap_or(0);
     match names.get(at) {
@@ -67,7 +68,7 @@ fn name_of(names: &[String], word: u32) -> &str {
     }
 }
 
-/// The name of a field's enum or fixed type: now and then it is another one, which has aliases.
+/// Adds the name of a field's enum or fixed type. Occasionally it is another name with aliases.
 fn push_name(text: &mut String, letter: &str, drawn: FieldDraw) -> Result<(), AllocError> {
     let (level, index) = (drawn.level, drawn.index);
     if drawn.own % 32 == 2 {
@@ -79,7 +80,7 @@ fn push_name(text: &mut String, letter: &str, drawn: FieldDraw) -> Result<(), Al
     write!(text, r#""name":"{letter}{level}x{index}","#)
 }
 
-/// An enum: now and then it has other symbols, or a default.
+/// Adds an enum. Occasionally it has other symbols, or a default.
 fn push_enum(text: &mut String, drawn: FieldDraw) -> Result<(), AllocError> {
     let other = u32::from(drawn.own % 16 == 0);
     let symbols = SYMBOLS[((drawn.shared % 4 + other) % 4) as usize];
@@ -92,7 +93,7 @@ fn push_enum(text: &mut String, drawn: FieldDraw) -> Result<(), AllocError> {
     text.push_str("}")
 }
 
-/// A fixed type, whose default is returned: now and then it has another size.
+/// Adds a fixed type, and returns its default. Occasionally it has another size.
 fn push_fixed(text: &mut String, drawn: FieldDraw) -> Result<&'static str, AllocError> {
     let other = u32::from(drawn.own % 32 == 0);
     let size = (drawn.shared % 4 + other) % 4;
@@ -102,7 +103,7 @@ fn push_fixed(text: &mut String, drawn: FieldDraw) -> Result<&'static str, Alloc
     Ok(BYTES[size as usize])
 }
 
-/// A type that stands in no other one. Its default is returned.
+/// Adds a type that contains no other type, and returns its default.
 fn push_inner(
     text: &mut String,
     names: &[String],
@@ -130,7 +131,7 @@ fn push_inner(
     }
 }
 
-/// A type, whose default is returned.
+/// Adds a type, and returns its default.
 fn push_type(
     alloc: Global,
     draft: &mut Draft,
@@ -157,7 +158,8 @@ fn push_type(
     })
 }
 
-/// A field after others: now and then it is left out, has another type or stands by aliases.
+/// Adds a field after others. Occasionally it is left out, or has another type, or another name
+/// with aliases.
 fn push_field(alloc: Global, draft: &mut Draft, level: u32, index: u32) -> Result<(), AllocError> {
     let (shared, own) = (draft.shared.next_u32(), draft.own.next_u32());
     match own % 64 {
@@ -181,7 +183,7 @@ fn push_field(alloc: Global, draft: &mut Draft, level: u32, index: u32) -> Resul
     draft.text.push_str("}")
 }
 
-/// Fields after others.
+/// Adds three fields after others.
 fn push_fields(alloc: Global, draft: &mut Draft, level: u32, from: u32) -> Result<(), AllocError> {
     for index in from..from.saturating_add(3) {
         push_field(alloc, draft, level, index)?;
@@ -189,7 +191,7 @@ fn push_fields(alloc: Global, draft: &mut Draft, level: u32, from: u32) -> Resul
     Ok(())
 }
 
-/// The head of a record: now and then its name has another namespace, or aliases.
+/// Adds the beginning of a record. Occasionally its name has another namespace, or aliases.
 fn open_record(alloc: Global, draft: &mut Draft, level: u32) -> Result<(), AllocError> {
     let (space, letter) = match draft.own.next_u32() % 16 {
         0 => ("m", "R"),
@@ -207,11 +209,11 @@ fn open_record(alloc: Global, draft: &mut Draft, level: u32) -> Result<(), Alloc
         .push_str(r#""fields":[{"name":"f","type":"int"}"#)
 }
 
-/// The text of a pair's schema, which the stream tells from its other one.
+/// Returns the text of one schema of a pair. The two schemas of a pair have different streams.
 ///
 /// # Errors
 ///
-/// `AllocError` if memory for it runs out.
+/// `AllocError` if an allocation fails.
 pub fn random_text(alloc: Global, pair: u64, stream: u64) -> Result<String, AllocError> {
     let mut draft = Draft {
         text: String::new(alloc),

@@ -1,40 +1,40 @@
-//! Texts that are described by their parts.
+//! Templates of long texts.
 //!
-//! Each line of a description is a part: for which numbers it is written, and behind a space its template, in which marks
-//! stand for numbers and for other texts (`Placeholders`). The numbers are
+//! Each line of a template is a part: a name for numbers, a space, and the text that is written for each number. In
+//! this text, placeholders are replaced by numbers and by other texts (`Placeholders`). The numbers are
 //!
-//! - `once`: one;
-//! - `each`: from 0 up to the count;
-//! - `later`: from 1 up to the count, and `down` the same from the last to the first;
-//! - `last`: the count alone;
-//! - `A..B`: from A up to B, and where B is less from A down to B, without B either way;
-//! - `N`: as many as fill the text, where each number of the count takes N bytes elsewhere.
+//! - `once`: a single one;
+//! - `each`: from 0 up to the count, without the count;
+//! - `later`: from 1 up to the count, without the count, and `down`: the same in reverse;
+//! - `last`: only the count;
+//! - `A..B`: from A up to B, or down to B if B is less than A, in both cases without B;
+//! - `N`: from 0 on until the text has its maximum length, if other parts have N bytes for each number of the count.
 
 use std::alloc::{AllocError, Global};
 
-/// A text by its parts.
+/// A template of a text.
 #[derive(Clone, Copy)]
 pub struct Template {
-    /// what the mark of a word stands for
+    /// the text for the placeholder `$`
     pub word: &'static str,
     pub parts: &'static str,
 }
 
-/// The most bytes of a schema's text.
+/// The maximum length of a schema's text, in bytes.
 const MAX_TEXT: u32 = 1_048_576;
 
-/// How many bytes stand around what fills a text and around the numbers of the count, at most.
-const AROUND: u32 = 200;
+/// The maximum length of the parts that neither fill the text nor depend on the count, in bytes.
+const OTHER_BYTES: u32 = 200;
 
-/// The most letters of a symbol.
+/// The maximum number of letters of a symbol.
 const MAX_LETTERS: u32 = 4;
 
-/// What the marks of a template stand for.
+/// The values of the placeholders of a template.
 #[derive(Clone, Copy)]
 pub struct Placeholders<'a> {
-    /// `#`; `<` is the number before it and `>` the one behind, `~` its symbol
+    /// `#`; `<` is the number before it, `>` the number after it, and `~` its symbol
     pub number: u32,
-    /// whether `;` is no comma
+    /// whether `;` is nothing; else it is a comma
     pub is_first: bool,
     /// `@`
     pub inner: &'a str,
@@ -42,7 +42,7 @@ pub struct Placeholders<'a> {
     pub word: &'a str,
 }
 
-/// A letter, the small ones first.
+/// The letter with this index: `a` to `z`, then `A` to `Z`.
 fn letter(index: u32) -> char {
     let within = (index % 26) as u8;
     char::from(if index < 26 {
@@ -52,7 +52,7 @@ fn letter(index: u32) -> char {
     })
 }
 
-/// A symbol: of one letter for the first 52, and of more for later ones.
+/// Adds the symbol of a number: one letter for the first 52 numbers, and more letters for later ones.
 fn push_symbol(text: &mut String, number: u32) -> Result<(), AllocError> {
     let mut rest = number;
     for _letter in 0..MAX_LETTERS {
@@ -65,7 +65,7 @@ fn push_symbol(text: &mut String, number: u32) -> Result<(), AllocError> {
     Ok(())
 }
 
-/// Adds what a mark stands for, or the letter that is none.
+/// Adds the value of a placeholder, or the character itself if it is no placeholder.
 fn push_placeholder(text: &mut String, mark: char, marks: &Placeholders) -> Result<(), AllocError> {
     let number = marks.number;
     match mark {
@@ -81,7 +81,7 @@ fn push_placeholder(text: &mut String, mark: char, marks: &Placeholders) -> Resu
     }
 }
 
-/// Adds a template, with what its marks stand for.
+/// Adds the text of a part, with the values of its placeholders.
 pub fn push_template(
     text: &mut String,
     template: &str,
@@ -93,8 +93,8 @@ pub fn push_template(
     Ok(())
 }
 
-/// The least of the numbers from one up or down to another, which isn't among them, the one behind the greatest, and
-/// whether they go down.
+/// The numbers from `from` up or down to `to`, without `to`: the least one, the greatest one plus 1, and whether they
+/// go down.
 fn range(from: u32, to: u32) -> (u32, u32, bool) {
     if to < from {
         (to.saturating_add(1), from.saturating_add(1), true)
@@ -103,7 +103,7 @@ fn range(from: u32, to: u32) -> (u32, u32, bool) {
     }
 }
 
-/// The least of a part's numbers, the one behind the greatest, and whether they go down.
+/// The numbers of a part: the least one, the greatest one plus 1, and whether they go down.
 fn bounds(numbers: &str, count: u32) -> (u32, u32, bool) {
     match numbers {
         "once" => (0, 1, false),
@@ -115,7 +115,7 @@ fn bounds(numbers: &str, count: u32) -> (u32, u32, bool) {
             Some((from, to)) => range(from.parse().unwrap_or(0), to.parse().unwrap_or(0)),
             None => {
                 let bytes: u32 = numbers.parse().unwrap_or(0);
-                let filled = AROUND.saturating_add(bytes.saturating_mul(count));
+                let filled = OTHER_BYTES.saturating_add(bytes.saturating_mul(count));
                 (0, MAX_TEXT.saturating_sub(filled), false)
             }
         },
@@ -146,11 +146,11 @@ fn push_part(
     Ok(())
 }
 
-/// The text of these parts, with this count. The mark of an inner text stands for the one that is given.
+/// Returns the text of a template with this count. The placeholder `@` is replaced by `inner`.
 ///
 /// # Errors
 ///
-/// `AllocError` where memory for it is refused.
+/// `AllocError` if an allocation fails.
 pub fn expand(
     alloc: Global,
     described: Template,

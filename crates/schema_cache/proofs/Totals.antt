@@ -1,4 +1,4 @@
--- What a change of the entries does to the bytes of their texts.
+-- How the length of the entries' texts changes with the entries.
 use Rattle.std.proofs.Common.{◌≡◌, ℕ, zero, suc, ◌+◌, ◌-◌, ◌≤◌, ◌<◌, Bool, true, false, List, [], ◌∷◌, length, take, slice_get, Option, Some, None, refl, arith, cond}
 use Rattle.std.specs.Option.{option_map_or}
 use Rattle.std.specs.Prelude.{option_map}
@@ -41,7 +41,7 @@ module _ (test : ℕ → Bool) where
       by true later = refl
       by false later = later
 
-  -- the first entry that passes is still the first one
+  -- a promotion doesn't change the first entry that passes
   pub lookup-promoted : (es : List (ℕ × EntryView)) → lookup test (promoted test es) ≡ lookup test es
   lookup-promoted es = by (lookup_entry test es) refl
     where
@@ -50,7 +50,7 @@ module _ (test : ℕ → Bool) where
       by (Some e) h = rw ((Contains-lookup_entry test es e h).1, lookup-by_entry es, h) refl
 
 module _ (eq : ℕ → ℕ → Bool) (c : LruCache ℕ EntryView) (k : ℕ) (v : EntryView) where
-  -- what `push` adds and gives back
+  -- `push` adds an entry, and returns the displaced one
   pub total-put : length c.entries ≤ c.cap → 0 < c.cap → total (put_entries eq c k v) + size (displaced eq c k v) ≡ total c.entries + length v.text
   total-put few some = by (lookup_entry (eq k) c.entries) (lookup (eq k) c.entries) (lookup-by_entry (eq k) c.entries) (total-remove_entry (eq k) c.entries)
     where

@@ -1,4 +1,4 @@
--- What a memory answers.
+-- The results of a cache.
 use Rattle.std.specs.Prelude.{◌≡◌, ℕ, List, Option, Some, None}
 use Rattle.avro_nodes.specs.Nodes.{nodes_view}
 use Rattle.avro_nodes.specs.declared.node.Node.{Node}
@@ -7,12 +7,12 @@ use Rattle.schema_cache.specs.declared.cache_lookup.CacheLookup.{CacheLookup}
 use Rattle.schema_cache.specs.declared.cache_lookup.CacheLookup.TheVariants as found
 use Rattle.schema_cache.specs.Entries.{EntryView}
 
--- the schema's nodes
+-- the nodes of the schema
 abbrev pub found_schema : CacheLookup → List Node
 found_schema (found.Cached schema) = schema.now
 found_schema (found.Uncached schema) = schema
 
--- The schema that was read, or else the entry that is remembered, is of the text.
+-- the uncached schema, or without one the cached entry, is that of the text
 abbrev pub IsSchemaOf : List ℕ → Option (List Node) → Option EntryView → Type 0
 IsSchemaOf text (Some schema) entry = denoted_nodes text ≡ Some (nodes_view schema)
 IsSchemaOf text None (Some entry) = entry.text ≡ text

@@ -1,4 +1,4 @@
--- What a memory has.
+-- The entries of a cache, and their limits.
 use Rattle.std.specs.Prelude.{◌≡◌, ℕ, ◌+◌, ◌≤◌, List, [], ◌∷◌, length, Option, Some, None, refl}
 use Rattle.std.specs.Coded.{Coded, code_by, coded×, coded_list, coded_ℕ}
 use Rattle.avro_nodes.specs.Nodes.{nodes_view}
@@ -6,12 +6,12 @@ use Rattle.avro_nodes.specs.declared.node.Node.{Node}
 use Rattle.avro_nodes.specs.contracts.node.Node.{the_row}
 use Rattle.avro_schema.specs.DenotedNodes.{denoted_nodes}
 
--- a text, and the nodes of the schema that was read from it
+-- a text, and the nodes of the schema that was parsed from it
 pub record EntryView : Type 0 where
   pub text : List ℕ
   pub nodes : List Node
 
--- a `EntryView` is stored as the pair of its fields
+-- an `EntryView` is coded as the pair of its fields
 abbrev pub entry_code : Coded EntryView
 entry_code = code_by (List ℕ × List Node) (coded× (coded_list coded_ℕ) (coded_list the_row.coded)) (λ r. (r.text, r.nodes)) (λ p. record { text = p.0; nodes = p.1 }) (λ _. refl)
 
@@ -20,24 +20,24 @@ abbrev pub total : List (ℕ × EntryView) → ℕ
 total [] = 0
 total (e ∷ es) = length e.1.text + total es
 
--- the bytes of the text of an entry, if there is one
+-- the bytes of an entry's text, or 0 without an entry
 abbrev pub size : Option (ℕ × EntryView) → ℕ
 size None = 0
 size (Some e) = length e.1.text
 
--- the most entries
+-- the maximum number of entries
 abbrev pub max_entries : ℕ
 max_entries = 256
 
--- the most bytes of texts in all: 384 KiB
+-- the maximum length of all texts together: 384 KiB
 abbrev pub max_total : ℕ
 max_total = 393216
 
--- the most bytes of one text: 64 KiB
+-- the maximum length of a text: 64 KiB
 abbrev pub max_cached_text : ℕ
 max_cached_text = 65536
 
--- The text denotes these nodes, and isn't too long to be remembered.
+-- The text denotes these nodes, and is short enough to be cached.
 pub record IsCacheable (text : List ℕ) (nodes : List Node) : Type 0 where
   pub denotes : denoted_nodes text ≡ Some (nodes_view nodes)
   pub short : length text ≤ max_cached_text

@@ -1,4 +1,4 @@
-//! A memory of the schemas of stored texts.
+//! A cache of parsed schemas.
 
 ghost use Rattle.std.specs.Prelude.{◌≡◌, ◌≢◌, ◌≤◌, length, List, [], None, Some, IfOk, IfErr, IfSome, option_copied, nat_eq, IsTrue};
 ghost use Rattle.std.specs.Map.{lookup};
@@ -15,22 +15,22 @@ use avro_schema::{Schema, SchemaError};
 use std::alloc::Global;
 use std::marker::Model;
 
-/// The most bytes of a text that is remembered: 64 KiB.
+/// The maximum length of a cached text: 64 KiB.
 const MAX_CACHED_TEXT: usize = 65536;
 
-/// What is done where a memory has no room for another schema.
+/// The policy of a cache that has no room for another schema.
 #[derive(Clone, Copy, Debug, PartialEq, Eq)]
 pub enum EvictionPolicy {
-    /// The least recently used ones go.
+    /// Evict the least recently used schemas.
     Replace,
-    /// Those that are there stay, and the other one isn't remembered.
+    /// Keep the cached schemas, and don't cache a new one.
     Keep,
 }
 
 impl EvictionPolicy {
-    /// What suits schemas that are read one after the other: so many, and so many bytes of texts in
-    /// all. If a memory can't hold them all it keeps those that it has: else each would go before it
-    /// comes again.
+    /// Returns the policy for a scan that reads this many schemas, with this many bytes of texts. If
+    /// they don't all fit, it is `Keep`: each schema would be evicted before its next use. Else it
+    /// is `Replace`.
     pub fn for_scan(schemas: usize, bytes: usize) -> EvictionPolicy {
         if schemas > MAX_ENTRIES || bytes > MAX_TOTAL {
             EvictionPolicy::Keep
@@ -40,8 +40,8 @@ impl EvictionPolicy {
     }
 }
 
-/// A memory of schemas that were read, found by the ids of their texts. It has at most 256 of them,
-/// whose texts have at most 384 KiB in all and 64 KiB each.
+/// A cache of parsed schemas, found by the ids of their texts. It has at most 256 schemas. Their
+/// texts have at most 64 KiB each and 384 KiB in all.
 #[derive(Drop)]
 pub struct SchemaCache {
     lru_entries: Option<LruEntries>,
@@ -61,14 +61,14 @@ impl Model for SchemaCache {
 }
 
 impl SchemaCache {
-    /// One that has nothing. It takes no memory before the first schema is read.
+    /// Returns an empty cache. It allocates nothing before the first schema.
     pub fn new() -> SchemaCache
         ensures { result ≡ [] }
     {
         SchemaCache { lru_entries: None }
     }
 
-    /// The number of schemas that are remembered, and the bytes of their texts.
+    /// Returns the number of cached schemas, and the bytes of their texts.
     pub fn sizes(&self) -> (usize, usize)
         ensures schemas { result.0 ≡ length self.now }
         ensures bytes { result.1 ≡ total self.now }
@@ -81,13 +81,14 @@ impl SchemaCache {
         }
     }
 
-    /// Reads a schema text exactly as `Schema::read` does. The schema is remembered by the id, and
-    /// where the id comes again with the same text it isn't read again. A text of more than 64 KiB
-    /// isn't remembered, nor one for which memory is refused.
+    /// Parses a schema text as `Schema::read` does, and caches the schema under the id. If this
+    /// text is cached under the id, returns the cached schema. A schema isn't cached if its text
+    /// has more than 64 KiB, if the policy is `Keep` and there is no room, or if an allocation
+    /// fails.
     ///
     /// # Errors
     ///
-    /// Those of `Schema::read`.
+    /// The errors of `Schema::read`.
     pub fn read(
         &mut self,
         alloc: Global,
@@ -112,8 +113,8 @@ impl SchemaCache {
         }
     }
 
-    /// Stores a schema under an id, as `read` does when it has parsed this text, which denotes the
-    /// schema. Drops the schema if `read` wouldn't remember it.
+    /// Caches a schema that the text denotes, as `read` does after it has parsed the text. Drops
+    /// the schema if `read` wouldn't cache it.
     pub fn put(
         &mut self,
         alloc: Global,
@@ -127,7 +128,7 @@ impl SchemaCache {
         let _unremembered = self.insert(alloc, id, text, schema, eviction_policy);
     }
 
-    /// Takes the schema of the id out, if it was read from this text.
+    /// Removes and returns the schema of the id, if it was parsed from this text.
     pub fn take(&mut self, id: u32, text: &str) -> Option<Schema>
         ensures { IfSome result (λ schema. denoted_nodes text.now ≡ Some (nodes_view schema)) }
     {
@@ -140,7 +141,8 @@ impl SchemaCache {
         }
     }
 
-    /// Reads the text unless the schema is remembered. It comes back where it can't be remembered.
+    /// Parses the text and caches the schema, unless it is cached. Returns the schema if it can't
+    /// be cached, and `None` if it is in the cache.
     fn load(
         &mut self,
         alloc: Global,
@@ -162,7 +164,7 @@ impl SchemaCache {
         }
     }
 
-    /// The entry of the id.
+    /// Returns the entry of the id.
     fn entry(&self, id: u32) -> Option<&Entry>
         ensures { option_copied result ≡ lookup (nat_eq id) self.now }
     {
@@ -191,8 +193,8 @@ impl SchemaCache {
         }
     }
 
-    /// Remembers the schema that was read from the text. It comes back where its text has no room,
-    /// and where memory is refused.
+    /// Caches the schema of the text. Returns it if there is no room for the text, or if an
+    /// allocation fails.
     fn insert(
         &mut self,
         alloc: Global,
@@ -220,7 +222,7 @@ impl SchemaCache {
         }
     }
 
-    /// Whether a text of so many bytes can be remembered.
+    /// Whether a text of this many bytes may be cached.
     fn has_room(&self, bytes: usize, eviction_policy: EvictionPolicy) -> bool
         ensures { IsTrue result → bytes ≤ max_cached_text }
     {
@@ -233,7 +235,7 @@ impl SchemaCache {
         }
     }
 
-    /// Makes room for entries where there is none yet, and tells whether there is.
+    /// Allocates the entries, unless they are allocated. Returns whether they are.
     fn ensure_allocated(&mut self, alloc: Global) -> bool {
         if self.lru_entries.is_none() {
             match LruEntries::new(alloc) {

@@ -1,21 +1,21 @@
-//! A schema that is lent or handed out.
+//! The result of a read.
 
 ghost use Rattle.std.specs.Prelude.{◌≡◌};
 ghost use Rattle.schema_cache.specs.Answers.{found_schema};
 
 use avro_schema::Schema;
 
-/// A schema that a text denotes: one that is remembered, or one that was read for this call alone.
+/// The schema that a text denotes, borrowed from the cache or parsed for this call.
 #[derive(Drop)]
 pub enum CacheLookup<'a> {
-    /// One that is remembered.
+    /// A schema in the cache.
     Cached(&'a Schema),
-    /// One that was read and isn't remembered.
+    /// A parsed schema that isn't in the cache.
     Uncached(Schema),
 }
 
 impl CacheLookup<'_> {
-    /// The schema.
+    /// Returns the schema.
     pub fn schema(&self) -> &Schema
         ensures { result.now ≡ found_schema self.now }
     {

@@ -1,4 +1,4 @@
-//! A text and the schema that it denotes.
+//! An entry of the cache.
 
 ghost use Rattle.std.specs.Prelude.{◌≡◌, ◌≤◌, Some, IfOk, IfErr, length};
 ghost use Rattle.avro_nodes.specs.Nodes.{nodes_view};
@@ -30,8 +30,8 @@ impl Model for Entry {
 }
 
 impl Entry {
-    /// The text with the schema that was read from it. Where memory for the text is refused, the
-    /// schema comes back.
+    /// Copies the text, and adds the schema that was parsed from it. Returns the schema if the
+    /// allocation fails.
     pub fn new(alloc: Global, text: &str, schema: Schema) -> Result<Entry, Schema>
         requires { IsCacheable text.now schema }
         ensures ok { IfOk result (λ entry. entry ≡ record { text = text.now; nodes = schema }) }
@@ -59,7 +59,7 @@ impl Entry {
         &self.schema
     }
 
-    /// The schema alone.
+    /// Returns the schema, and drops the text.
     pub fn into_schema(self) -> Schema
         ensures schema { result ≡ self.nodes }
         ensures denotes { denoted_nodes self.text ≡ Some (nodes_view result) }

@@ -1,4 +1,4 @@
-//! A memory of schemas that were read.
+//! A cache of parsed schemas.
 
 #![tactic(auto)]
 

@@ -1,4 +1,4 @@
-//! The entries that are remembered, the most recently used first.
+//! The entries of a cache, the most recently used first.
 
 ghost use Rattle.std.specs.Prelude.{◌≡◌, ◌+◌, ◌-◌, ◌≤◌, ◌<◌, [], IfOk, IfErr, OnOk, length, take, option_copied, nat_eq};
 ghost use Rattle.std.specs.Map.{lookup};
@@ -11,11 +11,11 @@ use std::alloc::{AllocError, Global};
 use std::marker::Model;
 use std::num::NonZeroUsize;
 
-/// The most bytes of texts in all: 384 KiB. What was read of texts full of small objects takes some
-/// 130 times their bytes, so 50 MB at most.
+/// The maximum length of all cached texts together: 384 KiB. Parsed texts full of small objects
+/// take about 130 times their length, so a cache takes at most 50 MB.
 pub const MAX_TOTAL: usize = 393216;
 
-/// The most entries.
+/// The maximum number of entries.
 pub const MAX_ENTRIES: usize = 256;
 
 /// The entries by their ids, the most recently used first.
@@ -41,7 +41,7 @@ impl Model for LruEntries {
     ghost invariant = { λ s. IsCounted s.cache s.bytes };
 }
 
-/// Drops the entry, if there is one, and tells the bytes of its text.
+/// Drops an evicted entry, and returns the length of its text; 0 for `None`.
 fn freed_bytes(gone: Option<(u32, Entry)>) -> usize
     ensures { result ≡ size gone }
 {
@@ -52,7 +52,7 @@ fn freed_bytes(gone: Option<(u32, Entry)>) -> usize
 }
 
 impl LruEntries {
-    /// No entries.
+    /// Returns no entries.
     pub fn new(alloc: Global) -> Result<LruEntries, AllocError>
         ensures { IfOk result (λ lru_entries. lru_entries ≡ []) }
     {
@@ -60,7 +60,7 @@ impl LruEntries {
         Ok(LruEntries { cache, bytes: 0 })
     }
 
-    /// The number of entries, and the bytes of their texts.
+    /// Returns the number of entries, and the bytes of their texts.
     pub fn sizes(&self) -> (usize, usize)
         ensures entries { result.0 ≡ length self.now }
         ensures bytes { result.1 ≡ total self.now }
@@ -70,7 +70,7 @@ impl LruEntries {
         (self.cache.len(), self.bytes)
     }
 
-    /// The entry of the id.
+    /// Returns the entry of the id.
     pub fn get(&self, id: u32) -> Option<&Entry>
         ensures { option_copied result ≡ lookup (nat_eq id) self.now }
     {
@@ -93,12 +93,12 @@ impl LruEntries {
         Some(entry)
     }
 
-    /// Whether another entry, with a text of so many bytes, has room beside those that are there.
+    /// Whether there is room for another entry with a text of this many bytes.
     pub fn has_room(&self, more: usize) -> bool {
         self.cache.len() < MAX_ENTRIES && self.bytes.saturating_add(more) <= MAX_TOTAL
     }
 
-    /// Drops the least recently used entry.
+    /// Evicts the least recently used entry.
     fn evict(&mut self)
         ensures { self.new ≡ take (length self.old - 1) self.old }
     {
@@ -106,7 +106,8 @@ impl LruEntries {
         self.bytes -= freed_bytes(gone);
     }
 
-    /// Drops the least recently used entries until so many bytes have room.
+    /// Evicts the least recently used entries until there is room for another text of this many
+    /// bytes.
     fn make_room(&mut self, more: usize)
         requires { more ≤ max_total }
         ensures total { total self.new + more ≤ max_total }
@@ -117,7 +118,7 @@ impl LruEntries {
         }
     }
 
-    /// Adds the entry as the one of the id. Where memory is refused it comes back.
+    /// Adds the entry under the id. Returns the entry if an allocation fails.
     pub fn add(&mut self, id: u32, entry: Entry) -> Result<(), Entry>
         ensures ok { OnOk result (lookup (nat_eq id) self.new ≡ Some entry) }
         ensures err { IfErr result (λ back. back ≡ entry) }

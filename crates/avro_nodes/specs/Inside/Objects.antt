@@ -1,4 +1,4 @@
--- Objects that are written a member at a time: attributes with a meaning among the others, in byte order of their names.
+-- Objects that are written member by member: the known attributes among the others, in byte order of their names.
 use Rattle.std.specs.Prelude.{◌≡◌, ◌≤◌, ℕ, List, [], ◌∷◌, ◌++◌, Option, Some, None, ⊤, codes, if◌then◌else◌}
 use Rattle.std.specs.declared.cmp.Ordering.TheVariants.{Less}
 use Rattle.std.specs.Ordering.{nat_cmp, match_ordering}
@@ -14,7 +14,7 @@ use Rattle.avro_nodes.specs.declared.node.Order.TheVariants.{Ascending, Descendi
 use Rattle.avro_nodes.specs.Names.{has_dot}
 use Rattle.avro_nodes.specs.Identity.{Counted, texts}
 
--- an attribute, by its name, where it is written
+-- an attribute: its name, and its value unless it is left out
 abbrev pub Attribute : Type 0
 Attribute = List ℕ × Option Data
 
@@ -26,23 +26,23 @@ abbrev pub put_attributes : List Attribute → Members → Members
 put_attributes [] others = others
 put_attributes (p ∷ ps) others = put_attribute p (put_attributes ps others)
 
--- the members before the name, and then the others given
+-- the members before the name, and then `more`
 abbrev pub before_then : List ℕ → Members → Members → Members
 before_then k no_members more = more
 before_then k (member l e ms) more = match_ordering (slice_cmp nat_cmp k l) more more (member l e (before_then k ms more))
 
--- the members from the first one on that doesn't stand before the name, but for one of that name
+-- the members from the first that isn't before the name, without one of that name
 abbrev pub rest_after : List ℕ → Members → Members
 rest_after k no_members = no_members
 rest_after k (member l e ms) = match_ordering (slice_cmp nat_cmp k l) (member l e ms) ms (rest_after k ms)
 
--- the attributes, each after the others that stand before it
+-- the attributes, each after the members that sort before it
 abbrev pub merged : List Attribute → Members → Members
 merged [] others = others
 merged ((k, None) ∷ ps) others = merged ps others
 merged ((k, Some d) ∷ ps) others = before_then k others (member k d (merged ps (rest_after k others)))
 
--- ---- what is written of a member
+-- ---- the tokens of members
 
 abbrev pub IsJsonOf : json.Json → Data → Type 0
 IsJsonOf j d = (of_json j ≡ Some d) × (tree.depth j ≤ depth d) × (blank j ≡ outline d)
@@ -53,28 +53,28 @@ AreJsonOf json.no_members (member k d ms) = ⊥
 AreJsonOf (json.member k j js) no_members = ⊥
 AreJsonOf (json.member k j js) (member l d ms) = (k ≡ l) × IsJsonOf j d × AreJsonOf js ms
 
--- the tokens are followed by those of the members, up to the closing bracket
+-- `new` is `old` with the tokens of these members and the closing bracket
 abbrev pub EndsObject : Members → List Token → List Token → Type 0
 EndsObject ms old new = (js : json.Members) × (new ≡ old ++ tree.members_tokens js) × AreJsonOf js ms
 
--- whatever ends the object after the member ends it from here
+-- tokens that end the object after this member end it, with the member, from `old`
 abbrev pub WritesMember : List ℕ → Data → List Token → List Token → Type 0
 WritesMember k d old new = (ms : Members) (end : List Token) → EndsObject ms new end → EndsObject (member k d ms) old end
 
--- what stands before the name is written, and one of that name is passed over
+-- the members before the name are written, and one of that name is skipped
 abbrev pub WritesOthersBefore : List ℕ → Members → Members → List Token → List Token → Type 0
 WritesOthersBefore k others left old new = (left ≡ rest_after k others) × ((ms : Members) (end : List Token) → EndsObject ms new end → EndsObject (before_then k others ms) old end)
 
--- After the attribute it is left to write those that follow, among the others that are left: whatever ends the object from there ends
--- it from here.
+-- The attribute is written after all members that sort before it; `left` are the members after it. For any later attributes `ps`:
+-- tokens that end the object from `new` with `ps` and `left` end it from `old` with all.
 abbrev pub WritesAttribute : Attribute → Members → Members → List Token → List Token → Type 0
 WritesAttribute p others left old new = (ps : List Attribute) (end : List Token) → EndsObject (merged ps left) new end → EndsObject (merged (p ∷ ps) others) old end
 
--- the same of an attribute of which the value is still to be written
+-- the same for an attribute whose value is written next
 abbrev pub WritesName : List ℕ → Members → Members → List Token → List Token → Type 0
 WritesName k others left old named = (d : Data) (new : List Token) → WritesValue d named new → WritesAttribute (k, Some d) others left old new
 
--- each name is behind the one before it
+-- each name sorts after `k`
 abbrev pub AllAfter : List ℕ → Members → Type 0
 AllAfter k no_members = ⊤
 AllAfter k (member l d ms) = (slice_cmp nat_cmp k l ≡ Less) × AllAfter k ms
@@ -83,7 +83,7 @@ abbrev pub AreOrdered : Members → Type 0
 AreOrdered no_members = ⊤
 AreOrdered (member k d ms) = AllAfter k ms × AreOrdered ms
 
--- ---- the attributes that aren't always written
+-- ---- attributes that may be left out
 
 abbrev pub some_texts : List (List ℕ) → Option Data
 some_texts [] = None
@@ -98,23 +98,23 @@ abbrev pub null_namespace : List ℕ → List ℕ → Option Data
 null_namespace [] name = None
 null_namespace (c ∷ enclosing) name = if has_dot name then None else Some (string [])
 
--- ---- types, of which a part is still to be written
+-- ---- types that are written in part
 
--- the value is still to be written, and the members that are left after it
+-- `whole` is written up to the value in it; the value and the members `left` are still to be written
 abbrev pub AwaitsValue : (Data → Data) → Members → List Token → List Token → Type 0
 AwaitsValue whole left old named = (d : Data) (new end : List Token) → WritesValue d named new → EndsObject left new end → WritesValue (whole d) old end
 
--- what follows the items of an array
+-- the attributes after the items of an array
 abbrev pub array_end : List Attribute
 array_end = (codes "type", Some (string (codes "array"))) ∷ []
 
--- what follows the fields of a record
+-- the attributes after the fields of a record
 abbrev pub record_end : List ℕ → List ℕ → List Attribute
 record_end enclosing name = (codes "name", Some (string name)) ∷ (codes "namespace", null_namespace enclosing name) ∷ (codes "type", Some (string (codes "record"))) ∷ []
 
 -- ---- places
 
--- the value is written, and so many places with it
+-- the value is written, and `written` is its number of places
 abbrev pub WritesCounted : Counted Data → List Token → List Token → ℕ → Type 0
 WritesCounted s old new written = WritesValue s.0 old new × (written ≡ s.1)
 

@@ -1,4 +1,4 @@
-//! What an identity text writes of a type, but for the types that it is made of.
+//! Writes the parts of a type in an identity text, except for the types that it contains.
 
 ghost use Rattle.std.specs.Prelude.{◌≡◌, ℕ, List, option_map, string_bytes, IfOk, OnOk};
 ghost use Rattle.json.specs.Token.{Token};
@@ -33,11 +33,11 @@ fn kind_text(kind: Kind) -> &'static str
     }
 }
 
-/// Writes a primitive type: its name, or an object where it has other attributes.
+/// Writes a primitive type: its name, or an object if it has other attributes.
 ///
 /// # Errors
 ///
-/// `AllocError` where memory is refused. A part of it may be written then.
+/// `AllocError` if an allocation fails; a part may be written then.
 pub fn write_primitive(out: &mut CompactWriter, kind: Kind, extra: &Extra) -> Result<(), AllocError>
     ensures { OnOk result (WritesValue (primitive_value kind (members_view extra.now.entries))
         out.old out.new) }
@@ -55,7 +55,7 @@ pub fn write_primitive(out: &mut CompactWriter, kind: Kind, extra: &Extra) -> Re
 ///
 /// # Errors
 ///
-/// `AllocError` where memory is refused. A part of it may be written then.
+/// `AllocError` if an allocation fails; a part may be written then.
 pub fn write_enum(
     out: &mut CompactWriter,
     enclosing: &str,
@@ -85,7 +85,7 @@ pub fn write_enum(
 ///
 /// # Errors
 ///
-/// `AllocError` where memory is refused. A part of it may be written then.
+/// `AllocError` if an allocation fails; a part may be written then.
 pub fn write_fixed(
     out: &mut CompactWriter,
     enclosing: &str,
@@ -108,11 +108,11 @@ pub fn write_fixed(
     write_rest(out, others)
 }
 
-/// Writes an array up to its items, which are to be written next.
+/// Writes the beginning of an array. The caller writes the type of its items next.
 ///
 /// # Errors
 ///
-/// `AllocError` where memory is refused. A part of it may be written then.
+/// `AllocError` if an allocation fails; a part may be written then.
 pub fn begin_array<'a>(out: &mut CompactWriter, extra: &'a Extra) -> Result<Others<'a>, AllocError>
     ensures { IfOk result (λ others. AwaitsValue
         (λ items. array_value items (members_view extra.now.entries))
@@ -124,11 +124,11 @@ pub fn begin_array<'a>(out: &mut CompactWriter, extra: &'a Extra) -> Result<Othe
     Ok(others)
 }
 
-/// Writes the rest of an array.
+/// Writes the end of an array, after the type of its items.
 ///
 /// # Errors
 ///
-/// `AllocError` where memory is refused. A part of it may be written then.
+/// `AllocError` if an allocation fails; a part may be written then.
 pub fn end_array(out: &mut CompactWriter, mut others: Others<'_>) -> Result<(), AllocError>
     ensures { OnOk result (EndsObject (merged array_end (members_view others.entry)) out.old out.new) }
 {
@@ -136,11 +136,11 @@ pub fn end_array(out: &mut CompactWriter, mut others: Others<'_>) -> Result<(), 
     write_rest(out, others)
 }
 
-/// Writes a map up to its values, which are to be written next.
+/// Writes the beginning of a map. The caller writes the type of its values next.
 ///
 /// # Errors
 ///
-/// `AllocError` where memory is refused. A part of it may be written then.
+/// `AllocError` if an allocation fails; a part may be written then.
 pub fn begin_map<'a>(out: &mut CompactWriter, extra: &'a Extra) -> Result<Others<'a>, AllocError>
     ensures { IfOk result (λ others. AwaitsValue
         (λ values. map_value values (members_view extra.now.entries))
@@ -153,11 +153,11 @@ pub fn begin_map<'a>(out: &mut CompactWriter, extra: &'a Extra) -> Result<Others
     Ok(others)
 }
 
-/// Writes a record up to its fields, which are to be written next.
+/// Writes the beginning of a record. The caller writes its fields next.
 ///
 /// # Errors
 ///
-/// `AllocError` where memory is refused. A part of it may be written then.
+/// `AllocError` if an allocation fails; a part may be written then.
 pub fn begin_record<'a>(
     out: &mut CompactWriter,
     named: &Named,
@@ -176,11 +176,11 @@ pub fn begin_record<'a>(
     Ok(others)
 }
 
-/// Writes the rest of a record.
+/// Writes the end of a record, after its fields.
 ///
 /// # Errors
 ///
-/// `AllocError` where memory is refused. A part of it may be written then.
+/// `AllocError` if an allocation fails; a part may be written then.
 pub fn end_record(
     out: &mut CompactWriter,
     mut others: Others<'_>,
@@ -196,11 +196,11 @@ pub fn end_record(
     write_rest(out, others)
 }
 
-/// Writes a field up to its type, which is to be written next.
+/// Writes the beginning of a field. The caller writes its type next.
 ///
 /// # Errors
 ///
-/// `AllocError` where memory is refused. A part of it may be written then.
+/// `AllocError` if an allocation fails; a part may be written then.
 pub fn begin_field<'a>(out: &mut CompactWriter, field: &'a Field) -> Result<Others<'a>, AllocError>
     ensures { IfOk result (λ others. AwaitsValue (field_value (field_view field.now))
         (members_view others) out.old out.new) }

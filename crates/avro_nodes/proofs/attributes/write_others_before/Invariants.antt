@@ -5,7 +5,7 @@ use Rattle.serde_json.specs.View.{members_view}
 use Rattle.avro_nodes.specs.Inside.Objects.{EndsObject, rest_after, before_then}
 use Rattle.avro_nodes.proofs.attributes.write_others_before.Given as goal
 
--- what is left has the same part behind the name, and whatever ends the object from here ends it from the start
+-- the remaining members have the same rest after the name, and tokens that end the object from here end it from its start
 abbrev pub invariant-loop-name : goal.invariant-loop-name
 invariant-loop-name l =
     let key = l.key in

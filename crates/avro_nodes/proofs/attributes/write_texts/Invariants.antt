@@ -5,6 +5,6 @@ use Rattle.avro_nodes.specs.Nodes.{texts_view}
 use Rattle.avro_nodes.specs.Identity.{texts}
 use Rattle.avro_nodes.proofs.attributes.write_texts.Given as goal
 
--- whatever ends the array from here ends it from its start
+-- tokens that end the array from here end it from its start
 abbrev pub invariant-loop-text : goal.invariant-loop-text
 invariant-loop-text l = (end : List Token) → WritesItems (texts (texts_view (drop l.text-index l.list))) l.out end → WritesItems (texts (texts_view l.list)) l.initial.out end

@@ -14,7 +14,7 @@ decreases-write_branches l = 2 * l.depth + 1
 abbrev pub decreases-write_fields : goal.decreases-write_fields
 decreases-write_fields l = 2 * l.depth + 1
 
--- whatever ends the array from here ends it from its start, and the count goes on as it does from there
+-- tokens that end the array from here end it from its start, and the count from here is the count of all
 abbrev pub invariant-write_branches-loop-place : goal.invariant-write_branches-loop-place
 invariant-write_branches-loop-place l =
     record {

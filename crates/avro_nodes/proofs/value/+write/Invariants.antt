@@ -5,7 +5,7 @@ use Rattle.serde_json.specs.Written.{WritesItems}
 use Rattle.avro_nodes.specs.Inside.Objects.{EndsObject}
 use Rattle.avro_nodes.proofs.value.+write.Given as goal
 
--- whatever ends the array or the object from here ends it from its start
+-- tokens that end the array or the object from here end it from its start
 abbrev pub invariant-write_array-loop-item : goal.invariant-write_array-loop-item
 invariant-write_array-loop-item l = (end : List Token) → WritesItems (items_view (drop l.item-index l.item-items)) l.out end → WritesItems (items_view l.item-items) l.initial.out end
 
