@@ -1,4 +1,4 @@
--- What fits agrees.
+-- Two nodes that fit also agree.
 use Rattle.std.proofs.Common.{◌≡◌, ℕ, List, Option, Some, None}
 use Rattle.std.specs.Prelude.{MatchOption, slice_get, ◌↔◌}
 use Rattle.avro_nodes.specs.Nodes.{NodeView, primitive, array, mapping, union, enumeration, fixed, rec}

@@ -14,7 +14,7 @@ pub bit_none : (k : ℕ) → bit [] k ≡ false
 unfolding bit
 bit_none k = rw bit_at-zero refl
 
--- a place by its word
+-- a bit's index, from its word and its index in the word
 same_place : (k m : ℕ) → m / 64 ≡ k / 64 → m % 64 ≡ k % 64 → m ≡ k
 same_place k m e f = let p = div-add-mod' m 64 in let q = div-add-mod' k 64 in omega arith
 
@@ -39,7 +39,7 @@ word_cases words k word b l e h m true false f g =
     let low : m % 64 < 64 = omega arith in
     rw (t, p) (rw get_or-set_same (ap (λ (x : ℕ). x == 1) (h (m % 64) low q)))
 
--- the bits of words where one word differs, and that at one place
+-- the bits after one word changed in one bit
 pub bit_set : (words : List ℕ) (k word : ℕ) (b : Bool) → k / 64 < length words → (bit_at word (k % 64) == 1) ≡ b → ((i : ℕ) → i < 64 → i ≢ k % 64 → bit_at word i ≡ bit_at (get_or words (k / 64) 0) i) → (m : ℕ) → bit (set words (k / 64) word) m ≡ (if m == k then b else bit words m)
 bit_set words k word b l e h m = word_cases words k word b l e h m (m / 64 == k / 64) (m % 64 == k % 64) refl refl
 
@@ -57,11 +57,11 @@ more_cases old new n l e same zero m (inl c) d = ap (λ (word : ℕ). bit_at wor
 more_cases old new n l e same zero m (inr c) (inl d) = ap (λ (word : ℕ). bit_at word (m % 64) == 1) (zero (m / 64) 0 c d ∙ sym (word_at old m c))
 more_cases old new n l e same zero m (inr c) (inr d) = ap (λ (word : ℕ). bit_at word (m % 64) == 1) (word_at new m (omega arith) ∙ sym (word_at old m c))
 
--- more words without a bit
+-- words without a set bit are appended
 pub bit_more : (old new : List ℕ) (n : ℕ) → length old ≤ n → length new ≡ n → ((k d : ℕ) → k < n → k < length old → slice_index_or new k d ≡ slice_index_or old k d) → ((k d : ℕ) → length old ≤ k → k < n → slice_index_or new k d ≡ 0) → (m : ℕ) → bit new m ≡ bit old m
 bit_more old new n l e same zero m = more_cases old new n l e same zero m (cases_lt (m / 64) (length old)) (cases_lt (m / 64) n)
 
--- the place of a pair tells the pair
+-- the index of a pair determines the pair
 pub place_test : (i j a b w : ℕ) → j < w → b < w → (a * w + b == i * w + j) ≡ (a == i && b == j)
 place_test i j a b w l k = test_cases (a == i) (b == j) refl refl
   where
@@ -88,6 +88,6 @@ past_test : (words : List ℕ) (k m : ℕ) (x : Bool) → (m == k) ≡ x → bit
 past_test words k m true e h = let same : m ≡ k = grind (arith, nat_tests) in rw same h
 past_test words k m false e h = refl
 
--- to clear a bit past the last word changes nothing
+-- clearing a bit past the last word changes nothing
 pub past_place : (words : List ℕ) (k m : ℕ) → length words ≤ k / 64 → bit words m ≡ (if m == k then false else bit words m)
 past_place words k m l = past_test words k m (m == k) refl (bit_past words k l)

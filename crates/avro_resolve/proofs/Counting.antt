@@ -1,10 +1,10 @@
--- How many pairs two lists have that hold different ones.
+-- A list of distinct pairs is at most as long as each list that contains them.
 use Rattle.std.proofs.Common.{◌≡◌, ℕ, ◌+◌, ◌≤◌, List, [], ◌∷◌, Bool, true, false, cond, ◌&&◌, ◌||◌, length, refl, sym, subst, ◌∙◌, arith, true≢false, inl, inr}
 use Rattle.std.specs.Prelude.{◌==◌}
 use Rattle.avro_resolve.specs.Witnesses.{Pair, member, AreDistinct}
 use Rattle.avro_resolve.proofs.PairLists.{test_same, at_pair, false_unless, member-cons, member-nil, member_head, member_tail, member_cases}
 
--- the list without the first place of a pair
+-- the list without the first occurrence of a pair
 cut : Pair → List Pair → List Pair
 cut p [] = []
 cut p (q ∷ qs) = cond (q.0 == p.0 && q.1 == p.1) qs (q ∷ cut p qs)
@@ -37,7 +37,7 @@ cut_member p (q ∷ qs) i j ne m = cut_member_at p q qs i j (q.0 == p.0 && q.1 =
 in_cut : (p : Pair) (ps l : List Pair) → member ps p.0 p.1 ≡ false → ((i j : ℕ) → member ps i j ≡ true → member l i j ≡ true) → (i j : ℕ) → member ps i j ≡ true → member (cut p l) i j ≡ true
 in_cut p ps l out h i j m = cut_member p l i j (λ g. true≢false (sym (subst (λ (x : ℕ). member ps x p.1 ≡ true) g.0 (subst (λ (y : ℕ). member ps i y ≡ true) g.1 m)) ∙ out)) (h i j m)
 
--- different pairs of a list are no more than it has
+-- a list of distinct pairs is at most as long as each list that contains them
 pub fewer : (ps l : List Pair) → AreDistinct ps → ((i j : ℕ) → member ps i j ≡ true → member l i j ≡ true) → length ps ≤ length l
 unfolding AreDistinct
 fewer [] l d h = omega arith

@@ -1,4 +1,4 @@
--- What a schema's text gives of its nodes: each named place is a node's, no branch of a union is a union, and a record's fields are their own sources.
+-- The nodes of a schema: each reference is to one of the nodes, no branch of a union is a union, and each field of a record is its own source.
 use Rattle.std.proofs.Common.{◌≡◌, ◌≢◌, ℕ, zero, suc, ◌+◌, ◌<◌, List, [], ◌∷◌, ◌++◌, Option, Some, None, Bool, true, false, cond, length, map, get_or, bytes_eq, refl, sym, ap, subst, ◌∙◌, arith, true≢false}
 use Rattle.std.specs.Prelude.{All, find, slice_get}
 use Rattle.std.specs.Option.{option_or}
@@ -21,11 +21,11 @@ abbrev pub IsNoUnion : NodeView → Type 0
 IsNoUnion (union places) = ⊥
 IsNoUnion _ = Unit {0}
 
--- the node at the place is no union
+-- the node at the place isn't a union
 abbrev pub NoUnionAt : List NodeView → ℕ → Type 0
 NoUnionAt all place = (a : NodeView) → slice_get all place ≡ Some a → IsNoUnion a
 
--- no branch of a union is a union, and a record's fields are their own sources
+-- no branch of a union is a union, and each field of a record is its own source
 abbrev pub IsPlain : List NodeView → NodeView → Type 0
 IsPlain all (union places) = All (NoUnionAt all) places
 IsPlain all (rec named fields extra) = All (λ f. source fields f ≡ Some f) fields
@@ -35,7 +35,7 @@ IsPlain all (mapping place extra) = Unit {0}
 IsPlain all (enumeration named symbols fallback extra) = Unit {0}
 IsPlain all (fixed named size extra) = Unit {0}
 
--- ---- fields of different names
+-- ---- fields with distinct names
 
 lacks_at : (xs : List (List ℕ)) (x : List ℕ) → Lacks xs x → (k : ℕ) (d : List ℕ) → k < length xs → x ≢ get_or xs k d
 lacks_at [] x h k d l = absurd (omega arith)
@@ -76,9 +76,9 @@ first_own names fs f e = ap (λ o. option_or o (first_named names fs)) e
 own_sources : (fs : List FieldView) → AllDiffer (map (λ f. f.name) fs) → All (λ f. source fs f ≡ Some f) fs
 own_sources fs h = λ k d l. let f = get_or fs k d in first_own f.aliases fs f (find_own fs h k d l)
 
--- ---- where nodes stand
+-- ---- the places of nodes
 
--- the nodes stand in the whole list from this place on
+-- the nodes are in the whole list, from this place on
 Stands : List NodeView → ℕ → List NodeView → Type 0
 Stands all first [] = Unit {0}
 Stands all first (a ∷ nodes) = (slice_get all first ≡ Some a) × Stands all (first + 1) nodes
@@ -156,7 +156,7 @@ refers all known space name place k e =
     if_step all place (known name) (or_else (known (qualified space name)) (known name)) (has_dot name) (k.at name place)
     (or_step all place (known (qualified space name)) (known name) (k.at (qualified space name) place) (k.at name place)) e
 
--- ---- the induction over what is denoted
+-- ---- the induction over the denoted schema
 
 record Good (all : List NodeView) (place : ℕ) (nodes : List NodeView) (known : Known) : Type 0 where
   within : place < length all

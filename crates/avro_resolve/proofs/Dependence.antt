@@ -1,4 +1,4 @@
--- A pair rests on one that it asks for: without that one nothing supports it.
+-- Pairs that depend on another pair: no set without that pair supports them.
 use Rattle.std.proofs.Common.{◌≡◌, ℕ, zero, suc, ◌+◌, ◌<◌, List, [], ◌∷◌, Option, length, Some, None, Bool, true, false, cond, sym, ap, subst, ◌∙◌, arith, refl, true≢false, inl, inr}
 use Rattle.std.specs.Prelude.{◌↔◌, Any, IsTrue, MatchOption, find, option_and_then, option_map, slice_get, Vec}
 use Rattle.std.specs.declared.alloc.Global.{Global}
@@ -31,7 +31,7 @@ use Rattle.avro_resolve.proofs.Monotone.{supports_at}
 use Rattle.avro_resolve.proofs.Sourcing.{nth}
 use Rattle.avro_resolve.proofs.Propagation.{entry_told}
 
--- the nodes of a pair that is supported
+-- the nodes of a supported pair
 nodes_of_pair : (w r : List NodeView) (R : Pairs) (i j : ℕ) → Supports w r R i j → (a : NodeView) × (b : NodeView) × (slice_get w i ≡ Some a) × (slice_get r j ≡ Some b) × Fits R i j a b
 unfolding Supports
 nodes_of_pair w r R i j s = by (slice_get w i) refl (slice_get r j) refl s
@@ -42,7 +42,7 @@ nodes_of_pair w r R i j s = by (slice_get w i) refl (slice_get r j) refl s
     by (Some a) eo None ep h = absurd h
     by (Some a) eo (Some b) ep h = (a, b, eo, ep, h)
 
--- ---- a writer's union rests on each of its branches
+-- ---- a writer's union depends on each of its branches
 
 branch_needed : (R : Pairs) (i j p : ℕ) (a b : NodeView) → HasBranch a p → R p j ≡ false → Fits R i j a b → ⊥
 branch_needed R i j p (union bs) b h e s = true≢false (sym (All-contains (λ x. IsTrue (R x j)) bs p s h) ∙ e)
@@ -65,7 +65,7 @@ fits_any R i j (enumeration n' k f x) places n = ((λ h. h), (λ h. h))
 fits_any R i j (fixed n' k x) places n = ((λ h. h), (λ h. h))
 fits_any R i j (rec n' fs x) places n = ((λ h. h), (λ h. h))
 
--- what is no union rests on the branches of a reader's union
+-- a reader's union supports a writer's node other than a union exactly if one of its branches does
 pub supports_any : (w r : List NodeView) (R : Pairs) (i j : ℕ) (places : List ℕ) → i < length w → ((bs : List ℕ) → slice_get w i ≡ Some (union bs) → ⊥) → slice_get r j ≡ Some (union places)
     → Supports w r R i j ↔ Any (λ p. IsTrue (R i p)) places
 supports_any w r R i j places l apart eb =
@@ -74,7 +74,7 @@ supports_any w r R i j places l apart eb =
     let any = fits_any R i j a.0 places (λ bs e. apart bs (a.1 ∙ ap Some e)) in
     ((λ h. any.0 (at.0 h)), (λ h. at.1 (any.1 h)))
 
--- what has a branch is a union
+-- a node with a branch is a union
 pub union_of : (a : NodeView) (place : ℕ) → HasBranch a place → (places : List ℕ) × (a ≡ union places)
 union_of (union places) place h = (places, refl)
 union_of (primitive k x) place h = absurd h
@@ -106,7 +106,7 @@ field_needed R i j p q l (enumeration n k g x) (rec m gs y) f ef es at e s = s
 field_needed R i j p q l (fixed n k x) (rec m gs y) f ef es at e s = s
 field_needed R i j p q l _ _ f ef es at e s = absurd cc
 
--- ---- the source of a field is that of its own name
+-- ---- a writer's field with the name of a reader's field is its source
 
 find_step : (test : FieldView → Bool) (f g : FieldView) (o : Option FieldView) (b : Bool) → test f ≡ b → f ≡ g → test g ≡ true → cond b (Some f) o ≡ None → ⊥
 find_step test f g o true t e h n = absurd cc
@@ -135,7 +135,7 @@ code_some : (o : Option ℕ) (p : ℕ) → source_code o ≡ p + 1 → o ≡ Som
 code_some None p e = absurd (omega (arith, e))
 code_some (Some z) p e = let same : z ≡ p = omega (arith, e) in ap Some same
 
--- ---- what the links say
+-- ---- what a match of two links means
 
 module _ (names : List (List ℕ)) (rank_map : Option (List (Option ℕ))) (numbered : List Aliased) (a : NodeView) (x : Link) (place : ℕ) where
   of_contents : x.kind ≡ ByElement → IsOfNode names rank_map numbered a x place → element_place a ≡ Some place
@@ -166,7 +166,7 @@ module _ (names : List (List ℕ)) (rank_map : Option (List (Option ℕ))) (numb
         given = subst (GivenBy rank_map numbered index y x) e given;
       }
 
-module _ (sides : Sides) (is : IsSides sides) (writer_links reader_links : Links) (sources : List (Vec ℕ Global)) (askers : AreReferrers sides writer_links reader_links sources) (p q : ℕ) (x y : Link) (R : Pairs) (out : R p q ≡ false)
+module _ (sides : Sides) (is : IsSides sides) (writer_links reader_links : Links) (sources : List (Vec ℕ Global)) (are_referrers : AreReferrers sides writer_links reader_links sources) (p q : ℕ) (x y : Link) (R : Pairs) (out : R p q ≡ false)
     (a b : NodeView) (ea : slice_get (rows sides) x.referrer ≡ Some a) (eb : slice_get (columns sides) y.referrer ≡ Some b) (fits : Fits R x.referrer y.referrer a b) (one : x.label ≡ y.label) where
   abbrev Mine : LinkKind → Type 0
   Mine kind = Field (names_of sides.writer) (Some sides.rank_map.ranks.items) writer_links.aliased.items a x p kind
@@ -188,7 +188,7 @@ module _ (sides : Sides) (is : IsSides sides) (writer_links reader_links : Links
   by_alias number t told =
       let field : Aliased = record { place = y.referrer; index = t.index } in
       let at : field_at (columns sides) field ≡ Some t.field = ap (option_and_then (λ (c : NodeView). slice_get (fields_of c) t.index)) eb ∙ t.there in
-      let entry = entry_told (rows sides) (columns sides) reader_links.aliased.items sources askers.sources x.referrer number a field ea t.given t.field at in
+      let entry = entry_told (rows sides) (columns sides) reader_links.aliased.items sources are_referrers.sources x.referrer number a field ea t.given t.field at in
       let from = code_some (source_place (fields_of a) t.field) p (sym entry ∙ told) in
       field_needed R x.referrer y.referrer p q t.index a b t.field t.there from t.at out fits
 
@@ -203,6 +203,6 @@ module _ (sides : Sides) (is : IsSides sides) (writer_links reader_links : Links
 
 pub rests_by_links : (sides : Sides) → IsSides sides → (writer_links reader_links : Links) (sources : List (Vec ℕ Global)) → AreReferrers sides writer_links reader_links sources → (p q : ℕ) (x y : Link) → IsListedAt writer_links.lists.items x p → IsListedAt reader_links.lists.items y q
     → x.label ≡ y.label → MayDepend sources p x y → DependsOn (rows sides) (columns sides) x.referrer y.referrer p q
-rests_by_links sides is writer_links reader_links sources askers p q x y hx hy one asks R out s =
+rests_by_links sides is writer_links reader_links sources are_referrers p q x y hx hy one asks R out s =
     let h = nodes_of_pair (rows sides) (columns sides) R x.referrer y.referrer s in
-    by_ways sides is writer_links reader_links sources askers p q x y R out h.0 h.1 h.2 h.3 h.4 one x.kind y.kind refl refl asks (askers.writer.links.meant x p hx h.0 h.2) (askers.reader.links.meant y q hy h.1 h.3)
+    by_ways sides is writer_links reader_links sources are_referrers p q x y R out h.0 h.1 h.2 h.3 h.4 one x.kind y.kind refl refl asks (are_referrers.writer.links.meant x p hx h.0 h.2) (are_referrers.reader.links.meant y q hy h.1 h.3)

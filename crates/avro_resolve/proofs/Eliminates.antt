@@ -1,4 +1,4 @@
--- Striking out one pair, and one after another.
+-- Eliminating one pair, and one after another.
 use Rattle.std.proofs.Common.{◌≡◌, ℕ, ◌+◌, ◌*◌, ◌<◌, List, [], ◌∷◌, ◌++◌, Bool, true, false, ◌&&◌, ◌||◌, not, length, refl, sym, ap, ◌∙◌, arith, true≢false, length-append}
 use Rattle.std.specs.Prelude.{◌==◌, if◌then◌else◌}
 use Rattle.std.specs.List.{list_any}
@@ -37,7 +37,7 @@ not_in : (x y : Bool) → x ≡ not y → x ≡ true → y ≡ false
 not_in x true e f = absurd (true≢false (sym f ∙ e))
 not_in x false e f = refl
 
--- a pair that the rest doesn't support is struck out
+-- an unsupported pair is eliminated
 pub eliminated_pair : (w r : List NodeView) (t v : Table) (i j : ℕ) → IsSelfContained w → IsSelfContained r → IsRemainder w r t → i < length w → j < length r → remains t i j ≡ true → (Supports w r (remains t) i j → ⊥)
     → SameShape t v → ((a b : ℕ) → remains v a b ≡ (if a == i && b == j then false else remains t a b)) → count_remaining v + 1 ≡ count_remaining t → IsRemainder w r v
 eliminated_pair w r t v i j ww wr h li lj here never shape others fewer = record {

@@ -1,4 +1,4 @@
--- What is left at the end, and what was struck out, as witnesses.
+-- At the end, the remaining pairs are the witness of a yes, and the eliminated pairs of a no.
 use Rattle.std.proofs.Common.{◌≡◌, ℕ, ◌≤◌, List, [], ◌∷◌, ◌++◌, Bool, true, false, not, length, refl, sym, subst, ◌∙◌, arith, true≢false, inl, inr}
 use Rattle.std.specs.Prelude.{IsTrue, ◌↔◌}
 use Rattle.avro_nodes.specs.Nodes.{NodeView}
@@ -22,14 +22,14 @@ not_struck : (x y : Bool) → x ≡ not y → (y ≡ true → ⊥) → x ≡ tru
 not_struck x true e h = absurd (h refl)
 not_struck x false e h = e
 
--- the roots of a schema that resolves are left
+-- the pair of the roots of a schema that resolves remains
 pub kept_end : (w r : List NodeView) (t : Table) → IsRemainder w r t → Resolves w r → remains t 0 0 ≡ true
 unfolding Resolves
 kept_end w r t h (R, roots, closed) =
     let here = supported_in w r R 0 0 (closed 0 0 roots) in
     not_struck (remains t 0 0) (member h.eliminated 0 0) (h.exact 0 0 here.0 here.1) (refuted w r R h.eliminated closed h.refutes 0 0 roots)
 
--- the list up to the pair of the roots
+-- the list up to a pair
 pub up_to : (w r : List NodeView) (before f : List Pair) (i j : ℕ) → RefutesAfter w r before f → AreDistinct f → IsTrue (member f i j)
     → (ps : List Pair) × RefutesAfter w r before (ps ++ (i, j) ∷ []) × AreDistinct (ps ++ (i, j) ∷ []) × (length (ps ++ (i, j) ∷ []) ≤ length f) × ((a b : ℕ) → member (ps ++ (i, j) ∷ []) a b ≡ true → member f a b ≡ true)
 unfolding RefutesAfter AreDistinct

@@ -1,4 +1,4 @@
--- Fields laid on a desk and taken off again.
+-- Fields are indexed by name rank in slots, and removed again.
 use Rattle.std.proofs.Common.{◌≡◌, ◌⊎◌, ℕ, zero, suc, ◌+◌, ◌<◌, ◌≤◌, List, length, get_or, [], ◌∷◌, Some, refl, sym, ap, ◌∙◌, subst, inl, inr, arith}
 use Rattle.std.specs.Prelude.{◌≢◌, Option, None, is_some, slice_get}
 use Rattle.std.proofs.lemmas.Bool.{cases_lt, true≢false}
@@ -37,7 +37,7 @@ module _ (rank_map : List (Option ℕ)) (names : List ℕ) where
     met_as : (r0 : ℕ) → mapped_rank rank_map name ≡ Some r0 → (j rank : ℕ) → j ≡ k → HasName rank_map names j rank → rank ≡ r0
     met_as r0 em j rank e h = sym (same_Some r0 rank (named k rank name (Some r0) (subst (λ (i : ℕ). HasName rank_map names i rank) e h) ek em))
 
-    -- that no field from n on has the rank, nor the one before them
+    -- no field from index n on has the rank, and the field before them hasn't either
     earlier : (rank m : ℕ) → (HasName rank_map names k rank → ⊥) → ((j : ℕ) → n ≤ j → j < m → HasName rank_map names j rank → ⊥) → (j : ℕ) → k ≤ j → j < m → HasName rank_map names j rank → ⊥
     earlier rank m here later j lo hi own = elim (cases_lt k j) [
       | inl g ↦ later j (omega arith) hi own
@@ -71,9 +71,9 @@ module _ (rank_map : List (Option ℕ)) (names : List ℕ) where
         ];
       }
 
-  -- ---- off again
+  -- ---- clearing the slots
 
-  -- only fields from an index on lie there
+  -- the slots have only fields from the index on
   abbrev pub AreLeft : ℕ → List (Option ℕ) → Type 0
   AreLeft n slots = (rank j : ℕ) → slot slots rank ≡ Some j → (n ≤ j) × HasName rank_map names j rank
 
@@ -100,7 +100,7 @@ module _ (rank_map : List (Option ℕ)) (names : List ℕ) where
   pub none_left : (slots : List (Option ℕ)) (n : ℕ) → length names ≤ n → AreLeft n slots → IsClear slots
   none_left slots n l h rank j e = let f = h rank j e in let within = slice_get_within names j f.1.0 f.1.1 in absurd (omega (arith, f.0, within))
 
-  -- ---- what lies in the box of a name
+  -- ---- the slot of a name
 
   module _ (slots : List (Option ℕ)) (h : AreInSlots rank_map names 0 slots) where
     pub nobody : (rank : ℕ) → rank < length slots → slot slots rank ≡ None → NoField rank_map names rank

@@ -16,7 +16,7 @@ pub flag_at : (fs : List Bool) (m i j : ℕ) → j < m → flag fs m i j ≡ get
 unfolding flag
 flag_at fs m i j l = grind (arith, nat_tests)
 
--- what stands at the index of a pair is its flag
+-- the flag at the index of a pair is the pair's
 pub flag_is : (t : Table) (i at : ℕ) (b : Bool) → i < t.writers → at < t.readers → b ≡ get_or t.flags.items (i * t.readers + at) b → remains t i at ≡ b
 flag_is t i at b li la e =
     let m = mul-add-lt i t.readers at t.writers li la in

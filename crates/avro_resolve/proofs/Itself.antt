@@ -17,12 +17,12 @@ use Rattle.avro_resolve.specs.Inside.Places.{RefersBelow, IsSelfContained}
 use Rattle.avro_resolve.proofs.Denoted.{IsNoUnion, NoUnionAt, IsPlain, some_node, is_whole, is_plain}
 use Rattle.avro_resolve.proofs.Monotone.{supports_at, at_place}
 
--- a branch of the node
+-- whether the place is a branch of the node
 branch_of : Option NodeView → ℕ → Bool
 branch_of (Some (union places)) i = list_any (λ p. p == i) places
 branch_of _ i = false
 
--- each pair of a place with itself, and each branch with its union
+-- the pairs of each place with itself, and of each branch with its union
 itself : List NodeView → Pairs
 itself w i j = nat_lt i (length w) && ((i == j) || branch_of (slice_get w j) i)
 

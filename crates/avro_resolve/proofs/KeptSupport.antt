@@ -1,4 +1,4 @@
--- Pairs that were struck out, told to those that ask for them.
+-- Remaining pairs stay supported while eliminated pairs are propagated.
 use Rattle.std.proofs.Common.{◌≡◌, ℕ, ◌+◌, List, [], ◌∷◌, ◌++◌, Bool, true, false, ◌&&◌, length, get_or, refl, sym, subst, ◌∙◌, arith, true≢false, inl, inr, length-append}
 use Rattle.std.specs.Prelude.{◌==◌, ◌⊎◌, if◌then◌else◌, IsTrue}
 use Rattle.std.proofs.lemmas.Bool.{or_cases, or_left, or_right}
@@ -14,7 +14,7 @@ use Rattle.avro_resolve.proofs.Monotone.{supports_within}
 use Rattle.avro_resolve.proofs.PairLemmas.{member_back, member_after}
 use Rattle.avro_resolve.proofs.PairLists.{member-nil, member_front, member_last, push_cases}
 
--- ---- how the list and the table go on
+-- ---- the worklist and the table, step by step
 
 pub lists_none : (t : Table) (ps : List Pair) → QueuesEliminated t ps t ps
 lists_none t ps = record { fewer = λ i j h. h; remains_or_queued = λ i j h. h; count = refl; out = λ h. h }
@@ -31,7 +31,7 @@ pub not_back : (x y : Bool) → (x ≡ true → y ≡ true) → y ≡ false → 
 not_back true y h e = absurd (true≢false (sym (h refl) ∙ e))
 not_back false y h e = refl
 
--- a pair that isn't left doesn't come back
+-- an eliminated pair stays eliminated
 pub stays_out : (t v : Table) (ps qs : List Pair) (p q : ℕ) → QueuesEliminated t ps v qs → remains t p q ≡ false → remains v p q ≡ false
 stays_out t v ps qs p q h e = not_back (remains v p q) (remains t p q) (h.fewer p q) e
 
@@ -58,7 +58,7 @@ none_here i j y = grind (arith, nat_tests)
 pub gone_eliminated : (t v : Table) (i j : ℕ) → ((a b : ℕ) → remains v a b ≡ (if a == i && b == j then false else remains t a b)) → remains v i j ≡ false
 gone_eliminated t v i j others = others i j ∙ none_here i j (remains t i j)
 
--- a pair that was struck out is listed
+-- eliminating a pair puts it on the worklist
 module _ (t v : Table) (ps : List Pair) (i j : ℕ) (others : (a b : ℕ) → remains v a b ≡ (if a == i && b == j then false else remains t a b)) where
   held_left : (a b : ℕ) → remains t a b ≡ true → remains_or_queued v (ps ++ (i, j) ∷ []) a b ≡ true
   held_left a b l = elim (same_pair a b i j (a == i && b == j) refl) [
@@ -89,15 +89,15 @@ settled_gone w r t ps i j e l = absurd (true≢false (sym l ∙ e))
 pub settled_supported : (w r : List NodeView) (t : Table) (ps : List Pair) (i j : ℕ) → IsSelfContained w → IsSelfContained r → Supports w r (remains t) i j → StillSupported w r t ps i j
 settled_supported w r t ps i j ww wr s l = supports_within (remains t) (remains_or_queued t ps) (λ a b h. or_left (remains t a b) (member ps a b) h) w r i j s
 
--- what is settled stays so
+-- a supported pair stays supported
 pub settled_on : (w r : List NodeView) (t v : Table) (ps qs : List Pair) (i j : ℕ) → IsSelfContained w → IsSelfContained r → QueuesEliminated t ps v qs → StillSupported w r t ps i j → StillSupported w r v qs i j
 settled_on w r t v ps qs i j ww wr h s l = supports_within (remains_or_queued t ps) (remains_or_queued v qs) h.remains_or_queued w r i j (s (h.fewer i j l))
 
--- what goes with a branch stays so
+-- `NeedsBranch` stays true
 pub goes_on : (t v : Table) (ps qs : List Pair) (i branch j : ℕ) → QueuesEliminated t ps v qs → NeedsBranch t ps i branch j → NeedsBranch v qs i branch j
 goes_on t v ps qs i branch j h g l = h.remains_or_queued branch j (g (h.fewer i j l))
 
--- what was eliminated with a branch goes with it
+-- `NeedsBranch` is true if the pairs without the branch were eliminated
 pub goes_gone : (t v : Table) (ps qs : List Pair) (i branch b : ℕ) → QueuesEliminated t ps v qs → (remains t branch b ≡ false → remains v i b ≡ false) → NeedsBranch v qs i branch b
 goes_gone t v ps qs i branch b lists gone h = by (remains t branch b) refl
   where
@@ -117,7 +117,7 @@ front_out t ps more o = λ k d l. let P = λ (p : Pair). remains t p.0 p.1 ≡ f
 pub back_out : (t : Table) (ps more : List Pair) → AreEliminated t (ps ++ more) → AreEliminated t more
 back_out t ps more o = λ k d l. let P = λ (p : Pair). remains t p.0 p.1 ≡ false in All-contains P (ps ++ more) (get_or more k d) o (Contains-append_right ps more (get_or more k d) (Contains-get_or more k d l))
 
--- a further list beside both
+-- the same with more pairs on both worklists
 pub lists_beside : (t v : Table) (ps qs more : List Pair) → QueuesEliminated t ps v qs → QueuesEliminated t (ps ++ more) v (qs ++ more)
 lists_beside t v ps qs more h = record {
   fewer = h.fewer;
@@ -132,15 +132,15 @@ lists_beside t v ps qs more h = record {
   out = λ o. All-append (λ (p : Pair). remains v p.0 p.1 ≡ false) qs more (h.out (front_out t ps more o)) (are_out_on t v more h.fewer (back_out t ps more o));
 }
 
--- what was settled before a pair is told stays so while others are told of it
+-- pairs that are supported before a propagation stay supported during it
 pub all_settled_on : (w r : List NodeView) (t v : Table) (ps qs more : List Pair) → IsSelfContained w → IsSelfContained r → QueuesEliminated t ps v qs → AllStillSupported w r t (ps ++ more) → AllStillSupported w r v (qs ++ more)
 all_settled_on w r t v ps qs more ww wr h s i j li lj = settled_on w r t v (ps ++ more) (qs ++ more) i j ww wr (lists_beside t v ps qs more h) (s i j li lj)
 
--- what is settled is so with a further list
+-- a supported pair is supported with more pairs on the worklist
 pub settled_onto : (w r : List NodeView) (t : Table) (ps more : List Pair) (i j : ℕ) → IsSelfContained w → IsSelfContained r → StillSupported w r t ps i j → StillSupported w r t (ps ++ more) i j
 settled_onto w r t ps more i j ww wr s l = supports_within (remains_or_queued t ps) (remains_or_queued t (ps ++ more)) (λ a b h. onto t ps more a b h) w r i j (s l)
 
--- a pair that does not ask for the one that is told needs no look
+-- a pair that ignores the popped pair needs no check
 pub settled_ignoring : (w r : List NodeView) (t : Table) (ps : List Pair) (i j p q : ℕ) → Ignores w r i j p q → StillSupported w r t (ps ++ (p, q) ∷ []) i j → StillSupported w r t ps i j
 settled_ignoring w r t ps i j p q ignores s l = ignores (remains_or_queued t (ps ++ (p, q) ∷ [])) (remains_or_queued t ps) (λ a b h. elim (or_cases (remains t a b) (member (ps ++ (p, q) ∷ []) a b) h) [
   | inl g ↦ inl (or_left (remains t a b) (member ps a b) g)

@@ -1,4 +1,4 @@
--- Links stay as more of them are noted, and tell by which names places are referred to.
+-- Links are kept as more are added, and have the names by which places are referred to.
 use Rattle.std.proofs.Common.{◌≡◌, ℕ, suc, ◌+◌, ◌<◌, List, [], ◌∷◌, ◌++◌, take, Option, Some, None, length, get_or, refl, sym, ap, subst, ◌∙◌, arith, inl, inr}
 use Rattle.std.specs.Prelude.{All, MatchOption, option_and_then, slice_get, Vec}
 use Rattle.std.specs.declared.alloc.Global.{Global}
@@ -7,7 +7,7 @@ use Rattle.std.specs.Option.{IsSomeAnd}
 use Rattle.std.proofs.lemmas.List.Elements.{All-cons, All-nil}
 use Rattle.std.proofs.lemmas.List.{take_more}
 use Rattle.std.proofs.lemmas.Option.{get_or_from_slice_get, slice_get-get_or, slice_get_within}
-use Rattle.std.proofs.lemmas.Slice.Zip.{AllZip-remains, all_zipped_more}
+use Rattle.std.proofs.lemmas.Slice.Zip.{AllZip-left, all_zipped_more}
 use Rattle.avro_nodes.specs.Nodes.{FieldView, NodeView, primitive, array, mapping, union, enumeration, fixed, rec}
 use Rattle.avro_schema.specs.declared.index.FieldRanks.{FieldRanks}
 use Rattle.avro_schema.specs.Index.{AreFieldsRanked, AreRanks, IsFieldRanked, IsRank}
@@ -22,7 +22,7 @@ use Rattle.avro_resolve.specs.Inside.Lists.{IsListedAt}
 use Rattle.avro_resolve.specs.Inside.RankMaps.{RanksDecideNames}
 use Rattle.avro_resolve.proofs.ListLemmas.{adds_none, adds_such, adds_then}
 
--- ---- more is noted
+-- ---- more links are added
 
 pub notes_none : (Such : Link → ℕ → Type 0) (links : Links) → OnlyAddsLinks Such links links
 notes_none Such links = record { adds = adds_none Such links.lists.items; kept = λ number field e. e; unions = refl }
@@ -61,12 +61,12 @@ module _ (old new : Links) (stand : (x : Link) (p : ℕ) → IsListedAt old.list
     },
   )
 
--- each list has what it had
+-- no list changes
 pub record SameLists (old new : List (Vec Link Global)) : Type 0 where
   pub there : (x : Link) (place : ℕ) → IsListedAt old x place → IsListedAt new x place
   pub back : (x : Link) (place : ℕ) → IsListedAt new x place → IsListedAt old x place
 
--- what gives a link does so as more fields get numbers
+-- a field gives the same links after more fields got numbers
 module _ (old new : List Aliased) (kept : (number : ℕ) (field : Aliased) → slice_get old number ≡ Some field → slice_get new number ≡ Some field) (rank_map : Option (List (Option ℕ))) (x : Link) where
   pub given_on : (index : ℕ) (y : FieldRanks) (kind : LinkKind) → GivenBy rank_map old index y x kind → GivenBy rank_map new index y x kind
   given_on index y ByElement h = h
@@ -89,7 +89,7 @@ union_listed_on xs ys i stand (enumeration n s f x) h = h
 union_listed_on xs ys i stand (fixed n s x) h = h
 union_listed_on xs ys i stand (rec n fs x) h = h
 
--- ---- what links say of names
+-- ---- links and names
 
 and_some : {X : Type 0} (P : X → Type 0) (o : Option X) → IsSomeAnd o P → (x : X) × (o ≡ Some x) × P x
 and_some P None h = absurd h
@@ -99,11 +99,11 @@ pub then_some : {X Y : Type 0} (g : X → Option Y) (o : Option X) (y : Y) → o
 then_some g None y e = absurd cc
 then_some g (Some x) y e = (x, refl, e)
 
--- what stands beside an element of the first list
+-- the element of the second list at the index of an element of the first
 pub zip_got : {X Y : Type 0} (P : X → Y → Type 0) (xs : List X) (ys : List Y) → AllZip P xs ys → (k : ℕ) (x : X) → slice_get xs k ≡ Some x → (y : Y) × (slice_get ys k ≡ Some y) × P x y
-zip_got {X} P xs ys zip k x e = and_some (P x) (slice_get ys k) (subst (λ (o : Option X). MatchOption o (Unit {0}) (λ z. IsSomeAnd (slice_get ys k) (P z))) e (AllZip-remains P xs ys zip k))
+zip_got {X} P xs ys zip k x e = and_some (P x) (slice_get ys k) (subst (λ (o : Option X). MatchOption o (Unit {0}) (λ z. IsSomeAnd (slice_get ys k) (P z))) e (AllZip-left P xs ys zip k))
 
--- one more of two lists side by side
+-- one more element of both lists
 pub zip_more : {X Y : Type 0} (P : X → Y → Type 0) (xs : List X) (i : ℕ) (x : X) (ys : List Y) (y : Y) → slice_get xs i ≡ Some x → AllZip P (take i xs) ys → P x y → AllZip P (take (i + 1) xs) (ys ++ y ∷ [])
 zip_more {X} P xs i x ys y e so_far now =
     let l : i < length xs = slice_get_within xs i x e in

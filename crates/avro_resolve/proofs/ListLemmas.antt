@@ -1,4 +1,4 @@
--- Lists that stand at places.
+-- A list for each place.
 use Rattle.std.proofs.Common.{◌≡◌, ℕ, zero, suc, ◌+◌, ◌<◌, ◌≤◌, List, [], ◌∷◌, ◌++◌, Bool, true, false, length, get_or, refl, sym, ap, subst, ◌∙◌, arith, inl, inr}
 use Rattle.std.proofs.Math.ListN.{set}
 use Rattle.std.specs.Prelude.{◌==◌, ◌⊎◌, Contains, Vec}
@@ -52,7 +52,7 @@ same_place x i = by (x == i) refl
     by true e = inl (grind (arith, nat_tests))
     by false e = inr (λ (h : x ≡ i). grind (arith, nat_tests))
 
--- what one list's change means for the lists
+-- one of the lists changes
 module _ {X : Type 0} (xs : List (Vec X Global)) (k : ℕ) (v : Vec X Global) (l : k < length xs) where
   pub keeps : ((x : X) → Contains (list_at xs k) x → Contains v.items x) → (x : X) (p : ℕ) → IsListedAt xs x p → IsListedAt (set xs k v) x p
   keeps kept x p h = elim (same_place p k) [
@@ -95,7 +95,7 @@ get_or_any [] k d e l = absurd (omega arith)
 get_or_any (x ∷ xs) zero d e l = refl
 get_or_any (x ∷ xs) (suc k) d e l = get_or_any xs k d e (omega arith)
 
--- what holds of each element before one and of this one
+-- a property of the elements before index n and of element n is one of the elements before n + 1
 pub each_more : {X : Type 0} (P : X → Type 0) (xs : List X) (n : ℕ) (e : X) → n < length xs → ((k : ℕ) (d : X) → k < n → P (get_or xs k d)) → P (get_or xs n e) → (k : ℕ) (d : X) → k < n + 1 → P (get_or xs k d)
 each_more P xs n e within before here k d l = elim (cases_lt k n) [
   | inl g ↦ before k d g

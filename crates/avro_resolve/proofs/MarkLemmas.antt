@@ -1,4 +1,4 @@
--- Sets that have the pairs of a list.
+-- Bit sets with the pairs of a list.
 use Rattle.std.proofs.Common.{◌≡◌, ℕ, ◌<◌, List, [], ◌∷◌, ◌++◌, Bool, true, false, ◌&&◌, ◌||◌, refl, sym, ap, subst, ◌∙◌, arith, true≢false, inl, inr}
 use Rattle.std.specs.Prelude.{◌==◌, if◌then◌else◌, ◌⊎◌}
 use Rattle.std.proofs.lemmas.Bool.Decides.{nat_tests}
@@ -47,7 +47,7 @@ apart_step q ps p true e d h = elim (member_cases q ps p.0 p.1 e) [
   | inr g ↦ absurd (true≢false (sym g ∙ h))
 ]
 
--- the last of different pairs isn't among the others
+-- the last of distinct pairs isn't among the others
 pub last_apart : (ps : List Pair) (p : Pair) → AreDistinct (ps ++ p ∷ []) → member ps p.0 p.1 ≡ false
 unfolding AreDistinct
 last_apart [] p d = member-nil p.0 p.1

@@ -1,10 +1,10 @@
--- What the ranks of nodes say of their names and symbols.
+-- The names and symbols of nodes, compared by rank.
 use Rattle.std.proofs.Common.{◌≡◌, ◌<◌, ℕ, List, [], Bool, Some, refl, sym, ◌∙◌, subst, inl, inr, arith}
 use Rattle.std.specs.Prelude.{All, Contains, IsTrue, Option, None, MatchOption, slice_get, ◌↔◌}
 use Rattle.std.specs.Option.{IsSomeAnd}
 use Rattle.std.proofs.lemmas.List.Elements.{All-contains, All-nil}
 use Rattle.std.proofs.lemmas.Option.{same_Some}
-use Rattle.std.proofs.lemmas.Slice.Zip.{AllZip-remains}
+use Rattle.std.proofs.lemmas.Slice.Zip.{AllZip-left}
 use Rattle.avro_nodes.specs.Names.{last_part}
 use Rattle.avro_nodes.specs.Nodes.{FieldView, NamedView, NodeView, primitive, array, mapping, union, enumeration, fixed, rec, texts_view}
 use Rattle.avro_schema.specs.declared.index.Index.{Index}
@@ -29,15 +29,15 @@ pub ranked_at : (nodes : List NodeView) (index : Index) → IsIndex nodes index 
 ranked_at nodes index is place a v ea ev =
     let names = texts_view index.names.items in
     let at : IsSomeAnd (slice_get index.ranks.items place) (IsRanked names a) =
-    subst (λ (o : Option NodeView). MatchOption o (Unit {0}) (λ x. IsSomeAnd (slice_get index.ranks.items place) (IsRanked names x))) ea (AllZip-remains (IsRanked names) nodes index.ranks.items is.ranked place) in
+    subst (λ (o : Option NodeView). MatchOption o (Unit {0}) (λ x. IsSomeAnd (slice_get index.ranks.items place) (IsRanked names x))) ea (AllZip-left (IsRanked names) nodes index.ranks.items is.ranked place) in
     some_and (IsRanked names) (slice_get index.ranks.items place) a v ev at
 
--- those of a node of a side
+-- the ranks of a side's node
 pub node_ranks : (side : Side) → IsSide side → (place : ℕ) (a : NodeView) → slice_get (nodes_of side) place ≡ Some a → (v : Ranks) × IsRanked (names_of side) a v
 node_ranks side is place a ea =
     let names = names_of side in
     let at : IsSomeAnd (slice_get side.index.now.ranks.items place) (IsRanked names a) =
-    subst (λ (o : Option NodeView). MatchOption o (Unit {0}) (λ x. IsSomeAnd (slice_get side.index.now.ranks.items place) (IsRanked names x))) ea (AllZip-remains (IsRanked names) (nodes_of side) side.index.now.ranks.items is.index.ranked place) in
+    subst (λ (o : Option NodeView). MatchOption o (Unit {0}) (λ x. IsSomeAnd (slice_get side.index.now.ranks.items place) (IsRanked names x))) ea (AllZip-left (IsRanked names) (nodes_of side) side.index.now.ranks.items is.index.ranked place) in
     some_ranks (slice_get side.index.now.ranks.items place) (IsRanked names a) at
   where
     some_ranks : (o : Option Ranks) (P : Ranks → Type 0) → IsSomeAnd o P → (v : Ranks) × P v
@@ -45,7 +45,7 @@ node_ranks side is place a ea =
     some_ranks (Some v) P h = (v, h)
 
 module _ (names : List (List ℕ)) where
-  -- a node that has names has their ranks
+  -- a named node has the ranks of its names
   ranked_name : (a : NodeView) (v : Ranks) → IsRanked names a v → MatchOption (named_of a) (Unit {0}) (λ n. IsSomeAnd (named_ranks v) (IsNamedRanked names n))
   ranked_name (primitive k x) v h = tt
   ranked_name (array p x) v h = tt
@@ -92,7 +92,7 @@ module _ (names : List (List ℕ)) where
   symbols_ranked (rec n fs x) (Enum k t) h = absurd h
   symbols_ranked (rec n fs x) (Rec k t) h = no_ranks
 
--- the places that the fields of a node name
+-- the places of the types of a node's fields are below the number
 pub fields_named : (n : ℕ) (a : NodeView) → RefersBelow n a → All (λ f. f.place < n) (fields_of a)
 fields_named n (primitive k x) h = All-nil (λ (f : FieldView). f.place < n)
 fields_named n (array p x) h = All-nil (λ (f : FieldView). f.place < n)
@@ -105,7 +105,7 @@ fields_named n (rec k fs x) h = h
 -- ---- whether names match
 
 module _ (w r : List (List ℕ)) (matched : Bool) where
-  -- a test that is right for all names of these ranks
+  -- a test that decides a match for all names with these ranks
   abbrev pub Matches : NamedRanks → NamedRanks → Type 0
   Matches named wanted = (n m : NamedView) → IsNamedRanked w n named → IsNamedRanked r m wanted → IsTrue matched ↔ NameMatch n m
 

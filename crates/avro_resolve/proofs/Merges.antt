@@ -1,4 +1,4 @@
--- How a list in order is searched, and how it is walked beside another.
+-- Searching a sorted list, and walking it along with another one.
 use Rattle.std.proofs.Common.{◌≡◌, ℕ, ◌+◌, ◌<◌, ◌≤◌, List, get_or, length, refl, ap, inl, inr, ◌∙◌, arith}
 use Rattle.std.specs.Prelude.{Contains, IsTrue, Result, Ok, Err, ◌↔◌}
 use Rattle.std.specs.List.Sorted.{IsBinarySearchResult, IsStrictlyIncreasing}
@@ -15,7 +15,7 @@ rises xs rise i j l within = elim (cases_lt i j) [
   | inr g ↦ (let one : i ≡ j = omega arith in omega (arith, ap (λ (k : ℕ). get_or xs k 0) one))
 ]
 
--- a search tells whether the number stands in the list
+-- the binary search succeeds exactly if the number is in the list
 pub told_by_search : (xs : List ℕ) (n : ℕ) (r : Result ℕ ℕ) → IsStrictlyIncreasing xs → IsBinarySearchResult (λ y. nat_cmp y n) xs r → IsTrue (is_ok r) ↔ Contains xs n
 told_by_search xs n (Ok i) rise h = let at = searched xs n (Ok i) h (rises xs rise) in ((λ _. (i, at.0, get_or_default xs i n 0 at.0 ∙ at.1)), (λ _. refl))
 told_by_search xs n (Err i) rise h =
@@ -26,18 +26,18 @@ told_by_search xs n (Err i) rise h =
           elim (cases_lt k i) [ inl g ↦ (let low = gap.1 k g in absurd (omega arith)) | inr g ↦ (let high = gap.2 k (omega arith) l in absurd (omega arith)) ]),
     )
 
-module _ (list numbers : List ℕ) (i rank_map : ℕ) (before : (k m : ℕ) → k < i → rank_map ≤ m → m < length numbers → get_or list k 0 < get_or numbers m 0) where
-  -- a number that is below what stands next stands nowhere
-  pub not_there : IsStrictlyIncreasing list → rank_map < length numbers → (i < length list → get_or numbers rank_map 0 < get_or list i 0) → Contains list (get_or numbers rank_map 0) → ⊥
+module _ (list numbers : List ℕ) (i matched_count : ℕ) (before : (k m : ℕ) → k < i → matched_count ≤ m → m < length numbers → get_or list k 0 < get_or numbers m 0) where
+  -- a number that is less than the next element isn't in the list
+  pub not_there : IsStrictlyIncreasing list → matched_count < length numbers → (i < length list → get_or numbers matched_count 0 < get_or list i 0) → Contains list (get_or numbers matched_count 0) → ⊥
   not_there rise within below (k, l, e) =
-      let here : get_or list k 0 ≡ get_or numbers rank_map 0 = get_or_default list k 0 (get_or numbers rank_map 0) l ∙ e in
+      let here : get_or list k 0 ≡ get_or numbers matched_count 0 = get_or_default list k 0 (get_or numbers matched_count 0) l ∙ e in
       elim (cases_lt k i) [
-        | inl g ↦ (let a = before k rank_map g (omega arith) within in absurd (omega arith))
+        | inl g ↦ (let a = before k matched_count g (omega arith) within in absurd (omega arith))
         | inr g ↦ (let a = below (omega arith) in let b = rises list rise i k (omega arith) l in absurd (omega arith))
       ]
 
-  -- what is below the numbers from an index on is passed
-  pub passed : (next : ℕ) → rank_map ≤ next → ((m : ℕ) → next ≤ m → m < length numbers → get_or list i 0 < get_or numbers m 0) → (k m : ℕ) → k < i + 1 → next ≤ m → m < length numbers → get_or list k 0 < get_or numbers m 0
+  -- elements below all remaining numbers are passed
+  pub passed : (next : ℕ) → matched_count ≤ next → ((m : ℕ) → next ≤ m → m < length numbers → get_or list i 0 < get_or numbers m 0) → (k m : ℕ) → k < i + 1 → next ≤ m → m < length numbers → get_or list k 0 < get_or numbers m 0
   passed next on below k m l later lm = elim (cases_lt k i) [
     | inl g ↦ before k m g (omega arith) lm
     | inr g ↦ (

@@ -1,4 +1,4 @@
--- A larger set supports what a smaller one does.
+-- A larger set supports each pair that a smaller one supports.
 use Rattle.std.proofs.Common.{◌≡◌, ℕ, ◌<◌, List, [], ◌∷◌, Option, Some, None, Bool, true, false, cond, length, get_or, refl, subst}
 use Rattle.std.specs.Prelude.{All, Any, MatchOption, IsSome, find, slice_get, IsTrue, ◌↔◌}
 use Rattle.std.specs.Option.{option_or}
@@ -9,15 +9,15 @@ use Rattle.avro_nodes.specs.Nodes.{FieldView, NodeView, primitive, array, mappin
 use Rattle.avro_resolve.specs.Resolution.{Pairs, first_named, source, Fits, Supports}
 use Rattle.avro_resolve.specs.Inside.Places.{RefersBelow, AllReferences, IsSelfContained}
 
--- each pair of the one set is one of the other
+-- the first set is a subset of the second
 abbrev pub Within : Pairs → Pairs → Type 0
 Within R S = (i j : ℕ) → IsTrue (R i j) → IsTrue (S i j)
 
--- each pair of places below the two numbers
+-- the same for pairs of places below the two numbers
 abbrev pub WithinBelow : ℕ → ℕ → Pairs → Pairs → Type 0
 WithinBelow n m R S = (i j : ℕ) → i < n → j < m → IsTrue (R i j) → IsTrue (S i j)
 
--- ---- where sources lie
+-- ---- the places of sources
 
 found_step : (P : FieldView → Type 0) (g f : FieldView) (o : Option FieldView) (b : Bool) → P f → (o ≡ Some g → P g) → cond b (Some f) o ≡ Some g → P g
 found_step P g f o true here later e = let same : f ≡ g = cc in subst P same here
@@ -38,7 +38,7 @@ named_in P g (name ∷ names) fs h e = or_step P g (find (λ f. bytes_eq f.name 
 
 -- ---- one pair of nodes
 
--- each pair of places that have the two properties
+-- the same for pairs of places that have the two properties
 abbrev pub WithinAmong : (ℕ → Type 0) → (ℕ → Type 0) → Pairs → Pairs → Type 0
 WithinAmong P Q R S = (i j : ℕ) → P i → Q j → IsTrue (R i j) → IsTrue (S i j)
 
@@ -78,12 +78,12 @@ within_both R i j w r None y e f h = absurd h
 within_both R i j w r (Some a) None e f h = absurd h
 within_both R i j w r (Some a) (Some b) e f h = (slice_get_within w i a e, slice_get_within r j b f)
 
--- the places of a pair that is supported are nodes'
+-- the places of a supported pair are below the numbers of nodes
 pub supported_in : (w r : List NodeView) (R : Pairs) (i j : ℕ) → Supports w r R i j → (i < length w) × (j < length r)
 unfolding Supports
 supported_in w r R i j h = within_both R i j w r (slice_get w i) (slice_get r j) refl refl h
 
--- what holds of each node holds of the one at a place
+-- a property of each node is one of the node at a place
 pub at_place : (w : List NodeView) (P : NodeView → Type 0) (i : ℕ) (a : NodeView) → All P w → slice_get w i ≡ Some a → P a
 at_place w P i a h e = subst P (get_or_from_slice_get w i a a e) (h i a (slice_get_within w i a e))
 
@@ -98,7 +98,7 @@ pub supports_below : (w r : List NodeView) (R S : Pairs) → IsSelfContained w �
 unfolding Supports
 supports_below w r R S ww wr within i j h = both_more w r R S ww wr within i j (slice_get w i) (slice_get r j) refl refl h
 
--- ---- a set with each pair of another, wherever it lies
+-- ---- subsets, without a bound on places
 
 everywhere : (a : NodeView) → AllReferences (λ _. Unit {0}) a
 everywhere (primitive k x) = tt

@@ -1,4 +1,4 @@
--- Symbols that are numbered in the boxes of their ranks.
+-- Symbols that are numbered in the slots of their ranks.
 use Rattle.std.proofs.Common.{◌≡◌, ◌≢◌, ℕ, zero, suc, ◌+◌, ◌<◌, ◌≤◌, List, [], get_or, length, replicate, subst, sym, ap, ◌∙◌, inl, inr, arith, get_or-set_other, get_or-set_same}
 use Rattle.std.proofs.Math.ListN.{set}
 use Rattle.std.specs.List.Sorted.{IsStrictlyIncreasing}
@@ -11,18 +11,18 @@ use Rattle.avro_schema.specs.Index.{AreSortedRanks}
 use Rattle.avro_resolve.specs.Inside.Agreeing.{AreCleared, AreNumbered, AreSymbolsMapped}
 use Rattle.avro_resolve.proofs.ListLemmas.{same_place}
 
--- before the first
+-- before the first symbol is numbered
 pub none_numbered : (slots symbols : List ℕ) → AreCleared slots → AreNumbered slots symbols 0 0
 none_numbered slots symbols h = record { only = λ rank k e. absurd (h rank k e); each = λ k lo hi. absurd (omega arith) }
 
--- past the last
+-- after the last symbol is cleared
 pub all_blank : (slots symbols : List ℕ) (low high : ℕ) → high ≤ low → AreNumbered slots symbols low high → AreCleared slots
 all_blank slots symbols low high l h rank k e = (let at = h.only rank k e in let lo = at.0 in let hi = at.1 in omega arith)
 
 differ : (symbols : List ℕ) → IsStrictlyIncreasing symbols → (j k : ℕ) → j < k → k < length symbols → get_or symbols j 0 ≢ get_or symbols k 0
 differ symbols rise j k l m e = (let b = AllPairs-from_increasing symbols rise j k 0 l m in omega arith)
 
--- one more
+-- one more symbol is numbered
 pub number_more : (slots symbols : List ℕ) (n : ℕ) → IsStrictlyIncreasing symbols → n < length symbols → get_or symbols n 0 < length slots → AreNumbered slots symbols 0 n → AreNumbered (set slots (get_or symbols n 0) (n + 1)) symbols 0 (n + 1)
 number_more slots symbols n rise within room h =
     let s = get_or symbols n 0 in
@@ -43,7 +43,7 @@ number_more slots symbols n rise within room h =
       ];
     }
 
--- one less
+-- one more symbol is cleared
 pub number_less : (slots symbols : List ℕ) (n high : ℕ) → IsStrictlyIncreasing symbols → high ≤ length symbols → n < high → get_or symbols n 0 < length slots → AreNumbered slots symbols n high → AreNumbered (set slots (get_or symbols n 0) 0) symbols (n + 1) high
 number_less slots symbols n high rise ends within room h =
     let s = get_or symbols n 0 in
@@ -63,11 +63,11 @@ number_less slots symbols n high rise ends within room h =
       each = λ k lo hi. get_or-set_other slots s (get_or symbols k 0) 0 0 (λ f. differ symbols rise n k (omega arith) (omega arith) (sym f)) ∙ h.each k (omega arith) hi;
     }
 
--- the ranks of texts are those of names
+-- the ranks of texts are below the number of names
 pub rising_below : (names texts : List (List ℕ)) (ranks : List ℕ) → AreSortedRanks names texts ranks → All (λ rank. rank < length names) ranks
 rising_below names texts ranks h = λ k d l. let at = h.only k d l in slice_get_within names (get_or ranks k d) at.0 at.2
 
--- those that are listed of the ranks that are met
+-- the list of mapped ranks: strictly increasing, and each below the number of names
 pub listed_ranked : (names texts : List (List ℕ)) (o : Option (Vec ℕ Global)) (xs : List ℕ) → MatchOption o (xs ≡ []) (λ v. xs ≡ v.items) → AreSymbolsMapped names texts o → IsStrictlyIncreasing xs × All (λ rank. rank < length names) xs
 listed_ranked names texts None xs e h = (subst IsStrictlyIncreasing (sym e) (λ k l. absurd (omega arith)), subst (All (λ rank. rank < length names)) (sym e) (λ k d l. absurd (omega arith)))
 listed_ranked names texts (Some v) xs e h = (subst IsStrictlyIncreasing (sym e) h.rise, subst (All (λ rank. rank < length names)) (sym e) (rising_below names texts v.items h))

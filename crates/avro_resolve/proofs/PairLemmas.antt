@@ -1,4 +1,4 @@
--- The pairs of places below two numbers, and those of them that a set has.
+-- All pairs of places below two numbers, and the members of a set among them.
 use Rattle.std.proofs.Common.{◌≡◌, ℕ, zero, suc, ◌+◌, ◌*◌, ◌<◌, ◌≤◌, List, [], ◌∷◌, ◌++◌, Bool, true, false, cond, length, refl, sym, ap, subst, arith, true≢false, inl, inr, length-append}
 use Rattle.std.specs.Prelude.{All, IsTrue, filter, ◌==◌, ◌&&◌, ◌⊎◌}
 use Rattle.std.proofs.lemmas.Bool.{cases_lt}
@@ -10,7 +10,7 @@ use Rattle.avro_resolve.specs.Witnesses.{Pair, member}
 use Rattle.avro_resolve.specs.Verdicts.{row_below, pairs_below}
 use Rattle.avro_resolve.proofs.PairLists.{test_same, member_head, member_tail, member_cases, member_front}
 
--- the pairs of a list that a set has
+-- the pairs of a list that are in a set
 abbrev pub those : Pairs → List Pair → List Pair
 those R ps = filter (λ p. R p.0 p.1) ps
 
@@ -56,7 +56,7 @@ length-pairs_below (suc n) m =
 
 -- ---- a set's pairs
 
--- what holds of each element holds of each pair that the list has
+-- a property of each element is one of each member
 pub each_pair : (Q : Pairs) (ps : List Pair) → All (λ p. IsTrue (Q p.0 p.1)) ps → (i j : ℕ) → member ps i j ≡ true → Q i j ≡ true
 unfolding member
 each_pair Q ps h i j m =
@@ -84,7 +84,7 @@ in_those R (p ∷ ps) i j e h = elim (member_cases p ps i j h) [
     later true g = member_tail p (those R ps) i j g
     later false g = g
 
--- those of all pairs, as a list and as a set
+-- the members of a set among all pairs, as a list and as a set
 
 pub few_those : (R : Pairs) (n m : ℕ) → length (those R (pairs_below n m)) ≤ n * m
 few_those R n m =

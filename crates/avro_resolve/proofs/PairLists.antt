@@ -86,7 +86,7 @@ unfolding RefutesAfter
 refutes_push w r before [] i j h never = ((λ s. never (subst (λ (x : List Pair). Supports w r (without x) i j) (sym (append-nil before)) s)), tt)
 refutes_push w r before (p ∷ ps) i j h never = (h.0, refutes_push w r (before ++ p ∷ []) ps i j h.1 (subst (λ (x : List Pair). Supports w r (without x) i j → ⊥) (sym (append_assoc before (p ∷ []) ps)) never))
 
--- no closed set has a pair of a list that refutes
+-- no closed set has a pair of a refuting list
 never_in : (w r : List NodeView) (R : Pairs) → Closed w r R → (before ps : List Pair) → Within R (without before) → RefutesAfter w r before ps → Within R (without (before ++ ps))
 unfolding RefutesAfter
 never_in w r R closed before [] within h = subst (λ (x : List Pair). Within R (without x)) (sym (append-nil before)) within

@@ -1,4 +1,4 @@
--- A pair that was struck out is told to each pair that asks for it.
+-- An eliminated pair is propagated to each pair that depends on it.
 use Rattle.std.proofs.Common.{◌≡◌, ℕ, zero, suc, ◌+◌, ◌<◌, List, [], ◌∷◌, ◌++◌, Option, Some, None, Bool, true, false, cond, length, get_or, refl, sym, ap, append-nil, append_assoc, subst, ◌∙◌, arith, inl, inr}
 use Rattle.std.specs.Prelude.{◌⊎◌, All, Any, Contains, IsSome, IsTrue, MatchOption, find, option_and_then, option_map, slice_get, Vec}
 use Rattle.std.specs.List.{AllZip}
@@ -59,7 +59,7 @@ both (inl p) (inl q) = inl (p, q)
 both (inl p) (inr n) = inr (λ h. n h.1)
 both (inr n) y = inr (λ h. n h.0)
 
--- ---- what a pair doesn't ask for, it ignores
+-- ---- a pair ignores each pair that it doesn't depend on
 
 module _ (R S : Pairs) (i j p q : ℕ) (within : WithinBut p q R S) where
   match_unasked : (fields : List FieldView) (f : FieldView) (o : Option FieldView) → source fields f ≡ o → (source_place fields f ≡ Some p → f.place ≡ q → ⊥)
@@ -123,9 +123,9 @@ unfolding first_named
 name_found g [] fs e = absurd cc
 name_found g (name ∷ names) fs e = name_step g name names fs (find (λ f. bytes_eq f.name name) fs) (first_named names fs) refl (name_found g names fs) e
 
--- ---- what asks for a pair is listed
+-- ---- each dependent of a pair is listed
 
--- what is told for a writer's place and a number
+-- the source code of a writer's place and an aliased field
 pub entry_told : (w r : List NodeView) (aliased : List Aliased) (sources : List (Vec ℕ Global)) → AreSources w r aliased sources → (i number : ℕ) (a : NodeView) (field : Aliased) → slice_get w i ≡ Some a → slice_get aliased number ≡ Some field
     → IsSourceCode r (fields_of a) field (code_at sources i number)
 entry_told w r aliased sources are i number a field ea ef =
@@ -146,7 +146,7 @@ module _ (sources : List (Vec ℕ Global)) (p : ℕ) where
       by ByName (ByAlias number) = same_place (code_at sources x.referrer number) (p + 1)
       by _ _ = inr (λ h. h)
 
-  -- links of the two places have one label, by which the reader's may ask
+  -- links of the two places have the same label and can be matched
   abbrev Beside : ℕ → Link → Link → Type 0
   Beside j x y = (y.referrer ≡ j) × ((x.label ≡ y.label) × MayDepend sources p x y)
 
@@ -162,7 +162,7 @@ module _ (sources : List (Vec ℕ Global)) (p : ℕ) where
   meet : (xs ys : List Link) (i j : ℕ) → Meet xs ys i j ⊎ (Meet xs ys i j → ⊥)
   meet xs ys i j = elim (search_list (Above ys i j) (λ x. both (same_place x.referrer i) (is_beside ys j x)) xs) [ inl h ↦ inl h | inr n ↦ inr (λ h. n h.0 h.1 h.2) ]
 
--- the pairs that may ask for this one are settled without it
+-- the pairs that may depend on this one are supported without it
 pub record IsSeen (sides : Sides) (writer_links reader_links : Links) (sources : List (Vec ℕ Global)) (p q : ℕ) (v : Table) (qs : List Pair) : Type 0 where
   pub down : All (λ x. StillSupported (rows sides) (columns sides) v qs x q) (list_at writer_links.unions.items p)
   pub along : IsNoUnion (rows sides) p → All (StillSupported (rows sides) (columns sides) v qs p) (list_at reader_links.unions.items q)
@@ -177,7 +177,7 @@ union_or (enumeration n s f x) = inr (λ bs e. absurd cc)
 union_or (fixed n s x) = inr (λ bs e. absurd cc)
 union_or (rec n fs x) = inr (λ bs e. absurd cc)
 
-module _ (sides : Sides) (is : IsSides sides) (writer_links reader_links : Links) (sources : List (Vec ℕ Global)) (askers : AreReferrers sides writer_links reader_links sources) (i j p q : ℕ) where
+module _ (sides : Sides) (is : IsSides sides) (writer_links reader_links : Links) (sources : List (Vec ℕ Global)) (are_referrers : AreReferrers sides writer_links reader_links sources) (i j p q : ℕ) where
   abbrev Listed : Type 0
   Listed = ((j ≡ q) × IsListedAt writer_links.unions.items i p) ⊎ (((i ≡ p) × IsListedAt reader_links.unions.items j q) ⊎ Meet sources p (list_at writer_links.lists.items p) (list_at reader_links.lists.items q) i j)
 
@@ -191,7 +191,7 @@ module _ (sides : Sides) (is : IsSides sides) (writer_links reader_links : Links
   contained x y g h e = joined x y (HasLabel 0 ByElement) (HasLabel 0 ByElement) (λ l m la a b. (a.0 ∙ sym b.0, together l m ByElement ByElement a.1 b.1 tt)) g h (sym e.0) (sym e.1)
 
   of_branch : (bs : List ℕ) → slice_get (columns sides) j ≡ Some (union bs) → (p ≡ i) × Contains bs q → Listed
-  of_branch bs e h = inr (inl (sym h.0, All-contains (IsListedAt reader_links.unions.items j) bs q (askers.reader.unions.named j (union bs) e) h.1))
+  of_branch bs e h = inr (inl (sym h.0, All-contains (IsListedAt reader_links.unions.items j) bs q (are_referrers.reader.unions.named j (union bs) e) h.1))
 
   module _ (a b : NodeView) (ea : slice_get (rows sides) i ≡ Some a) (eb : slice_get (columns sides) j ≡ Some b) where
     -- a link of one of the aliases by which the field is read
@@ -202,7 +202,7 @@ module _ (sides : Sides) (is : IsSides sides) (writer_links reader_links : Links
     of_alias index f ef s l la (ByAlias number) of =
         let field : Aliased = record { place = j; index = index } in
         let at : field_at (columns sides) field ≡ Some f = ap (option_and_then (λ (c : NodeView). slice_get (fields_of c) index)) eb ∙ ef in
-        let told : code_at sources i number ≡ source_code (source_place (fields_of a) f) = entry_told (rows sides) (columns sides) reader_links.aliased.items sources askers.sources i number a field ea of f at in
+        let told : code_at sources i number ≡ source_code (source_place (fields_of a) f) = entry_told (rows sides) (columns sides) reader_links.aliased.items sources are_referrers.sources i number a field ea of f at in
         ap (λ (x : ℕ). code_at sources x number) la ∙ told ∙ ap source_code s
 
     of_field : (index : ℕ) (f : FieldView) → slice_get (fields_of b) index ≡ Some f → (o : Option FieldView) → source (fields_of a) f ≡ o → option_map (λ (g : FieldView). g.place) o ≡ Some p → f.place ≡ q
@@ -219,22 +219,22 @@ module _ (sides : Sides) (is : IsSides sides) (writer_links reader_links : Links
   of_fields : (k l : NamedView) (fs gs : List FieldView) (x y : Members) → slice_get (rows sides) i ≡ Some (rec k fs x) → slice_get (columns sides) j ≡ Some (rec l gs y) → Any (λ f. (source_place fs f ≡ Some p) × (f.place ≡ q)) gs → Listed
   of_fields k l fs gs x y ea eb (index, f, within, ef, (s, at)) =
       let w = names_of sides.writer in let r = names_of sides.reader in let rank_map = sides.rank_map.ranks.items in
-      let mine = askers.writer.links.named i (rec k fs x) ea in let theirs = askers.reader.links.named j (rec l gs y) eb in
+      let mine = are_referrers.writer.links.named i (rec k fs x) ea in let theirs = are_referrers.reader.links.named j (rec l gs y) eb in
       let got : slice_get gs index ≡ Some f = slice_get-get_or gs index f within ∙ ap (λ (z : FieldView). Some z) ef in
       of_field (rec k fs x) (rec l gs y) ea eb index f got (source fs f) refl s at
       (met_by w r rank_map (ranks_decide_names w r rank_map is.rank_map is.reader.index.names.rise) writer_links i fs mine.0 mine.1.ranked mine.1.fields)
       (sought_by r reader_links j gs theirs.0 theirs.1.ranked theirs.1.fields index f got)
 
   listed : (a b : NodeView) → slice_get (rows sides) i ≡ Some a → slice_get (columns sides) j ≡ Some b → AsksFor i j a b p q → Listed
-  listed (union bs) b ea eb h = inl (sym h.1, All-contains (IsListedAt writer_links.unions.items i) bs p (askers.writer.unions.named i (union bs) ea) h.0)
+  listed (union bs) b ea eb h = inl (sym h.1, All-contains (IsListedAt writer_links.unions.items i) bs p (are_referrers.writer.unions.named i (union bs) ea) h.0)
   listed (primitive k x) (union bs) ea eb h = of_branch bs eb h
   listed (array k x) (union bs) ea eb h = of_branch bs eb h
   listed (mapping k x) (union bs) ea eb h = of_branch bs eb h
   listed (enumeration k s f x) (union bs) ea eb h = of_branch bs eb h
   listed (fixed k s x) (union bs) ea eb h = of_branch bs eb h
   listed (rec k fs x) (union bs) ea eb h = of_branch bs eb h
-  listed (array x e) (array y f) ea eb h = contained x y ((askers.writer.links.named i (array x e) ea).1.contained x refl) ((askers.reader.links.named j (array y f) eb).1.contained y refl) h
-  listed (mapping x e) (mapping y f) ea eb h = contained x y ((askers.writer.links.named i (mapping x e) ea).1.contained x refl) ((askers.reader.links.named j (mapping y f) eb).1.contained y refl) h
+  listed (array x e) (array y f) ea eb h = contained x y ((are_referrers.writer.links.named i (array x e) ea).1.contained x refl) ((are_referrers.reader.links.named j (array y f) eb).1.contained y refl) h
+  listed (mapping x e) (mapping y f) ea eb h = contained x y ((are_referrers.writer.links.named i (mapping x e) ea).1.contained x refl) ((are_referrers.reader.links.named j (mapping y f) eb).1.contained y refl) h
   listed (rec k fs e) (rec l gs f) ea eb h = of_fields k l fs gs e f ea eb h
   listed _ _ ea eb h = absurd h
 
@@ -246,7 +246,7 @@ module _ (sides : Sides) (is : IsSides sides) (writer_links reader_links : Links
   is_listed : Listed ⊎ (Listed → ⊥)
   is_listed = either (both (same_place j q) (stands (list_at writer_links.unions.items p) i)) (either (both (same_place i p) (stands (list_at reader_links.unions.items q) j)) (meet sources p (list_at writer_links.lists.items p) (list_at reader_links.lists.items q) i j))
 
-  -- the pairs of what is listed are settled
+  -- the pairs of listed dependents are supported
   abbrev Seen : Table → List Pair → Type 0
   Seen v qs = IsSeen sides writer_links reader_links sources p q v qs
 
@@ -275,8 +275,8 @@ module _ (sides : Sides) (is : IsSides sides) (writer_links reader_links : Links
         | inr n ↦ settled_ignoring w r v qs i j p q (unasked w r i j p q a b ea eb (λ h. n (listed a b ea eb h))) before
       ]
 
--- once all that asks for the pairs of a run was looked at, all pairs are settled without them
-module _ (sides : Sides) (is : IsSides sides) (writer_links reader_links : Links) (sources : List (Vec ℕ Global)) (askers : AreReferrers sides writer_links reader_links sources) (v : Table) where
+-- once all dependents of a run's pairs were examined, all pairs are supported without the run
+module _ (sides : Sides) (is : IsSides sides) (writer_links reader_links : Links) (sources : List (Vec ℕ Global)) (are_referrers : AreReferrers sides writer_links reader_links sources) (v : Table) where
   seen_onto : (p q : ℕ) (qs more : List Pair) → IsSeen sides writer_links reader_links sources p q v qs → IsSeen sides writer_links reader_links sources p q v (qs ++ more)
   seen_onto p q qs more h =
       let w = rows sides in let r = columns sides in
@@ -293,4 +293,4 @@ module _ (sides : Sides) (is : IsSides sides) (writer_links reader_links : Links
       let w = rows sides in let r = columns sides in let first = are 0 x (omega arith) in
       let rest : AllStillSupported w r v (qs ++ x ∷ []) = told p (qs ++ x ∷ []) run (λ k d l. are (suc k) d (omega arith)) (subst (AllStillSupported w r v) (sym (append_assoc qs (x ∷ []) run)) before)
       (λ k d l. seen_onto p (get_or run k d).1 qs (x ∷ []) (seen (suc k) d (omega arith))) in
-      told_one sides is writer_links reader_links sources askers i j p x.1 v qs li lj (subst (λ (z : ℕ). remains v z x.1 ≡ false) first.0 first.1) (subst (λ (z : ℕ). StillSupported w r v (qs ++ (z, x.1) ∷ []) i j) first.0 (rest i j li lj)) (seen 0 x (omega arith))
+      told_one sides is writer_links reader_links sources are_referrers i j p x.1 v qs li lj (subst (λ (z : ℕ). remains v z x.1 ≡ false) first.0 first.1) (subst (λ (z : ℕ). StillSupported w r v (qs ++ (z, x.1) ∷ []) i j) first.0 (rest i j li lj)) (seen 0 x (omega arith))

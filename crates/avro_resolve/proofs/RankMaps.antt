@@ -1,4 +1,4 @@
--- Two lists of names met, and what their ranks tell.
+-- Two sorted lists of names are merged into a map of ranks, which decides whether names are equal.
 use Rattle.std.proofs.Common.{◌≡◌, ℕ, zero, suc, ◌+◌, ◌<◌, ◌≤◌, List, [], ◌∷◌, ◌++◌, length, take, get_or, Some, true, refl, sym, ap, ◌∙◌, subst, inl, inr, true≢false, arith}
 use Rattle.std.specs.Prelude.{All, Any, Contains, Option, None, MatchOption, String, slice_get, string_bytes, nat_eq, ◌↔◌}
 use Rattle.std.specs.Option.{IsSomeAnd, option_eq}
@@ -11,18 +11,18 @@ use Rattle.std.proofs.lemmas.Cmp.{nat_list_cmp_total}
 use Rattle.std.proofs.lemmas.List.{get_or_default, get_or-map, length-map, take_more}
 use Rattle.std.proofs.lemmas.List.Elements.{All-contains, Contains-get_or}
 use Rattle.std.proofs.lemmas.Option.{same_Some, slice_get-get_or, slice_get_within, get_or_from_slice_get}
-use Rattle.std.proofs.lemmas.Slice.Zip.{all_zipped_more, AllZip-remains}
+use Rattle.std.proofs.lemmas.Slice.Zip.{all_zipped_more, AllZip-left}
 use Rattle.avro_schema.specs.Index.{AreStrictlySorted, IsRank, AreSortedRanks}
 use Rattle.avro_schema.proofs.Rising.{order, level, less_not_equal}
 use Rattle.avro_resolve.specs.Inside.RankMaps.{MapsName, AreMapped, AreMappedRanks, RanksDecideNames, mapped_rank}
 
--- ---- the walk over both
+-- ---- the merge
 
 -- the name of a rank
 pub name_at : (names : List (String Global)) (k : ℕ) (x : String Global) (text : List ℕ) → k < length names → x ≡ get_or names k x → text ≡ string_bytes x → slice_get (texts_view names) k ≡ Some text
 name_at names k x text l is e = view_got string_bytes names k x (slice_get-get_or names k x l ∙ ap (λ (y : String Global). Some y) (sym is)) ∙ ap (λ (y : List ℕ). Some y) (sym e)
 
--- what stands before a rank is below each writer's name from an index on
+-- each reader's name before the rank is less than each writer's name from the index on
 abbrev pub Passed : List (List ℕ) → List (List ℕ) → ℕ → ℕ → Type 0
 Passed w r from i = (k m : ℕ) → k < from → i ≤ m → m < length w → order (get_or r k []) (get_or w m []) ≡ Less
 
@@ -41,7 +41,7 @@ module _ (w r : List (List ℕ)) (i from at : ℕ) (name : List ℕ) (within : i
   passed rise k m l later lm =
       nat_list_cmp_total.trans (get_or r k []) name (get_or w m []) (lower k l) (subst (λ (x : List ℕ). order x (get_or w m []) ≡ Less) named (rise i m [] (omega arith) lm))
 
-  -- a name that isn't at the rank is nowhere
+  -- a name that isn't at this rank isn't in the list
   nowhere : AreStrictlySorted r → (at < length r → order (get_or r at []) name ≡ Less → ⊥) → (slice_get r at ≡ Some name → ⊥) → Contains r name → ⊥
   nowhere rise least other (k, l, e) =
       let here : get_or r k [] ≡ name = get_or_default r k [] name l ∙ e in
@@ -62,9 +62,9 @@ module _ (w r : List (List ℕ)) (i from at : ℕ) (name : List ℕ) (within : i
   met_more rise least o told rank_map h =
       subst (λ (xs : List (List ℕ)). AreMapped xs r (rank_map ++ o ∷ [])) (sym (take_more w i [] within ∙ ap (λ (x : List ℕ). take i w ++ x ∷ []) named)) (all_zipped_more (MapsName r) (take i w) rank_map name o h (meets rise least o told))
 
--- ---- what ranks tell
+-- ---- comparing names by rank
 
--- a rank that is met compares as it is
+-- comparing a mapped rank with a rank decides whether they are equal
 pub met_same : (rank_map : Option ℕ) (rank : ℕ) → option_eq nat_eq rank_map (Some rank) ≡ true → rank_map ≡ Some rank
 met_same None rank e = absurd (true≢false (sym e))
 met_same (Some other) rank e = ap (λ (k : ℕ). Some k) (eqb-true other rank e)
@@ -85,7 +85,7 @@ one_rank r b c x rise eb ec =
       ]
     ]
 
--- what is met is one of the reader's ranks
+-- a mapped rank is one of the reader's ranks
 pub met_below : (w r : List (List ℕ)) (rank_map : List (Option ℕ)) → AreMapped w r rank_map → (a b : ℕ) → mapped_rank rank_map a ≡ Some b → b < length r
 met_below [] r [] h a b e = absurd cc
 met_below [] r (o ∷ os) h a b e = absurd h
@@ -100,7 +100,7 @@ some_at (Some v) P m e h = subst P (sym (e v refl)) h
 module _ (w r : List (List ℕ)) (rank_map : List (Option ℕ)) (are : AreMapped w r rank_map) where
   pub meets_at : (a : ℕ) (x : List ℕ) → slice_get w a ≡ Some x → MapsName r x (mapped_rank rank_map a)
   meets_at a x ea =
-      let at : IsSomeAnd (slice_get rank_map a) (MapsName r x) = subst (λ (o : Option (List ℕ)). MatchOption o (Unit {0}) (λ z. IsSomeAnd (slice_get rank_map a) (MapsName r z))) ea (AllZip-remains (MapsName r) w rank_map are a) in
+      let at : IsSomeAnd (slice_get rank_map a) (MapsName r x) = subst (λ (o : Option (List ℕ)). MatchOption o (Unit {0}) (λ z. IsSomeAnd (slice_get rank_map a) (MapsName r z))) ea (AllZip-left (MapsName r) w rank_map are a) in
       some_at (slice_get rank_map a) (MapsName r x) (mapped_rank rank_map a) (λ v e. get_or_from_slice_get rank_map a v None e) at
 
   there : (a b : ℕ) (x : List ℕ) → slice_get w a ≡ Some x → mapped_rank rank_map a ≡ Some b → slice_get r b ≡ Some x
@@ -116,7 +116,7 @@ module _ (w r : List (List ℕ)) (rank_map : List (Option ℕ)) (are : AreMapped
     (λ e. met_here rise b x (mapped_rank rank_map a) (meets_at a x ea) (subst (λ (z : List ℕ). slice_get r b ≡ Some z) (sym e) eb)),
   )
 
-  -- of two ranks the smaller meets the smaller
+  -- the rank map is increasing
   in_order : AreStrictlySorted w → AreStrictlySorted r → (a c b d : ℕ) (x y : List ℕ) → slice_get w a ≡ Some x → slice_get w c ≡ Some y → a < c → mapped_rank rank_map a ≡ Some b → mapped_rank rank_map c ≡ Some d → b < d
   in_order rise_w rise_r a c b d x y ea ec l eb ed =
       let xb = there a b x ea eb in let yd = there c d y ec ed in
@@ -137,10 +137,10 @@ module _ (w r : List (List ℕ)) (rank_map : List (Option ℕ)) (are : AreMapped
         ]
       ]
 
-  -- ---- ranks met
+  -- ---- mapped ranks
 
   module _ (symbols : List (List ℕ)) (ranks : List ℕ) (ranked : AreSortedRanks w symbols ranks) where
-    -- a rank that meets none is of a symbol that isn't there
+    -- if a rank isn't mapped, the reader lacks its symbol
     pub not_met : Any (λ rank. mapped_rank rank_map rank ≡ None) ranks → All (Contains r) symbols → ⊥
     not_met (k, rank, l, e, none) all =
         let own = ranked.only k rank l in
@@ -157,7 +157,7 @@ module _ (w r : List (List ℕ)) (rank_map : List (Option ℕ)) (are : AreMapped
           let within : k < length found = omega (arith, long) in
           sym (get_or-map (λ rank. mapped_rank rank_map rank) ranks k 0 None l) ∙ ap (λ os. get_or os k None) (sym is) ∙ get_or-map (λ rank. Some rank) found k 0 None within
 
-      -- the text of the rank at an index, and that it is among the reader's names where it meets
+      -- the symbol of the rank at an index; it has the same text as the reader's name at the mapped rank
       own : (k : ℕ) → k < length ranks → (text : List ℕ) × Contains symbols text × (slice_get w (get_or ranks k 0) ≡ Some text) × (slice_get r (get_or found k 0) ≡ Some text)
       own k l = let o = ranked.only k 0 l in (o.0, o.1, o.2, there (get_or ranks k 0) (get_or found k 0) o.0 o.2 (found_at k l))
 
@@ -181,7 +181,7 @@ module _ (w r : List (List ℕ)) (rank_map : List (Option ℕ)) (are : AreMapped
             (o.0, o.1, ap (slice_get r) (get_or_default found k d 0 l) ∙ o.3));
       }
 
--- ---- what the ranks of two lists of texts say of them
+-- ---- the ranks of two lists of texts
 
 module _ (r symbols known : List (List ℕ)) (others : List ℕ) (b : AreSortedRanks r known others) where
   module _ (numbers : List ℕ) (rise : AreStrictlySorted r) (a : AreSortedRanks r symbols numbers) where
@@ -200,7 +200,7 @@ module _ (r symbols known : List (List ℕ)) (others : List ℕ) (b : AreSortedR
     pub ranks_decide : All (Contains others) numbers ↔ All (Contains known) symbols
     ranks_decide = (known_if, ranks_if)
 
-  -- what has a name that isn't among these isn't known
+  -- if the reader lacks one of the symbols, they aren't all known
   pub none_known : (All (Contains r) symbols → ⊥) → All (Contains known) symbols → ⊥
   none_known missing h = missing (λ k d l.
       let text = get_or symbols k d in

@@ -1,4 +1,4 @@
--- All pairs of places hold what is asked.
+-- The list of all pairs of places contains all dependencies of its pairs.
 use Rattle.std.proofs.Common.{◌≡◌, ℕ, ◌*◌, ◌^◌, ◌<◌, ◌≤◌, List, ◌∷◌, Option, Some, None, length, refl, sym, ap, subst, ◌∙◌, arith, mul-le-mul_left, mul-le-mul_right}
 use Rattle.std.specs.Prelude.{All, Any, Contains, MatchOption, slice_get, option_map}
 use Rattle.std.proofs.lemmas.Option.{slice_get_within}
@@ -7,7 +7,7 @@ use Rattle.avro_resolve.specs.Resolution.{source}
 use Rattle.avro_resolve.specs.Inside.Places.{RefersBelow, IsSelfContained}
 use Rattle.avro_resolve.specs.Verdicts.{pairs_below}
 use Rattle.avro_resolve.specs.Asking.{source_place, AsksFor, Asks, ContainsAsked}
-use Rattle.avro_resolve.specs.Inside.IsReachable.{IsSmall}
+use Rattle.avro_resolve.specs.Inside.Reachable.{IsSmall}
 use Rattle.avro_resolve.proofs.Monotone.{named_in, at_place}
 use Rattle.avro_resolve.proofs.PairLemmas.{in_pairs, length-pairs_below}
 
@@ -15,7 +15,7 @@ find_source : (n p : ℕ) (fields : List FieldView) (f : FieldView) (o : Option 
 find_source n p fields f None e s h = absurd cc
 find_source n p fields f (Some g) e s h = let same : g.place ≡ p = cc in subst (λ (x : ℕ). x < n) same (named_in (λ g. g.place < n) g (f.name ∷ f.aliases) fields h e)
 
--- a source's place is one that the fields name
+-- the place of a source is that of a field's type
 pub source_within : (n p : ℕ) (fields : List FieldView) (f : FieldView) → source_place fields f ≡ Some p → All (λ g. g.place < n) fields → p < n
 source_within n p fields f e h = find_source n p fields f (source fields f) refl e h
 

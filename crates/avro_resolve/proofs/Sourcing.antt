@@ -1,4 +1,4 @@
--- The source of a reader's field, as the ranks of names tell it.
+-- The source of a reader's field, found by name rank.
 use Rattle.std.proofs.Common.{◌≡◌, ℕ, zero, suc, ◌+◌, ◌<◌, List, [], ◌∷◌, ◌++◌, length, map, take, get_or, Bool, true, false, Some, refl, sym, ap, ◌∙◌, subst, inl, inr, arith}
 use Rattle.std.specs.Prelude.{All, IfSome, MatchOption, Option, None, find, option_and_then, option_map, slice_get}
 use Rattle.std.specs.Option.{IsSomeAnd, option_or}
@@ -7,7 +7,7 @@ use Rattle.std.proofs.lemmas.List.{map-append, take_more}
 use Rattle.std.proofs.lemmas.List.Elements.{All-cons, All-nil}
 use Rattle.std.proofs.lemmas.Option.{get_or_from_slice_get, same_Some, slice_get-get_or, slice_get-map, slice_get_within}
 use Rattle.std.proofs.lemmas.Slice.Eq.{bytes_eq-Decides}
-use Rattle.std.proofs.lemmas.Slice.Zip.{AllZip-remains, AllZip-right}
+use Rattle.std.proofs.lemmas.Slice.Zip.{AllZip-left, AllZip-right}
 use Rattle.avro_nodes.specs.declared.node.Field.{Field}
 use Rattle.avro_nodes.specs.Nodes.{FieldView, NodeView, field_view}
 use Rattle.avro_schema.specs.declared.index.FieldRanks.{FieldRanks}
@@ -23,7 +23,7 @@ use Rattle.avro_resolve.specs.Inside.Sides.{columns, names_of}
 use Rattle.avro_resolve.specs.Inside.Sources.{field_at as wanted_at}
 use Rattle.avro_resolve.proofs.ViewLemmas.{view_got}
 
--- ---- the first that passes a test
+-- ---- the first element that passes a test
 
 not_true : (b : Bool) → (b ≡ true → ⊥) → b ≡ false
 not_true true h = absurd (h refl)
@@ -39,7 +39,7 @@ module _ {X : Type 0} (p : X → Bool) where
   found_nowhere [] h = refl
   found_nowhere (y ∷ ys) h = (let not : p y ≡ false = h 0 y refl in rw not (found_nowhere ys (λ j z. h (suc j) z)))
 
--- ---- fields by the ranks of their names
+-- ---- fields by name rank
 
 and_some : {A : Type 0} (R : A → Type 0) (o : Option A) → IsSomeAnd o R → (x : A) × (o ≡ Some x) × R x
 and_some R None h = absurd h
@@ -50,7 +50,7 @@ of_name None a e = absurd cc
 of_name (Some x) a e = (x, refl, same_Some x.name a e)
 
 module _ (w r : List (List ℕ)) (rank_map : List (Option ℕ)) (ranks_decide_names : RanksDecideNames w r rank_map) (fields : List FieldView) (ranks : List FieldRanks) (ranked : AreFieldsRanked w fields ranks) where
-  -- the field that has a rank
+  -- the field whose name has a rank
   field_of : (k a : ℕ) → slice_get (names_in ranks) k ≡ Some a → (g : FieldView) × (slice_get fields k ≡ Some g) × (slice_get w a ≡ Some g.name)
   field_of k a e =
       let x = of_name (slice_get ranks k) a (sym (slice_get-map (λ f. f.name) ranks k) ∙ e) in
@@ -63,12 +63,12 @@ module _ (w r : List (List ℕ)) (rank_map : List (Option ℕ)) (ranks_decide_na
   rank_of : (k : ℕ) (g : FieldView) → slice_get fields k ≡ Some g → (a : ℕ) × (slice_get (names_in ranks) k ≡ Some a) × (slice_get w a ≡ Some g.name)
   rank_of k g e =
       let at : IsSomeAnd (slice_get ranks k) (IsFieldRanked w g) =
-      subst (λ (o : Option FieldView). MatchOption o (Unit {0}) (λ x. IsSomeAnd (slice_get ranks k) (IsFieldRanked w x))) e (AllZip-remains (IsFieldRanked w) fields ranks ranked k) in
+      subst (λ (o : Option FieldView). MatchOption o (Unit {0}) (λ x. IsSomeAnd (slice_get ranks k) (IsFieldRanked w x))) e (AllZip-left (IsFieldRanked w) fields ranks ranked k) in
       let x = and_some (IsFieldRanked w g) (slice_get ranks k) at in
       (x.0.name, slice_get-map (λ f. f.name) ranks k ∙ ap (option_map (λ f. f.name)) x.1, x.2.name)
 
   module _ (name : List ℕ) (rank : ℕ) (er : slice_get r rank ≡ Some name) where
-    -- a field of the name has its rank
+    -- a field with the name has the name's rank
     has_rank : (j : ℕ) (y : FieldView) → slice_get fields j ≡ Some y → bytes_eq y.name name ≡ true → HasName rank_map (names_in ranks) j rank
     has_rank j y e h = let a = rank_of j y e in (a.0, a.1, (ranks_decide_names a.0 rank y.name name a.2 er).1 ((bytes_eq-Decides y.name name).0 h))
 
@@ -82,7 +82,7 @@ module _ (w r : List (List ℕ)) (rank_map : List (Option ℕ)) (ranks_decide_na
     none_found : NoField rank_map (names_in ranks) rank → find (λ f. bytes_eq f.name name) fields ≡ None
     none_found none = found_nowhere (λ f. bytes_eq f.name name) fields (λ j y e. not_true (bytes_eq y.name name) (λ h. none j (has_rank j y e h)))
 
-  -- the field at the index that was found
+  -- the field at the index, if any
   abbrev pub field_at : Option ℕ → Option FieldView
   field_at o = option_and_then (λ k. slice_get fields k) o
 
@@ -109,7 +109,7 @@ module _ (w r : List (List ℕ)) (rank_map : List (Option ℕ)) (ranks_decide_na
       ap2cons : IsFieldRanked r f names → AreRanks r (f.name ∷ f.aliases) (names.name ∷ names.aliases.items)
       ap2cons k = let a = k.name in let b = k.aliases in cc
 
--- ---- fields and ranks of the code
+-- ---- fields and ranks as the code has them
 
 pub names_at : (fields : List FieldRanks) (k : ℕ) (f : FieldRanks) → k < length fields → f ≡ get_or fields k f → slice_get (names_in fields) k ≡ Some f.name
 names_at fields k f l e = slice_get-map (λ x. x.name) fields k ∙ ap (option_map (λ x. x.name)) (slice_get-get_or fields k f l ∙ ap (λ x. Some x) (sym e))
@@ -126,7 +126,7 @@ nth [] i l = absurd (omega arith)
 nth (x ∷ xs) zero l = (x, refl)
 nth (x ∷ xs) (suc i) l = nth xs i (omega arith)
 
--- one more of a list that is made item by item
+-- one more element of a list that is built element by element
 pub mapped_more : {X B : Type 0} (h : X → B) (xs : List X) (i : ℕ) (x : X) (ys : List B) (y : B) → slice_get xs i ≡ Some x → ys ≡ map h (take i xs) → y ≡ h x → ys ++ y ∷ [] ≡ map h (take (i + 1) xs)
 mapped_more h xs i x ys y e so_far now =
     let l : i < length xs = slice_get_within xs i x e in
@@ -137,11 +137,11 @@ module _ (names : List (List ℕ)) where
   pub ranked_field : (fields : List FieldView) (ranks : List FieldRanks) (k : ℕ) (g : FieldView) (x : FieldRanks) → AreFieldsRanked names fields ranks → slice_get fields k ≡ Some g → slice_get ranks k ≡ Some x → IsFieldRanked names g x
   ranked_field fields ranks k g x ranked eg ex =
       let at : IsSomeAnd (slice_get ranks k) (IsFieldRanked names g) =
-      subst (λ (o : Option FieldView). MatchOption o (Unit {0}) (λ y. IsSomeAnd (slice_get ranks k) (IsFieldRanked names y))) eg (AllZip-remains (IsFieldRanked names) fields ranks ranked k) in
+      subst (λ (o : Option FieldView). MatchOption o (Unit {0}) (λ y. IsSomeAnd (slice_get ranks k) (IsFieldRanked names y))) eg (AllZip-left (IsFieldRanked names) fields ranks ranked k) in
       let own = and_some (IsFieldRanked names g) (slice_get ranks k) at in
       subst (IsFieldRanked names g) (same_Some own.0 x (sym own.1 ∙ ex)) own.2
 
-  -- a rank is below the number of the names
+  -- each rank is below the number of names
   pub ranks_below : (texts : List (List ℕ)) (ranks : List ℕ) → AreRanks names texts ranks → All (λ rank. rank < length names) ranks
   ranks_below [] [] e = All-nil (λ rank. rank < length names)
   ranks_below [] (x ∷ xs) e = absurd cc
@@ -151,7 +151,7 @@ module _ (names : List (List ℕ)) where
       let rest : AreRanks names ts xs = cc in
       All-cons (λ rank. rank < length names) x xs (slice_get_within names x t here) (ranks_below ts xs rest)
 
--- a field of the reader's at a place, with its names
+-- a field of the reader's record at a place, with the ranks of its names
 pub field_named : (sides : Sides) (j n : ℕ) (wanted : Fields) (b : NodeView) → slice_get (columns sides) j ≡ Some b → map field_view wanted.fields.now ≡ fields_of b → AreFieldsRanked (names_of sides.reader) (map field_view wanted.fields.now) wanted.ranks.now
     → (f : Field) (x : FieldRanks) → slice_get wanted.fields.now n ≡ Some f → slice_get wanted.ranks.now n ≡ Some x
     → (wanted_at (columns sides) (record { place = j; index = n }) ≡ Some (field_view f)) × IsFieldRanked (names_of sides.reader) (field_view f) x

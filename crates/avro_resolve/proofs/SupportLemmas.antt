@@ -16,11 +16,11 @@ place_within n fields f (Some g) place h e s =
     let same : g.place ≡ place = cc in
     subst (λ p. p < n) same (named_in (λ g. g.place < n) g (f.name ∷ f.aliases) fields h e)
 
--- a source that is found is a place
+-- the place of a source fits 16 bits
 pub source_fits : (fields : List Field) → All (λ g. g.place < 65535) fields → (f : FieldView) (o : Option ℕ) → o ≡ source_place (map field_view fields) f → (place : ℕ) → o ≡ Some place → place < 65535
 source_fits fields within f o told place is = place_within 65535 (map field_view fields) f (source (map field_view fields) f) place (All-map (λ (g : FieldView). g.place < 65535) field_view fields within) refl (sym is ∙ told)
 
--- there is no field to read from
+-- without fields there is no source
 pub no_source : (f : FieldView) (p : ℕ) → source_place [] f ≡ Some p → ⊥
 no_source f p e = let l = place_within 0 [] f (source [] f) p (All-nil (λ (g : FieldView). g.place < 0)) refl (sym e) in omega (arith, l)
 

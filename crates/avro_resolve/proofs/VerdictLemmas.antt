@@ -1,4 +1,4 @@
--- The computed verdict is that of the rules.
+-- The computed verdict agrees with the rules.
 use Rattle.std.proofs.Common.{◌≡◌, ℕ, List, [], ◌∷◌, Option, Some, None, Bool, true, false, cond, ◌||◌, length, refl, sym, true≢false, inl, inr}
 use Rattle.std.specs.Prelude.{All, Any, Contains, Decides, MatchOption, IsSome, IsTrue, slice_get, filter, is_some, bytes_eq, ◌==◌, ◌↔◌}
 use Rattle.std.specs.List.{list_any, list_all}
@@ -95,7 +95,7 @@ pub support_decides : (w r : List NodeView) (R : Pairs) (i j : ℕ) → Decides 
 unfolding is_supported Supports
 support_decides w r R i j = both_decide R i j (slice_get w i) (slice_get r j)
 
--- ---- parts of a list
+-- ---- sublists
 
 pub part_there : {X : Type 0} (test : List X → Bool) (xs : List X) → any_sublist test xs ≡ true → (ys : List X) × (test ys ≡ true)
 unfolding any_sublist

@@ -1,4 +1,4 @@
--- What the recursion's end shows.
+-- What the recursion's result proves.
 use Rattle.std.proofs.Common.{◌≡◌, ℕ, ◌*◌, ◌≤◌, List, [], ◌∷◌, true, length, sym, subst, ◌∙◌, true≢false, inl, inr, arith}
 use Rattle.std.specs.Prelude.{IsTrue}
 use Rattle.avro_nodes.specs.Nodes.{NodeView}

@@ -11,7 +11,7 @@ use Rattle.avro_resolve.specs.declared.recursion.Answer.TheVariants.{Yes, No, Un
 use Rattle.avro_resolve.specs.Resolution.{Pairs, Supports, Readable, source}
 use Rattle.avro_resolve.specs.Witnesses.{Pair, member, without}
 use Rattle.avro_resolve.specs.Asking.{source_place, Asks, AsksFor}
-use Rattle.avro_resolve.specs.Inside.IsReachable.{IsReachable, AreReachable, IsReachablePair, IsSourceReachable}
+use Rattle.avro_resolve.specs.Inside.Reachable.{IsReachable, AreReachable, IsReachablePair, IsSourceReachable}
 use Rattle.avro_resolve.specs.Inside.Places.{IsSelfContained}
 use Rattle.avro_resolve.specs.Inside.Walking.{Represents, WalkInvariant, Extends, ExtendsWalk, IsReady, AnswerHolds}
 use Rattle.avro_resolve.proofs.Monotone.{Within}
@@ -83,7 +83,7 @@ front_of a b i j l e =
 from_opened : (w r : List NodeView) (s u v : Walk) (i j : ℕ) → u.assumed.items ≡ s.assumed.items ++ (i, j) ∷ [] → u.failed.items ≡ s.failed.items → ExtendsWalk w r u v → Extends w r (s.assumed.items ++ (i, j) ∷ []) s.failed.items v.assumed.items v.failed.items
 from_opened w r s u v i j e f g = subst (λ (x : List Pair). Extends w r x s.failed.items v.assumed.items v.failed.items) e (subst (λ (y : List Pair). Extends w r u.assumed.items y v.assumed.items v.failed.items) f g)
 
--- an opened pair that is supported stays assumed
+-- a supported pair stays assumed
 ask_yes : (w r : List NodeView) (d : ℕ) (s u v : Walk) (i j : ℕ) → IsReady w r d s → u.assumed.items ≡ s.assumed.items ++ (i, j) ∷ [] → u.failed.items ≡ s.failed.items → IsReady w r (d + 1) v → ExtendsWalk w r u v → Supports w r (member v.assumed.items) i j
     → IsReady w r d v × ExtendsWalk w r s v × IsTrue (member v.assumed.items i j)
 ask_yes w r d s u v i j ready e f after g h =
@@ -93,14 +93,14 @@ ask_yes w r d s u v i j ready e f after g h =
       more w r (s.assumed.items ++ (i, j) ∷ []) s.failed.items v.assumed.items v.failed.items grown i j (member_last s.assumed.items i j),
     )
 
--- an answer that isn't no is that of the opened pair
+-- an answer other than no is the answer for the opened pair
 pub ask_told : (w r : List NodeView) (d : ℕ) (s u v : Walk) (i j : ℕ) (L L2 : Type 0) → IsReady w r d s → u.assumed.items ≡ s.assumed.items ++ (i, j) ∷ [] → u.failed.items ≡ s.failed.items → (answer : Answer) → (answer ≡ No → ⊥)
     → AnswerHolds w r (d + 1) u.assumed.items u.failed.items v (Supports w r (member v.assumed.items) i j) L answer → AnswerHolds w r d s.assumed.items s.failed.items v (IsTrue (member v.assumed.items i j)) L2 answer
 ask_told w r d s u v i j L L2 ready e f Yes never h = ask_yes w r d s u v i j ready e f h.0 h.1 h.2
 ask_told w r d s u v i j L L2 ready e f No never h = absurd (never refl)
 ask_told w r d s u v i j L L2 ready e f Unfinished never h = h
 
--- one that isn't fails, and what was assumed since is taken back
+-- an unsupported pair fails, and all pairs that were assumed since are withdrawn
 pub ask_no : (w r : List NodeView) (d : ℕ) (s u v x : Walk) (i j : ℕ) → IsReady w r d s → IsReachable w r i j → member s.assumed.items i j ≡ false → u.assumed.items ≡ s.assumed.items ++ (i, j) ∷ [] → u.failed.items ≡ s.failed.items → IsReady w r (d + 1) v → ExtendsWalk w r u v → (Supports w r (without v.failed.items) i j → ⊥)
     → x.assumed.items ≡ take (length s.assumed.items) v.assumed.items → x.failed.items ≡ v.failed.items ++ (i, j) ∷ [] → x.visits ≡ v.visits
     → Represents (length r) x.assumed_set x.assumed.items → Represents (length r) x.failed_set x.failed.items
@@ -124,12 +124,12 @@ ask_no w r d s u v x i j ready reachable out e f after g never back fails visits
       (same, subst (λ (y : List Pair). member y i j ≡ true) (sym fails) (member_last v.failed.items i j)),
     )
 
--- the reader's fields that were read so far, and one more
+-- one more field of the reader is readable
 pub held_more : (R S : Pairs) (fs : List FieldView) (gs : List Field) (k : ℕ) (f : Field) → k < length gs → f ≡ get_or gs k f → Within R S → All (λ g. Readable R fs (field_view g)) (take k gs) → Readable S fs (field_view f) → All (λ g. Readable S fs (field_view g)) (take (k + 1) gs)
 held_more R S fs gs k f l is within h here =
     All-more (λ g. Readable S fs (field_view g)) gs k f l (All-weaker (λ g. Readable R fs (field_view g)) (λ g. Readable S fs (field_view g)) (λ g. readable_more R S within fs (field_view g)) (take k gs) h) (subst (λ (g : Field). Readable S fs (field_view g)) is here)
 
--- what holds of the source of each reader's field
+-- the pair of each reader's field and its source is reachable
 pub fields_reachable : (w r : List NodeView) (fs : List FieldView) (gs : List Field) → ((p q : ℕ) → Any (λ f. (source_place fs f ≡ Some p) × (f.place ≡ q)) (map field_view gs) → IsReachablePair w r p q) → All (λ f. IsSourceReachable w r fs (field_view f)) gs
 fields_reachable w r fs gs h = all_of (IsSourceReachable w r fs) field_view gs (λ k d l p e.
     h p (get_or (map field_view gs) k d).place (k, get_or (map field_view gs) k d, l, get_or_default (map field_view gs) k (get_or (map field_view gs) k d) d l, (e, refl)))
@@ -139,13 +139,13 @@ tells_on w r d ps qs t H L H2 L2 f g Yes h = (h.0, h.1, f h.2)
 tells_on w r d ps qs t H L H2 L2 f g No h = (h.0, h.1, g h.2)
 tells_on w r d ps qs t H L H2 L2 f g Unfinished h = h
 
--- an answer that isn't yes, from a later state on
+-- an answer other than yes, seen from an earlier state
 pub tells_no : (w r : List NodeView) (d : ℕ) (s u v : Walk) (H H2 L L2 : Type 0) → ExtendsWalk w r s u → (L → L2) → (answer : Answer) → (answer ≡ Yes → ⊥) → AnswerHolds w r d u.assumed.items u.failed.items v H L answer → AnswerHolds w r d s.assumed.items s.failed.items v H2 L2 answer
 tells_no w r d s u v H H2 L L2 g f Yes never h = absurd (never refl)
 tells_no w r d s u v H H2 L L2 g f No never h = (h.0, grown2 w r s u v g h.1, f h.2)
 tells_no w r d s u v H H2 L L2 g f Unfinished never h = h
 
--- one that isn't no
+-- an answer other than no, seen from an earlier state
 pub tells_yes : (w r : List NodeView) (d : ℕ) (s u v : Walk) (H H2 L L2 : Type 0) → ExtendsWalk w r s u → (H → H2) → (answer : Answer) → (answer ≡ No → ⊥) → AnswerHolds w r d u.assumed.items u.failed.items v H L answer → AnswerHolds w r d s.assumed.items s.failed.items v H2 L2 answer
 tells_yes w r d s u v H H2 L L2 g f Yes never h = (h.0, grown2 w r s u v g h.1, f h.2)
 tells_yes w r d s u v H H2 L L2 g f No never h = absurd (never refl)

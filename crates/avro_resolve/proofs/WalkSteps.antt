@@ -1,11 +1,11 @@
--- Steps of the recursion, from state to state.
+-- Steps of the recursion, from one state to the next.
 use Rattle.std.proofs.Common.{◌≡◌, ℕ, ◌+◌, ◌*◌, ◌≤◌, List, [], ◌∷◌, ◌++◌, true, false, length, take, take-take, take_all, take_at, mul-le-mul_left, mul-le-mul_right, refl, sym, ap, subst, ◌∙◌, arith, true≢false, inl, inr}
 use Rattle.std.proofs.lemmas.List.{length_push}
 use Rattle.avro_nodes.specs.Nodes.{NodeView}
 use Rattle.avro_resolve.specs.Resolution.{Supports}
 use Rattle.avro_resolve.specs.Witnesses.{Pair, member, without}
 use Rattle.avro_resolve.specs.Asking.{ContainsAsked}
-use Rattle.avro_resolve.specs.Inside.IsReachable.{IsReachable}
+use Rattle.avro_resolve.specs.Inside.Reachable.{IsReachable}
 use Rattle.avro_resolve.specs.Inside.Walking.{WalkInvariant, Extends}
 use Rattle.avro_resolve.proofs.Monotone.{Within, supports_within}
 use Rattle.avro_resolve.proofs.PairLists.{false_unless, member_take, member_front, member_last, push_cases, differ_push, refutes_push, member-nil}

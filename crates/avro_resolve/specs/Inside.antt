@@ -1,4 +1,4 @@
-pub mod IsReachable
+pub mod Reachable
 pub mod Agreeing
 pub mod Referrers
 pub mod Lists

@@ -11,12 +11,12 @@ use Rattle.avro_nodes.specs.Nodes.{NamedView, FieldView, NodeView, primitive, ar
 abbrev pub Pairs : Type 0
 Pairs = ℕ → ℕ → Bool
 
--- The names match without their namespaces (Schema Resolution), or the reader has the writer's full name among its aliases (Aliases). That an
--- alias counts beside the own name, and not in place of it, is this project's choice.
+-- The names match without their namespaces (Schema Resolution), or the writer's full name is one of the reader's aliases (Aliases). That aliases
+-- count in addition to the reader's own name, and don't replace it, is this project's choice.
 abbrev pub NameMatch : NamedView → NamedView → Type 0
 NameMatch w r = (last_part w.name ≡ last_part r.name) ⊎ Contains r.aliases w.name
 
--- a primitive is read as itself, or is promoted (Schema Resolution)
+-- a primitive type is read as itself, or is promoted (Schema Resolution)
 abbrev pub Promotes : Kind → Kind → Type 0
 Promotes Null Null = Unit {0}
 Promotes Boolean Boolean = Unit {0}
@@ -36,22 +36,22 @@ Promotes Text Text = Unit {0}
 Promotes Text Bytes = Unit {0}
 Promotes _ _ = ⊥
 
--- the field that the first of the names that names one of the fields has
+-- the field with the first of these names that any field has, or `None`
 unfoldable pub first_named : List (List ℕ) → List FieldView → Option FieldView
 first_named [] fields = None
 first_named (name ∷ names) fields = option_or (find (λ f. bytes_eq f.name name) fields) (first_named names fields)
 
--- The writer's field that a reader's field is read from: that of its own name, else that of the first of its aliases that names one (Schema
--- Resolution; Aliases; the order is this project's choice)
+-- The writer's field from which a reader's field is read: the field of the same name, else of the first alias that names one (Schema Resolution;
+-- Aliases; the order is this project's choice)
 abbrev pub source : List FieldView → FieldView → Option FieldView
 source fields f = first_named (f.name ∷ f.aliases) fields
 
--- a reader's field has a source that the set lets it read, or has none and has a default (Schema Resolution)
+-- a reader's field is readable if its pair with its source is in the set, or if it has no source but a default (Schema Resolution)
 abbrev pub Readable : Pairs → List FieldView → FieldView → Type 0
 Readable R fields f = MatchOption (source fields f) (IsSome f.value) (λ g. IsTrue (R g.place f.place))
 
 -- The set supports the pair (i, j) of these two nodes, by the first case that fits (Schema Resolution). A writer's union is read branch by branch.
--- That any branch of a reader's union will do, and that each symbol of a writer's enum may come, are this project's choices.
+-- Any branch of a reader's union suffices, and each symbol of a writer's enum must be readable: both are this project's choices.
 abbrev pub Fits : Pairs → ℕ → ℕ → NodeView → NodeView → Type 0
 Fits R i j (union branches) b = All (λ place. IsTrue (R place j)) branches
 Fits R i j a (union branches) = Any (λ place. IsTrue (R i place)) branches
@@ -71,6 +71,6 @@ Supports w r R i j = MatchOption (slice_get w i) ⊥ (λ a. MatchOption (slice_g
 abbrev pub Closed : List NodeView → List NodeView → Pairs → Type 0
 Closed w r R = (i j : ℕ) → IsTrue (R i j) → Supports w r R i j
 
--- the writer's schema resolves with the reader's: some closed set has the pair of the roots (Schema Resolution)
+-- the writer's schema resolves with the reader's: some closed set contains the pair of the roots (Schema Resolution)
 unfoldable pub Resolves : List NodeView → List NodeView → Type 0
 Resolves w r = (R : Pairs) × IsTrue (R 0 0) × Closed w r R

@@ -1,4 +1,4 @@
--- Whether a schema resolves with another, computed: each rule of Resolution.antt as a test, and a search among all sets of pairs of places.
+-- The computed verdict: each rule of Resolution.antt as a test, and a search among all sets of pairs of places.
 use Rattle.std.specs.Prelude.{ℕ, zero, suc, ◌==◌, Bool, true, false, ◌&&◌, ◌||◌, Option, Some, None, is_some, List, [], ◌∷◌, ◌++◌, length, slice_get, bytes_eq}
 use Rattle.std.specs.List.{list_any, list_all}
 use Rattle.std.specs.Set.{is_member}
@@ -50,7 +50,7 @@ nodes_fit R i j (fixed n size _) (fixed m wanted _) = is_name_match n m && size 
 nodes_fit R i j (rec n fields _) (rec m wanted _) = is_name_match n m && list_all (λ f. is_readable_from R f (source fields f)) wanted
 nodes_fit R i j _ _ = false
 
--- the same of nodes that are there
+-- the same for optional nodes: false if one is `None`
 abbrev pub both_fit : Pairs → ℕ → ℕ → Option NodeView → Option NodeView → Bool
 both_fit R i j (Some a) (Some b) = nodes_fit R i j a b
 both_fit R i j _ _ = false
@@ -64,20 +64,20 @@ abbrev pub row_below : ℕ → ℕ → List Pair
 row_below i zero = []
 row_below i (suc j) = (i, j) ∷ row_below i j
 
--- the pairs of the writer's places below the one number with the reader's below the other
+-- the pairs of the writer's places below the first number with the reader's places below the second
 unfoldable pub pairs_below : ℕ → ℕ → List Pair
 pairs_below zero m = []
 pairs_below (suc i) m = row_below i m ++ pairs_below i m
 
--- whether some part of the list passes the test: some of its elements, in their order
+-- whether some sublist passes the test: some of the elements, in their order
 unfoldable pub any_sublist : {X : Type 0} → (List X → Bool) → List X → Bool
 any_sublist test [] = test []
 any_sublist test (x ∷ xs) = any_sublist (λ ys. test (x ∷ ys)) xs || any_sublist test xs
 
--- whether the list's pairs are a closed set, and have that of the roots
+-- whether the list's pairs are a closed set that contains the pair of the roots
 unfoldable pub is_closed_set : List NodeView → List NodeView → List Pair → Bool
 is_closed_set w r ps = member ps 0 0 && list_all (λ p. is_supported w r (member ps) p.0 p.1) ps
 
--- whether the writer's schema resolves with the reader's (Resolves): a closed set has pairs of places alone, so the search is over all of them
+-- whether the writer's schema resolves with the reader's (Resolves): a closed set has only pairs of places, so the search covers all closed sets
 unfoldable pub is_resolved : List NodeView → List NodeView → Bool
 is_resolved w r = any_sublist (is_closed_set w r) (pairs_below (length w) (length r))

@@ -1,10 +1,10 @@
--- Lists of pairs, which show that a schema resolves with another, or that it doesn't (this project's choice).
+-- Lists of pairs that prove that a schema resolves with another, or that it doesn't (this project's choice).
 use Rattle.std.specs.Prelude.{◌≡◌, ℕ, ◌≤◌, ◌==◌, ◌&&◌, ◌++◌, [], ◌∷◌, false, not, List, length, IsTrue}
 use Rattle.std.specs.List.{list_any}
 use Rattle.avro_nodes.specs.Nodes.{NodeView}
 use Rattle.avro_resolve.specs.Resolution.{Pairs, Supports, Closed}
 
--- a place of the writer and one of the reader
+-- a writer's place and a reader's place
 abbrev pub Pair : Type 0
 Pair = ℕ × ℕ
 
@@ -12,24 +12,24 @@ Pair = ℕ × ℕ
 unfoldable pub member : List Pair → Pairs
 member ps i j = list_any (λ p. p.0 == i && p.1 == j) ps
 
--- all pairs but a list's
+-- all pairs except a list's
 abbrev pub without : List Pair → Pairs
 without ps i j = not (member ps i j)
 
--- the list refutes, in its order: none of its pairs is supported by the set of all pairs without those before it
+-- the list refutes its pairs one after another: the set of all pairs without the earlier ones doesn't support the next one
 unfoldable pub RefutesAfter : List NodeView → List NodeView → List Pair → List Pair → Type 0
 RefutesAfter w r before [] = Unit {0}
 RefutesAfter w r before (p ∷ ps) = (Supports w r (without before) p.0 p.1 → ⊥) × RefutesAfter w r (before ++ p ∷ []) ps
 
--- no pair stands twice
+-- no pair occurs twice
 unfoldable pub AreDistinct : List Pair → Type 0
 AreDistinct [] = Unit {0}
 AreDistinct (p ∷ ps) = (member ps p.0 p.1 ≡ false) × AreDistinct ps
 
--- what a yes shows: a closed set of at most so many pairs, with that of the roots
+-- the witness of a yes: a closed set of at most this many pairs, with the pair of the roots
 abbrev pub HasClosedSet : List NodeView → List NodeView → ℕ → Type 0
 HasClosedSet w r most = (ps : List Pair) × IsTrue (member ps 0 0) × Closed w r (member ps) × (length ps ≤ most)
 
--- what a no shows: a list of at most so many different pairs that refutes and ends with the pair of the roots
+-- the witness of a no: a refuting list of at most this many distinct pairs, which ends with the pair of the roots
 abbrev pub HasRefutation : List NodeView → List NodeView → ℕ → Type 0
 HasRefutation w r most = (ps : List Pair) × RefutesAfter w r [] (ps ++ (0, 0) ∷ []) × AreDistinct (ps ++ (0, 0) ∷ []) × (length (ps ++ (0, 0) ∷ []) ≤ most)

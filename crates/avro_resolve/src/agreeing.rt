@@ -1,4 +1,4 @@
-//! What two nodes say of a pair by themselves: kinds, names (by rank), sizes and symbols.
+//! Compares two nodes by themselves: kinds, names (by rank), sizes and symbols.
 
 ghost use Rattle.std.specs.Prelude.{◌<◌, ◌↔◌, ◌≡◌, ◌≤◌, [], length, option_map, slice_get, All, Contains, IfOk, IsTrue, MatchOption, Some};
 ghost use Rattle.std.specs.List.Sorted.{IsStrictlyIncreasing};
@@ -14,7 +14,8 @@ use avro_nodes::{Kind, Node};
 use avro_schema::{NamedRanks, Ranks};
 use std::alloc::Global;
 
-/// Whether a reader's primitive reads a writer's: as itself, or by promotion (Schema Resolution).
+/// Whether a reader's primitive type reads a writer's: if it is the same, or by promotion (Schema
+/// Resolution).
 fn promotes(writer: Kind, reader: Kind) -> bool
     ensures { IsTrue result ↔ Promotes writer reader }
 {
@@ -27,7 +28,7 @@ fn promotes(writer: Kind, reader: Kind) -> bool
     }
 }
 
-/// Whether the list has each of the numbers. If the two differ, one pass compares them.
+/// Whether the list contains each of the numbers. Unless the two are equal, one pass compares them.
 fn has_all(list: &[u32], numbers: &[u32]) -> bool
     requires list { IsStrictlyIncreasing list.now }
     requires numbers { IsStrictlyIncreasing numbers.now }
@@ -51,7 +52,7 @@ fn has_all(list: &[u32], numbers: &[u32]) -> bool
     matched_count == numbers.len()
 }
 
-/// The names of a definition by their ranks, where these are a definition's.
+/// The ranks of the names of a named type, or `None` for another node.
 fn named_of(ranks: &Ranks) -> Option<&NamedRanks>
     ensures { option_map (λ n. n.now) result ≡ named_ranks ranks.now }
 {
@@ -62,7 +63,7 @@ fn named_of(ranks: &Ranks) -> Option<&NamedRanks>
     }
 }
 
-/// The symbols of an enum by their ranks, and none of another node.
+/// The ranks of the symbols of an enum, or none for another node.
 fn symbols_of(ranks: &Ranks) -> &[u32]
     ensures { result.now ≡ symbol_ranks ranks.now }
 {
@@ -72,8 +73,8 @@ fn symbols_of(ranks: &Ranks) -> &[u32]
     }
 }
 
-/// Whether the names of two nodes match, if both have names: by their last parts (Avro 1.11
-/// specification, Schema Resolution), or by an alias of the reader's (Aliases).
+/// Whether two named types match: by the last parts of their names (Avro 1.11 specification, Schema
+/// Resolution), or by an alias of the reader's (Aliases).
 fn names_match(sides: &Sides, i: u32, j: u32) -> bool
     requires sides { IsSides sides.now }
     requires i_in { i < length (rows sides.now) }
@@ -96,8 +97,8 @@ fn names_match(sides: &Sides, i: u32, j: u32) -> bool
     }
 }
 
-/// Whether the nodes agree by themselves, given whether their names match. None: the symbols of two
-/// enums have to be compared, since the reader's has no default.
+/// Whether the nodes agree by themselves, given whether their names match. `None`: the symbols of
+/// two enums have to be compared, since the reader's has no default.
 fn alike(a: &Node, b: &Node, matched: bool) -> Option<bool>
     requires { DecidesNameMatch matched (node_view a.now) (node_view b.now) }
     ensures { let v = node_view a.now in let u = node_view b.now in MatchOption result
@@ -120,7 +121,7 @@ fn alike(a: &Node, b: &Node, matched: bool) -> Option<bool>
     }
 }
 
-/// The reader's ranks of the symbols at a writer's place. None: the reader lacks a symbol.
+/// The reader's ranks of the symbols at a writer's place, or `None` if the reader lacks a symbol.
 pub fn mapped_symbols(alloc: Global, sides: &Sides, i: u32) -> AllocResult<Option<Vec<u32>>>
     requires sides { IsSides sides.now }
     requires i_in { i < length (rows sides.now) }
@@ -138,7 +139,7 @@ pub fn mapped_symbols(alloc: Global, sides: &Sides, i: u32) -> AllocResult<Optio
     Ok(Some(found))
 }
 
-/// The ranks, and none where one of the symbols has none.
+/// The ranks, or an empty list if the reader lacks a symbol.
 pub fn ranks_or_empty(symbols: &Option<Vec<u32>>) -> &[u32]
     ensures { MatchOption symbols.now (result.now ≡ []) (λ v. result.now ≡ v.items) }
 {
@@ -148,7 +149,7 @@ pub fn ranks_or_empty(symbols: &Option<Vec<u32>>) -> &[u32]
     }
 }
 
-/// Numbers the symbols of these ranks in their boxes, from 1 on.
+/// Numbers the symbols from 1 on, in the slots of their ranks.
 pub fn number_symbols(slots: &mut [usize], symbols: &[u32])
     requires cleared { AreCleared slots.old }
     requires rise { IsStrictlyIncreasing symbols.now }
@@ -160,7 +161,7 @@ pub fn number_symbols(slots: &mut [usize], symbols: &[u32])
     }
 }
 
-/// Takes the numbers out again.
+/// Clears these slots again.
 pub fn clear_numbers(slots: &mut [usize], symbols: &[u32])
     requires rise { IsStrictlyIncreasing symbols.now }
     requires numbered { AreNumbered slots.old symbols.now 0 (length symbols.now) }
@@ -172,7 +173,7 @@ pub fn clear_numbers(slots: &mut [usize], symbols: &[u32])
     }
 }
 
-/// Whether the list has each numbered symbol. No lookup waits for the one before it.
+/// Whether the list contains each numbered symbol. Each lookup is independent of the previous ones.
 fn has_numbered(list: &[u32], symbols: &[u32], slots: &[usize]) -> bool
     requires list { IsStrictlyIncreasing list.now }
     requires rise { IsStrictlyIncreasing symbols.now }
@@ -192,7 +193,7 @@ fn has_numbered(list: &[u32], symbols: &[u32], slots: &[usize]) -> bool
     next > symbols.len()
 }
 
-/// Whether the nodes at these places agree as far as they say by themselves.
+/// Whether the nodes at these places agree by themselves.
 pub fn agree(alloc: Global, sides: &Sides, a: &Node, b: &Node, at: (u32, u32)) -> AllocResult<bool>
     requires sides { IsSides sides.now }
     requires a_at { slice_get (rows sides.now) at.0 ≡ Some (node_view a.now) }
@@ -208,7 +209,7 @@ pub fn agree(alloc: Global, sides: &Sides, a: &Node, b: &Node, at: (u32, u32)) -
     }
 }
 
-/// The same, if the symbols at the writer's place are ranked and numbered in the boxes.
+/// The same, given the ranks of the symbols at the writer's place, numbered in the slots.
 pub fn agree_at(sides: &Sides, symbols: &Option<Vec<u32>>, slots: &[usize], i: u32, j: u32) -> bool
     requires sides { IsSides sides.now }
     requires numbered { MatchOption symbols.now (Unit {0}) (λ v. AreNumbered slots.now v.items 0 (length v.items)) }

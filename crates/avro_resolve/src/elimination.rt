@@ -1,4 +1,4 @@
-//! Striking out the pairs that the rest doesn't support, until none is left to strike.
+//! Eliminates unsupported pairs, until the remaining pairs are a closed set.
 
 ghost use Rattle.std.specs.Prelude.{◌<◌, ◌≡◌, ◌≤◌, ◌∷◌, ◌++◌, [], false, get_or, length, slice_get, All, Contains, IfOk, List, None, OnOk, Some, ℕ};
 ghost use Rattle.std.specs.List.Sorted.{IsNonDecreasingBy};
@@ -24,7 +24,8 @@ use avro_nodes::Node;
 use avro_schema::Schema;
 use std::alloc::Global;
 
-/// The first link from one on whose label isn't below this one, or else their number.
+/// The index of the first link, at or after `from`, whose label is at least this one, or the number
+/// of links.
 fn first_at_label(links: &[Link], from: usize, label: u32) -> usize
     requires from { from ≤ length links.now }
     requires passed { (k : ℕ) (d : Link) → k < from → (get_or links.now k d).label < label }
@@ -39,8 +40,8 @@ fn first_at_label(links: &[Link], from: usize, label: u32) -> usize
     links.partition_point(|link| link.label < label)
 }
 
-/// Eliminates the pairs whose links have one label and that ask for the reported pair, by an alias
-/// only if the sources say so. Skips labels of the reader's that the writer's links lack.
+/// Eliminates the pairs that depend on the popped pair by links with the same label. An alias only
+/// counts if its source code is that of the popped place. Skips labels that no writer's link has.
 pub fn eliminate_joined(
     sides: &Sides,
     sources: &[Vec<u16>],
@@ -89,25 +90,28 @@ pub fn eliminate_joined(
     Ok(())
 }
 
-/// What asks for the places of both sides.
+/// The nodes that refer to each place of both sides, and what decides which pairs depend on a pair.
 #[derive(Drop)]
 struct Dependents {
+    /// the references to the writer's places
     rows: Links,
+    /// the references to the reader's places
     columns: Links,
     /// the reader's unions
     unions: Vec<u32>,
-    /// the sources of the reader's fields that have aliases, by the writer's places
+    /// for each of the writer's places, the source codes of the reader's fields with aliases
     sources: Vec<Vec<u16>>,
 }
 
-/// Pairs of one row that were eliminated one after the other. Reporting them at once takes one
-/// pass over each list of unions.
+/// Pairs of one row that were eliminated consecutively. They are propagated together, with one pass
+/// over each list of unions.
 type Run<'a> = &'a [(u16, u16)];
 
-/// The length of a long run: comparing two rows then takes less than looking up its pairs.
+/// From this length on, comparing two rows is faster than looking up each pair of the run.
 const LONG_RUN: usize = 64;
 
-/// Takes the last pairs of one row off the list; the last one of all was taken off before.
+/// Pops from the worklist all pairs at its end that are in the row of `last`. That pair was popped
+/// before, and is added to the run.
 fn pop_run(
     eliminated: &mut Vec<(u16, u16)>,
     last: (u16, u16),
@@ -128,7 +132,8 @@ fn pop_run(
     Ok(())
 }
 
-/// Eliminates the pairs of a place, which is no union, with listed unions that have no branch left.
+/// Eliminates the pair of a place, which isn't a union, with each listed union if no branch of it
+/// remains with the place.
 fn examine_unions(sides: &Sides, i: u32, unions: &[u32], progress: &mut Progress) -> AllocResult<()>
     requires rest { HasAgreedRemainder sides.now progress.old }
     requires i_in { i < length sides.now.writer.schema.now }
@@ -153,8 +158,8 @@ fn examine_unions(sides: &Sides, i: u32, unions: &[u32], progress: &mut Progress
     Ok(())
 }
 
-/// Reports a run to the unions of both sides. A run of at least as many pairs as the reader has
-/// unions goes to all of them, and a shorter one to those that have its places as branches.
+/// Propagates a run to the unions of both sides. If the run is at least as long as the list of the
+/// reader's unions, checks all of them, else those that have one of its places as a branch.
 fn propagate_to_unions(
     sides: &Sides,
     dependents: &Dependents,
@@ -200,7 +205,8 @@ fn propagate_to_unions(
     Ok(())
 }
 
-/// Reports a run to unions, and to what refers to both places of one of its pairs by one label.
+/// Propagates a run to unions, and to pairs of nodes that refer to both places of one of its pairs
+/// by the same label.
 fn propagate(
     sides: &Sides,
     dependents: &Dependents,
@@ -233,8 +239,9 @@ fn propagate(
     Ok(())
 }
 
-/// The largest closed set: what remains of all pairs when none is left to eliminate. Pairs whose
-/// nodes disagree go first; then each pair is examined once, and eliminated pairs are reported.
+/// The largest closed set: the remaining pairs, after all unsupported ones were eliminated. Pairs
+/// whose nodes disagree go first. Then each pair is examined once, and each eliminated pair is
+/// propagated to its dependents.
 pub fn largest_closed(alloc: Global, writer: &Schema, reader: &Schema) -> AllocResult<Table>
     ensures rest { IfOk result (λ t. IsRemainder (nodes_view writer.now) (nodes_view reader.now) t) }
     ensures closed { IfOk result (λ t. Closed (nodes_view writer.now) (nodes_view reader.now) (remains t)) }

@@ -12,7 +12,8 @@ use crate::sides::{Fields, RankMap, Sides};
 use avro_schema::FieldRanks;
 use std::alloc::Global;
 
-/// Indexes fields by name rank, from the last one on, so that the first of a name remains.
+/// Puts the index of each field into the slot of its name's rank. It begins with the last field, so
+/// that the first of a name remains.
 pub fn fill_slots(slots: &mut [Option<usize>], rank_map: &RankMap, fields: &[FieldRanks])
     requires clear { IsClear slots.old }
     requires has_slots { HasSlots slots.old rank_map.now.ranks.items }
@@ -26,7 +27,7 @@ pub fn fill_slots(slots: &mut [Option<usize>], rank_map: &RankMap, fields: &[Fie
     }
 }
 
-/// Takes the fields off again.
+/// Removes the fields again.
 pub fn clear_slots(slots: &mut [Option<usize>], rank_map: &RankMap, fields: &[FieldRanks])
     requires in_slots { AreInSlots rank_map.now.ranks.items (names_in fields.now) 0 slots.old }
     requires has_slots { HasSlots slots.old rank_map.now.ranks.items }
@@ -40,8 +41,9 @@ pub fn clear_slots(slots: &mut [Option<usize>], rank_map: &RankMap, fields: &[Fi
     }
 }
 
-/// The place of the type of a reader's field's source, if it has one: the writer's field of its own
-/// name, else of its first alias that names one. An alias that the writer lacks needs no lookup.
+/// The place of the type of a reader's field's source, or `None` without a source. The source is
+/// the writer's field of the same name, else of the first alias that names one. An alias that the
+/// writer lacks needs no lookup.
 pub fn find_source(
     slots: &[Option<usize>],
     sides: &Sides,
@@ -67,7 +69,7 @@ pub fn find_source(
     None
 }
 
-/// Those of all fields of the reader's record, in their order.
+/// The same for all fields of the reader's record, in order.
 pub fn field_sources(
     alloc: Global,
     slots: &[Option<usize>],

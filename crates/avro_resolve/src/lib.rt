@@ -21,5 +21,5 @@ pub use avro_nodes::OutOfMemory;
 pub use resolving::{Verdict, resolution_is_decided, resolves, resolves_itself, resolves_plain};
 use std::alloc::AllocError;
 
-/// What was made, unless allocation fails.
+/// A result whose only error is that allocation failed.
 type AllocResult<T> = Result<T, AllocError>;

@@ -1,5 +1,5 @@
-//! Which arrays, maps and records refer to a place, and by which label. A pair of two of them asks
-//! for a pair of places only if they refer to these by one label.
+//! Which arrays, maps and records refer to a place, and by which label. A pair of them depends on a
+//! pair of places only if both refer to these by the same label.
 
 ghost use Rattle.std.specs.Prelude.{◌<◌, ◌≡◌, length, slice_get, All, Contains, IfOk, OnOk, Some};
 ghost use Rattle.avro_nodes.specs.Nodes.{NodeView};
@@ -13,42 +13,42 @@ use crate::sides::{RankMap, Side};
 use avro_nodes::Node;
 use std::alloc::Global;
 
-/// In which way a place refers to another.
+/// The kind of a reference.
 #[derive(Clone, Copy, Debug, PartialEq, Eq)]
 pub enum LinkKind {
-    /// an array or a map, to what it contains
+    /// an array or a map, to its items or values
     ByElement,
-    /// a record, by the name of a field that has the other's type
+    /// a record, by the name of a field, to the field's type
     ByName,
-    /// a reader's record, by an alias of such a field, which has this number
+    /// a reader's record, by an alias of the field with this number, to the field's type
     ByAlias(usize),
 }
 
-/// How a place refers to another.
+/// A reference to a place.
 #[derive(Clone, Copy, Debug, PartialEq, Eq)]
 pub struct Link {
-    /// the reader's rank of the name of the field that has the other's type, or 0 for items and values
+    /// the reader's rank of the field's name or alias, or 0 for items and values
     pub label: u32,
     /// the place that refers
     pub referrer: u32,
     pub kind: LinkKind,
 }
 
-/// What refers to each place of a side.
+/// The references to each place of a side.
 #[derive(Drop)]
 pub struct Links {
-    /// the unions that have it as a branch
+    /// for each place, the unions that have it as a branch
     pub unions: Vec<Vec<u32>>,
-    /// the links to it, of arrays, maps and records
+    /// for each place, the links of arrays, maps and records to it
     pub lists: Vec<Vec<Link>>,
-    /// the fields whose aliases links are of, by their numbers
+    /// the fields with aliases; a field's number is its index
     pub aliased: Vec<Aliased>,
 }
 
-/// The label of items and values. A name may have this rank too: the ways tell the two apart.
+/// The label of items and values. A name may have this rank too; the link's kind shows which it is.
 const ELEMENT_LABEL: u32 = 0;
 
-/// Notes that one place refers to another in a way, by each label. It skips adjacent duplicates.
+/// Adds a link from the place `at` to the place `to` for each label. Skips adjacent duplicates.
 fn add_links(links: &mut Links, labels: &[u32], kind: LinkKind, to: u32, at: u32) -> AllocResult<()>
     requires { to < length links.old.lists.items }
     ensures notes { OnOk result (OnlyAddsLinks (λ x p. Contains labels.now x.label × (x.kind ≡ kind) × (x.referrer ≡ at) × (p ≡ to)) links.old links.new) }
@@ -68,7 +68,7 @@ fn add_links(links: &mut Links, labels: &[u32], kind: LinkKind, to: u32, at: u32
     Ok(())
 }
 
-/// Notes what the node at a place refers to: items, values, or the types of fields. Labels are the
+/// Adds the links of the node at a place: to items, values, or the types of fields. Labels are the
 /// reader's ranks of names. A reader's field with aliases gets a number, and a link for each alias.
 fn add_node_links(
     links: &mut Links,

@@ -1,4 +1,4 @@
-//! Lists that stand at places: for each place of a schema, the unions that have it as a branch.
+//! A list for each place of a schema, such as the unions that have the place as a branch.
 
 ghost use Rattle.std.specs.Prelude.{◌<◌, ◌≡◌, length, IfOk, OnOk, ℕ};
 ghost use Rattle.avro_nodes.specs.Nodes.{nodes_view};
@@ -11,7 +11,7 @@ use avro_nodes::Node;
 use avro_schema::Schema;
 use std::alloc::Global;
 
-/// So many empty lists.
+/// `count` empty lists.
 pub fn empty_lists<T: Drop>(alloc: Global, count: u32) -> AllocResult<Vec<Vec<T>>>
     ensures long { IfOk result (λ v. length v.items ≡ count) }
     ensures empty { IfOk result (λ v. (x : T) (place : ℕ) → IsListedAt v.items x place → ⊥) }
@@ -23,7 +23,7 @@ pub fn empty_lists<T: Drop>(alloc: Global, count: u32) -> AllocResult<Vec<Vec<T>
     Ok(lists)
 }
 
-/// Adds one to the list of a place.
+/// Adds an item to the list of a place.
 pub fn add_at<T: Drop>(lists: &mut Vec<Vec<T>>, place: u32, item: T) -> AllocResult<()>
     requires { place < length lists.old.items }
     ensures adds { OnOk result (OnlyAdds (λ x p. (x ≡ item) × (p ≡ place)) lists.old.items lists.new.items) }
@@ -33,7 +33,7 @@ pub fn add_at<T: Drop>(lists: &mut Vec<Vec<T>>, place: u32, item: T) -> AllocRes
     Ok(())
 }
 
-/// The list of a place, and none for what is no place.
+/// The list of a place, or an empty list past the last place.
 pub fn list_of<T>(lists: &[Vec<T>], place: usize) -> &[T]
     ensures { result.now ≡ list_at lists.now place }
 {
@@ -60,7 +60,7 @@ pub fn unions_of(alloc: Global, schema: &Schema) -> AllocResult<Vec<Vec<u32>>>
     Ok(lists)
 }
 
-/// The unions of a schema, by their places.
+/// The places of all unions of a schema.
 pub fn unions_in(alloc: Global, schema: &Schema) -> AllocResult<Vec<u32>>
     ensures { IfOk result (λ v. AreUnions (nodes_view schema.now) v.items) }
 {

@@ -14,7 +14,7 @@ impl PairSet {
     ghost use Rattle.std.specs.Prelude.{◌≡◌, ℕ, ◌+◌, ◌*◌, ◌<◌, OnOk, ◌==◌, ◌&&◌, if◌then◌else◌, true, false};
     ghost use Rattle.avro_resolve.specs.Inside.PairSets.{has};
 
-    /// No pairs, of a reader with so many places.
+    /// The empty set, for a reader with this number of places.
     pub fn none(alloc: Global, readers: u32) -> PairSet
         ensures readers { result.readers ≡ readers }
         ensures empty { (i j : ℕ) → has result i j ≡ false }
@@ -36,7 +36,7 @@ impl PairSet {
         }
     }
 
-    /// Puts the pair in.
+    /// Adds the pair.
     pub fn insert(&mut self, i: u32, j: u32) -> AllocResult<()>
         requires { j < self.old.readers }
         ensures readers { OnOk result (self.new.readers ≡ self.old.readers) }
@@ -51,7 +51,7 @@ impl PairSet {
         Ok(())
     }
 
-    /// Takes the pair out.
+    /// Removes the pair.
     pub fn remove(&mut self, i: u32, j: u32)
         requires { j < self.old.readers }
         ensures readers { self.new.readers ≡ self.old.readers }
@@ -64,7 +64,7 @@ impl PairSet {
         }
     }
 
-    /// Where the bit of a pair stands.
+    /// The index of the pair's bit.
     fn place(&self, i: u32, j: u32) -> usize
         ensures { result ≡ i * self.now.readers + j }
     {

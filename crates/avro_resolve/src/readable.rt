@@ -1,5 +1,5 @@
-//! Whether a reader's fields can be read from a writer's place whose fields are indexed. Sources of
-//! fields that have aliases are kept by the writer's places, so that one lookup finds them.
+//! Whether a reader's fields can be read from a writer's place whose fields are in the slots. For
+//! fields with aliases, a table of source codes by writer's place finds the source in one lookup.
 
 ghost use Rattle.std.specs.Prelude.{◌<◌, ◌↔◌, ◌≡◌, map, slice_get, All, IfOk, IfSome, IsTrue, List, Some, ℕ};
 ghost use Rattle.std.specs.List.{AllZip};
@@ -31,27 +31,26 @@ pub struct Aliased {
     pub index: usize,
 }
 
-/// The reader's fields that have aliases: a field's number is its index here.
+/// The reader's fields that have aliases. A field's number is its index in `aliased`.
 #[derive(Clone, Copy)]
 pub struct AliasedFields<'a> {
     pub aliased: &'a [Aliased],
-    /// for each place of the reader's the number of its first such field, if it has one
+    /// for each of the reader's places, the number of its first such field, or 0 if it has none
     pub firsts: &'a [usize],
-    /// what is asked of each of these fields
+    /// each of these fields, or `None` if the schema has no such field
     pub wanted: &'a [Option<ReaderField<'a>>],
 }
 
-/// What is asked of a reader's field.
+/// A reader's field: what decides whether it can be read.
 #[derive(Clone, Copy)]
 pub struct ReaderField<'a> {
     /// the place of its type
     pub place: u32,
     pub has_default: bool,
-    /// its names, by their ranks
+    /// the ranks of its names
     pub names: &'a FieldRanks,
 }
 
-/// What is asked of the field that has these names.
 fn reader_field<'a>(field: &Field, names: &'a FieldRanks) -> ReaderField<'a>
     ensures { (texts : List (List ℕ)) → IsFieldRanked texts (field_view field.now) names.now
         → Describes texts result (field_view field.now) }
@@ -63,7 +62,7 @@ fn reader_field<'a>(field: &Field, names: &'a FieldRanks) -> ReaderField<'a>
     }
 }
 
-/// What is asked of the field, which is looked up once.
+/// Looks up a field that has aliases. `None`: the schema has no such field.
 fn reader_field_of<'a>(side: &'a Side, aliased: Aliased) -> Option<ReaderField<'a>>
     requires { IsSide side.now }
     ensures { IsReaderField side.now aliased result }
@@ -76,7 +75,7 @@ fn reader_field_of<'a>(side: &'a Side, aliased: Aliased) -> Option<ReaderField<'
     Some(reader_field(field, found.ranks.get(aliased.index)?))
 }
 
-/// The same of each of these fields.
+/// Looks up each of these fields.
 pub fn reader_fields_of<'a>(
     alloc: Global,
     side: &'a Side,
@@ -92,7 +91,7 @@ pub fn reader_fields_of<'a>(
     Ok(wanted)
 }
 
-/// For each place the number of its first field, if it has one of these.
+/// For each place the number of its first field with aliases, or 0 if it has none.
 pub fn firsts_of(alloc: Global, places: u32, fields: &[Aliased]) -> AllocResult<Vec<usize>> {
     let mut firsts = vec![in alloc; 0; places as usize]?;
     for number in (0..fields.len()).rev() {
@@ -103,7 +102,8 @@ pub fn firsts_of(alloc: Global, places: u32, fields: &[Aliased]) -> AllocResult<
     Ok(firsts)
 }
 
-/// The sources of these reader's fields among the indexed ones: a place and one, or 0 for none.
+/// The source code of each of the reader's fields with aliases, for the writer's fields in the
+/// slots: the place of the source's type plus 1, or 0 without a source.
 pub fn source_codes(
     alloc: Global,
     slots: &[Option<usize>],
@@ -131,21 +131,21 @@ pub fn source_codes(
     Ok(row)
 }
 
-/// A place of the writer, while its fields lie in the boxes.
+/// A place of the writer whose fields are in the slots.
 #[derive(Clone, Copy)]
 pub struct WriterPlace<'a> {
     pub place: u32,
     /// its fields, if it is a record
     pub fields: Fields<'a>,
-    /// where they lie
     pub slots: &'a [Option<usize>],
     /// the reader's fields that have aliases
     pub aliased_fields: AliasedFields<'a>,
-    /// whence each of these is read of the writer's place: a place and one, or 0 for none
+    /// the source codes of these fields at this place
     pub entries: &'a [u16],
 }
 
-/// If the number is this field's: the place of its source's type, if any, and what is asked of it.
+/// If the field has this number: the place of its source's type, if it has a source, and the field.
+/// Otherwise `None`.
 fn known_source<'a>(
     row: &WriterPlace<'a>,
     number: usize,

@@ -1,9 +1,9 @@
-//! Resolution by recursion: an opened pair is assumed, until it turns out unsupported.
+//! Resolution by recursion: an opened pair is assumed, until it turns out to be unsupported.
 
 ghost use Rattle.std.specs.Prelude.{◌≡◌, map, slice_get, All, Any, IfOk, IsTrue, Some};
 ghost use Rattle.avro_nodes.specs.Nodes.{field_view, node_view};
 ghost use Rattle.avro_resolve.specs.Inside.Agreeing.{Agree};
-ghost use Rattle.avro_resolve.specs.Inside.IsReachable.{AreReachable, IsReachablePair, IsSourceReachable};
+ghost use Rattle.avro_resolve.specs.Inside.Reachable.{AreReachable, IsReachablePair, IsSourceReachable};
 ghost use Rattle.avro_resolve.specs.Inside.FieldSlots.{AreFieldSources};
 ghost use Rattle.avro_resolve.specs.Inside.Sides.{columns, rows};
 ghost use Rattle.avro_resolve.specs.Inside.Walking.{MayContinue, WalkAnswerHolds};
@@ -12,49 +12,48 @@ ghost use Rattle.avro_resolve.specs.Witnesses.{member, without};
 
 use crate::AllocResult;
 use crate::agreeing::agree;
-use crate::work_meter::WorkMeter;
 use crate::pair_set::PairSet;
 use crate::sides::Sides;
+use crate::work_meter::WorkMeter;
 use avro_nodes::{Field, Node};
 use std::alloc::Global;
 
-/// Whether a pair is supported, as far as the recursion goes.
+/// The recursion's answer for a pair.
 #[derive(Clone, Copy, Debug, PartialEq, Eq)]
 pub enum Answer {
-    /// by the assumed pairs
+    /// the assumed pairs support it
     Yes,
-    /// not by any that hasn't failed
+    /// the set of all pairs except the failed ones doesn't support it
     No,
-    /// not known: too many pairs were open, or too many had been opened
+    /// unknown: too many pairs were open at once, or the work reached its limit
     Unfinished,
 }
 
-/// An answer, unless memory for it is refused.
+/// An answer, or the error that allocation failed.
 pub type AnswerResult = AllocResult<Answer>;
 
-/// The pairs that were opened.
+/// The state of the recursion.
 #[derive(Drop)]
 pub struct Walk {
     pub alloc: Global,
-    /// those that are assumed, in the order in which they were opened
+    /// the assumed pairs, in the order in which they were opened
     pub assumed: Vec<(u16, u16)>,
-    /// those that have failed, in order
+    /// the failed pairs, in the order in which they failed
     pub failed: Vec<(u16, u16)>,
-    /// the assumed ones, as a set
+    /// the assumed pairs, as a set
     pub assumed_set: PairSet,
-    /// the failed ones, as a set
+    /// the failed pairs, as a set
     pub failed_set: PairSet,
-    /// how many pairs were opened
+    /// how many pairs were opened; a pair that is opened again counts again
     pub visits: u128,
-    /// what was looked at for them
     pub meter: WorkMeter,
 }
 
-/// The most work once a thousand pairs were opened. Beyond it elimination takes less, since it
-/// examines each pair once, and the recursion as often as it takes the pair back.
+/// The work limit, once a thousand pairs were opened. Beyond it elimination is cheaper: it examines
+/// each pair once, the recursion as often as its assumption is withdrawn.
 const MAX_WORK: u64 = 4_000_000;
 
-/// The most pairs that are open at once.
+/// The maximum number of pairs that are open at once.
 const MAX_OPEN: usize = 1000;
 
 /// Whether the pair is assumed, or is supported if it is opened and assumed.

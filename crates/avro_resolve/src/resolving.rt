@@ -8,20 +8,20 @@ ghost use Rattle.avro_resolve.specs.Verdicts.{is_resolved};
 ghost use Rattle.avro_resolve.specs.Witnesses.{HasClosedSet, HasRefutation, Pair};
 
 use crate::elimination::largest_closed;
-use crate::work_meter::WorkMeter;
 use crate::pair_set::PairSet;
 use crate::recursion::{Answer, Walk, ask};
 use crate::sides::Sides;
+use crate::work_meter::WorkMeter;
 use avro_nodes::OutOfMemory;
 use avro_schema::Schema;
 use std::alloc::Global;
 
-/// What `resolves` answers.
+/// The result of `resolves`.
 #[derive(Clone, Copy, Debug, PartialEq, Eq)]
 pub struct Verdict {
     /// whether the writer's schema resolves with the reader's
     pub yes: bool,
-    /// how many pairs of places were opened
+    /// how many pairs of places the recursion opened
     pub visits: u128,
 }
 
@@ -40,10 +40,12 @@ pub fn resolves_plain(alloc: Global, writer: &Schema, reader: &Schema) -> Result
 
 /// Whether the writer's schema resolves with the reader's (Avro 1.11 specification, Schema
 /// Resolution), and how many pairs were opened: at most the square of the number of pairs that the
-/// roots reach. A small number comes with a small witness: a closed set, or a list that refutes the
-/// roots. Elimination answers if more than a thousand pairs would be open at once, or if the work
-/// exceeds four million after a thousand opened pairs. An opened pair counts for eight; asking for
-/// a pair, and each field, alias and symbol examined, counts for one.
+/// roots reach. If fewer than a thousand were opened, a small witness exists: a closed set for a
+/// yes, a list that refutes the roots for a no.
+///
+/// Elimination decides if more than a thousand pairs would be open at once, or if the work reaches
+/// four million after a thousand opened pairs. Opening a pair counts for eight. Each request for a
+/// pair, and each field, alias and symbol examined, counts for one.
 ///
 /// # Errors
 ///
@@ -57,7 +59,7 @@ pub fn resolves(alloc: Global, writer: &Schema, reader: &Schema) -> Result<Verdi
         → HasRefutation (nodes_view writer.now) (nodes_view reader.now) v.visits) }
     ensures reached { IfOk result (λ v. (ps : List Pair) → AreReached (nodes_view writer.now) (nodes_view reader.now) ps
         → v.visits ≤ length ps * length ps) }
-    // the pairs that the roots reach are in each list that holds what is asked
+    // each such list contains all pairs that the roots reach
     ensures at_most { IfOk result (λ v. (ps : List Pair) → ContainsAsked (nodes_view writer.now) (nodes_view reader.now) ps
         → v.visits ≤ length ps * length ps) }
 {
@@ -83,15 +85,15 @@ pub fn resolves(alloc: Global, writer: &Schema, reader: &Schema) -> Result<Verdi
     Ok(Verdict { yes, visits })
 }
 
-/// Every schema resolves with itself: a law of the rules. The closed set has the pairs of each place
-/// with itself, and of each branch with its union.
+/// A law of the rules: every schema resolves with itself. The closed set has the pairs of each
+/// place with itself, and of each branch with its union.
 pub fn resolves_itself(schema: &Schema)
     ensures { Resolves (nodes_view schema.now) (nodes_view schema.now) }
 {
     let _places = schema.places();
 }
 
-/// Resolution can be computed, for any two lists of nodes: a law of the rules.
+/// A law of the rules: resolution can be computed, for any two lists of nodes.
 pub fn resolution_is_decided()
     ensures { (w r : List NodeView) → IsTrue (is_resolved w r) ↔ Resolves w r }
 {}

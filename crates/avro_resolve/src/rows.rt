@@ -1,5 +1,5 @@
-//! Passes over all pairs of places, row by row: first what two nodes say by themselves, then what
-//! they ask of other pairs, while the fields of the row are indexed.
+//! Two passes over all pairs of places, row by row. The first compares the two nodes by themselves.
+//! The second checks the pairs that a pair depends on, with the row's fields in the slots.
 
 ghost use Rattle.std.specs.Prelude.{◌<◌, ◌≡◌, false, length, slice_get, IfOk, OnOk, Some, ℕ};
 ghost use Rattle.avro_nodes.specs.Nodes.{NodeView};
@@ -22,16 +22,17 @@ use crate::table::Table;
 use avro_nodes::Node;
 use std::alloc::Global;
 
-/// How far the striking out has come.
+/// The state of the elimination.
 #[derive(Drop)]
 pub struct Progress {
-    /// the pairs that are left
+    /// the remaining pairs
     pub table: Table,
-    /// the pairs that were struck out and aren't yet told to those that ask for them
+    /// the worklist: eliminated pairs that aren't propagated to their dependents yet
     pub eliminated: Vec<(u16, u16)>,
 }
 
-/// Strikes the pair out and lists it, if it is left. What is left doesn't support it.
+/// If the pair remains, eliminates it and puts it on the worklist. The remaining pairs must not
+/// support it.
 pub fn eliminate_pair(sides: &Sides, i: u32, j: u32, progress: &mut Progress) -> AllocResult<()>
     requires rest { HasAgreedRemainder sides.now progress.old }
     requires i_in { i < length sides.now.writer.schema.now }
@@ -49,7 +50,7 @@ pub fn eliminate_pair(sides: &Sides, i: u32, j: u32, progress: &mut Progress) ->
     Ok(())
 }
 
-/// Strikes out all pairs whose nodes don't agree.
+/// Eliminates all pairs whose nodes disagree.
 pub fn eliminate_disagreeing(alloc: Global, sides: &Sides, table: &mut Table) -> AllocResult<()>
     requires sides { IsSides sides.now }
     requires rest { IsRemainder (rows sides.now) (columns sides.now) table.old }
@@ -72,7 +73,8 @@ pub fn eliminate_disagreeing(alloc: Global, sides: &Sides, table: &mut Table) ->
     Ok(())
 }
 
-/// Eliminates the pairs of a writer's union with each place with which this branch of it isn't left.
+/// Eliminates the pair of a writer's union with each of the reader's places with which this branch
+/// was eliminated.
 pub fn eliminate_by_branch(
     sides: &Sides,
     union: u32,
@@ -95,7 +97,7 @@ pub fn eliminate_by_branch(
     Ok(())
 }
 
-/// Examines all pairs of a row, and eliminates those that the rest doesn't support.
+/// Examines all pairs of a row, and eliminates those that the remaining pairs don't support.
 fn examine_row(sides: &Sides, row: &WriterPlace, progress: &mut Progress) -> AllocResult<()>
     requires row { IsWriterPlace sides.now row.now }
     requires rest { HasAgreedRemainder sides.now progress.old }
@@ -117,8 +119,8 @@ fn examine_row(sides: &Sides, row: &WriterPlace, progress: &mut Progress) -> All
     Ok(())
 }
 
-/// Examines all rows, from the first, since most references are to earlier definitions. Returns the
-/// sources of these reader's fields by the writer's places.
+/// Examines all rows, from the first on, since most references are to earlier definitions. Returns
+/// the source codes of the reader's fields with aliases, for each of the writer's places.
 pub fn examine_all(
     alloc: Global,
     sides: &Sides,

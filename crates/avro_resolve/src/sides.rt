@@ -1,4 +1,4 @@
-//! The two schemas of a resolution, with the ranks of their names matched.
+//! The two schemas of a resolution, and the map from the writer's name ranks to the reader's.
 
 ghost use Rattle.std.specs.Prelude.{◌<◌, ◌^◌, ◌≡◌, ◌≢◌, ◌≤◌, [], get_or, length, map, slice_get, All, IfOk, MatchOption, Some, ℕ};
 ghost use Rattle.std.specs.Cmp.Lexicographic.{slice_cmp};
@@ -16,7 +16,8 @@ use avro_schema::{FieldRanks, Index, Ranks, Schema};
 use std::alloc::Global;
 use std::cmp::Ordering;
 
-/// For each of the writer's names its rank among the reader's, if the reader has it.
+/// For each of the writer's names its rank among the reader's names, or `None` if the reader lacks
+/// it.
 #[derive(Drop)]
 pub struct RankMap {
     pub ranks: Vec<Option<u32>>,
@@ -24,7 +25,7 @@ pub struct RankMap {
     pub known: Vec<bool>,
 }
 
-/// For each of so many ranks whether it is one of these.
+/// For each rank below `count`, whether it is one of these.
 fn known_of(alloc: Global, ranks: &[Option<u32>], count: usize) -> AllocResult<Vec<bool>>
     requires { (k rank : ℕ) → mapped_rank ranks.now k ≡ Some rank → rank < count }
     ensures { IfOk result (λ v. IsKnown ranks.now v.items) }
@@ -38,8 +39,8 @@ fn known_of(alloc: Global, ranks: &[Option<u32>], count: usize) -> AllocResult<V
     Ok(known)
 }
 
-/// The first rank from one on whose name isn't below this one, or the number of names; and that
-/// rank again if it is of this name.
+/// The first rank, at or after `from`, of a name that isn't less than this one, or the number of
+/// names. Also that rank if the name is equal, else `None`.
 fn first_from(names: &[String], from: usize, name: &str) -> (usize, Option<u32>)
     requires few { length names.now < 2 ^ 32 }
     requires from { from ≤ length names.now }
@@ -67,7 +68,7 @@ impl RankMap {
     ghost use Rattle.avro_schema.specs.Index.{AreIndexNames};
     ghost use Rattle.avro_resolve.specs.Inside.RankMaps.{mapped_rank, AreMapped, IsKnown};
 
-    /// Meets the names: both lists are walked once, side by side.
+    /// Maps the ranks, in one pass over both sorted lists of names.
     pub fn of(alloc: Global, writer: &[String], reader: &[String]) -> AllocResult<RankMap>
         requires writer { AreIndexNames (texts_view writer.now) }
         requires reader { AreIndexNames (texts_view reader.now) }
@@ -85,7 +86,7 @@ impl RankMap {
         Ok(RankMap { ranks, known })
     }
 
-    /// The reader's rank of a writer's name, if the reader has the name.
+    /// The reader's rank of a writer's name, or `None` if the reader lacks the name.
     pub fn rank(&self, rank: u32) -> Option<u32>
         ensures { result ≡ mapped_rank self.now.ranks.items rank }
     {
@@ -126,7 +127,6 @@ pub struct Fields<'a> {
 }
 
 impl<'a> Side<'a> {
-    /// The side of a schema.
     fn of(schema: &'a Schema) -> Side<'a>
         ensures side { IsSide result }
         ensures schema { result.schema.now ≡ schema.now }
@@ -151,7 +151,7 @@ impl<'a> Side<'a> {
         self.schema.node(place)
     }
 
-    /// The names of the node at a place, by their ranks.
+    /// The ranks of the names of the node at a place.
     pub fn ranks(&self, place: u32) -> &Ranks
         requires side { IsSide self.now }
         requires within { place < length (nodes_of self.now) }
@@ -161,7 +161,7 @@ impl<'a> Side<'a> {
         &self.index.ranks[place as usize]
     }
 
-    /// The fields of the node at a place, if it is a record, and none otherwise.
+    /// The fields of the node at a place, or none if it isn't a record.
     pub fn fields(&self, place: u32) -> Fields<'_>
         requires side { IsSide self.now }
         requires within { place < length self.now.schema.now }
@@ -185,7 +185,7 @@ impl<'a> Side<'a> {
 }
 
 impl<'a> Sides<'a> {
-    /// The sides of two schemas, with their names met.
+    /// Both sides, with the map of their name ranks.
     pub fn of(alloc: Global, writer: &'a Schema, reader: &'a Schema) -> AllocResult<Sides<'a>>
         ensures sides { IfOk result (λ s. IsSides s) }
         ensures writer { IfOk result (λ s. s.writer.schema.now ≡ writer.now) }

@@ -1,4 +1,4 @@
-//! Whether the pairs that are left support a pair.
+//! Whether the remaining pairs support a pair.
 
 ghost use Rattle.std.specs.Prelude.{◌<◌, ◌↔◌, All, Any, IsTrue};
 ghost use Rattle.avro_resolve.specs.Inside.Remaining.{remains, Agreed};
@@ -11,7 +11,7 @@ use crate::sides::Sides;
 use crate::table::Table;
 use avro_nodes::Node;
 
-/// Whether the writer's place is left with some branch of the reader's union at j. Branches before
+/// Whether the writer's place remains with some branch of the reader's union at j. Branches before
 /// the hint were eliminated earlier and never come back, so the scan resumes at the hint.
 pub fn any_remaining(i: u32, j: u32, places: &[u32], table: &Table) -> bool
     requires within { All (λ p. p < table.now.readers) places.now }
@@ -32,8 +32,8 @@ pub fn any_remaining(i: u32, j: u32, places: &[u32], table: &Table) -> bool
     (0..from).any(|at| table.has(i, places[at]))
 }
 
-/// Whether what is left supports a pair whose nodes agree, by the first case that fits (Avro 1.11
-/// specification, Schema Resolution).
+/// Whether the remaining pairs support a pair whose nodes agree, by the first case that fits (Avro
+/// 1.11 specification, Schema Resolution).
 pub fn supports(sides: &Sides, row: &WriterPlace, j: u32, table: &Table) -> bool
     requires over { IsPairInTable sides.now row.now table.now j }
     requires agreed { Agreed (rows sides.now) (columns sides.now) row.now.place j }

@@ -1,4 +1,4 @@
-//! The pairs of places that are left.
+//! The remaining pairs of places.
 
 ghost use Rattle.std.specs.Prelude.{◌*◌, ◌<◌, ◌≡◌, ◌≤◌, false, vec_len, IsTrue, ℕ};
 
@@ -6,7 +6,7 @@ use crate::AllocResult;
 use std::alloc::Global;
 use std::cell::Cell;
 
-/// How many of the reader's places are looked at in one step.
+/// How many of the reader's places `next_difference` compares in one step.
 const BLOCK: usize = 64;
 
 /// A set of pairs of places, the writer's first: one flag a pair. If the reader has unions, a pair
@@ -24,7 +24,7 @@ impl Table {
     ghost use Rattle.std.specs.Prelude.{ℕ, ◌≡◌, ◌+◌, ◌^◌, ◌<◌, IfOk, IsTrue, ◌==◌, ◌&&◌, if◌then◌else◌, false};
     ghost use Rattle.avro_resolve.specs.Inside.Remaining.{remains, count_remaining, SameShape};
 
-    /// All pairs of so many places of the writer and of the reader, with hints or without.
+    /// All pairs of these numbers of places, with hints or without.
     pub fn all(alloc: Global, writers: usize, readers: usize, hinted: bool) -> AllocResult<Table>
         requires { writers * readers < 2 ^ 64 }
         ensures writers { IfOk result (λ t. t.writers ≡ writers) }
@@ -43,7 +43,7 @@ impl Table {
         })
     }
 
-    /// Whether the pair is left.
+    /// Whether the pair remains.
     pub fn has(&self, i: u32, j: u32) -> bool
         requires i_in { i < self.now.writers }
         requires j_in { j < self.now.readers }
@@ -52,7 +52,7 @@ impl Table {
         self.flags[i as usize * self.readers + j as usize]
     }
 
-    /// Whether a pair of row i and one of these columns is left, and that of row k isn't.
+    /// Whether some column from `from` to `to` remains in row i and not in row k.
     fn has_difference(&self, i: u32, k: u32, from: usize, to: usize) -> bool
         requires i_in { i < self.now.writers }
         requires k_in { k < self.now.writers }
@@ -67,7 +67,8 @@ impl Table {
         apart
     }
 
-    /// The first column from one on whose pair is left in row i and not in row k, or their number.
+    /// The first column at or after `from` that remains in row i and not in row k, or the number of
+    /// columns.
     pub fn next_difference(&self, i: u32, k: u32, from: usize) -> usize
         requires i_in { i < self.now.writers }
         requires k_in { k < self.now.writers }
@@ -93,7 +94,7 @@ impl Table {
         self.readers
     }
 
-    /// Where it stands at which branch of a reader's union to look first, if the reader has unions.
+    /// The index of the branch to check first, or `None` if the reader has no unions.
     pub fn hint(&self, i: u32, j: u32) -> Option<&Cell<u16>>
         requires i_in { i < self.now.writers }
         requires j_in { j < self.now.readers }
@@ -101,7 +102,7 @@ impl Table {
         self.hints.get(i as usize * self.readers + j as usize)
     }
 
-    /// Strikes the pair out.
+    /// Eliminates the pair.
     pub fn eliminate(&mut self, i: u32, j: u32)
         requires i_in { i < self.old.writers }
         requires j_in { j < self.old.readers }

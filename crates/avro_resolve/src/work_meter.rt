@@ -1,4 +1,4 @@
-//! What the recursion looks at, beside the pairs that it opens.
+//! Counts the recursion's work, and finds the sources of a record's fields.
 
 use crate::AllocResult;
 use crate::field_slots::{clear_slots, field_sources, fill_slots};
@@ -7,13 +7,13 @@ use avro_nodes::Node;
 use std::alloc::Global;
 use std::marker::Model;
 
-/// What a pair counts for that is opened.
+/// The work of opening a pair.
 const PAIR: u64 = 8;
 
-/// How much work was done, and boxes that index a writer's fields, empty between calls.
+/// The work done so far, and the slots for a writer's fields, which are empty between calls.
 #[derive(Drop)]
 pub struct WorkMeter {
-    /// so much for each pair that was opened, and the lengths of the lists that were walked
+    /// `PAIR` for each opened pair, and 1 for each request, field, alias and symbol
     pub work: u64,
     slots: Vec<Option<usize>>,
 }
@@ -36,18 +36,19 @@ impl WorkMeter {
     ghost use Rattle.avro_resolve.specs.Inside.FieldSlots.{AreFieldSources};
     ghost use Rattle.avro_resolve.specs.Inside.Sides.{columns, rows, IsSides};
 
-    /// Nothing was looked at; the boxes are made where they are needed first.
+    /// No work; the slots are allocated at the first record.
     pub fn none(alloc: Global) -> WorkMeter {
         let slots = Vec::new(alloc);
         WorkMeter { work: 0, slots }
     }
 
-    /// Counts that it is asked for a pair, which may be known.
+    /// Counts a request for a pair, even if the result is known.
     pub fn count_one(&mut self) {
         self.work = self.work.saturating_add(1);
     }
 
-    /// Counts a comparison of two nodes. A reader's default makes comparing symbols needless.
+    /// Counts a comparison of two nodes. An enum's symbols aren't compared if the reader's has a
+    /// default.
     pub fn compare(&mut self, a: &Node, b: &Node) {
         let symbols = match (a, b) {
             (
@@ -63,7 +64,7 @@ impl WorkMeter {
         self.work = self.work.saturating_add(symbols).saturating_add(PAIR);
     }
 
-    /// For each field of a reader's record the place of its source's type, if it has a source.
+    /// For each field of a reader's record, the place of its source's type or `None`.
     pub fn sources(
         &mut self,
         alloc: Global,

@@ -1,5 +1,4 @@
--- The fields of a writer's record, laid in the boxes of the reader's ranks of their names, and the source of a reader's field among them (this
--- project's choice).
+-- The fields of a writer's record, in slots by the reader's ranks of their names, and the source of a reader's field (this project's choice).
 use Rattle.std.specs.Prelude.{◌≡◌, ◌⊎◌, ℕ, ◌<◌, ◌≤◌, ◌∷◌, [], List, Option, None, Some, IfSome, get_or, length, map, slice_get}
 use Rattle.avro_nodes.specs.Nodes.{FieldView, field_view}
 use Rattle.avro_schema.specs.declared.index.FieldRanks.{FieldRanks}
@@ -10,51 +9,51 @@ use Rattle.avro_resolve.specs.Asking.{source_place}
 use Rattle.avro_resolve.specs.Inside.RankMaps.{mapped_rank}
 use Rattle.avro_resolve.specs.Inside.Sides.{names_of, IsSides}
 
--- the ranks of the names of fields
+-- the name ranks of fields
 abbrev pub names_in : List FieldRanks → List ℕ
 names_in fields = map (λ f. f.name) fields
 
--- the field at the index has the name of the reader's rank
+-- the name of the field at the index has this rank of the reader's
 abbrev pub HasName : List (Option ℕ) → List ℕ → ℕ → ℕ → Type 0
 HasName rank_map names k rank = (name : ℕ) × (slice_get names k ≡ Some name) × (mapped_rank rank_map name ≡ Some rank)
 
--- it is the first from an index on that has it
+-- it is the first such field at or after an index
 abbrev pub IsFirst : List (Option ℕ) → List ℕ → ℕ → ℕ → ℕ → Type 0
 IsFirst rank_map names n k rank = HasName rank_map names k rank × ((j : ℕ) → n ≤ j → j < k → HasName rank_map names j rank → ⊥)
 
--- no field has the name
+-- no field has a name of this rank
 abbrev pub NoField : List (Option ℕ) → List ℕ → ℕ → Type 0
 NoField rank_map names rank = (k : ℕ) → HasName rank_map names k rank → ⊥
 
--- what lies in the box of a rank
+-- the content of the slot of a rank
 abbrev pub slot : List (Option ℕ) → ℕ → Option ℕ
 slot slots rank = get_or slots rank None
 
--- the fields from an index on lie in the boxes of their names, the first of each name, and nothing else does
+-- the slots have the fields from an index on, the first of each name, and nothing else
 pub record AreInSlots (rank_map : List (Option ℕ)) (names : List ℕ) (n : ℕ) (slots : List (Option ℕ)) : Type 0 where
   pub found : (rank k : ℕ) → slot slots rank ≡ Some k → (n ≤ k) × IsFirst rank_map names n k rank
   pub none : (rank k : ℕ) → rank < length slots → slot slots rank ≡ None → n ≤ k → HasName rank_map names k rank → ⊥
 
--- of two sides: the fields of a writer's place lie in the boxes of all the reader's names
+-- with two sides: the slots, one for each of the reader's names, have the fields of a writer's place
 pub record AreFieldsInSlots (sides : Sides) (fields : Fields) (slots : List (Option ℕ)) : Type 0 where
   pub both : IsSides sides
   pub ranked : AreFieldsRanked (names_of sides.writer) (map field_view fields.fields.now) fields.ranks.now
   pub in_slots : AreInSlots sides.rank_map.ranks.items (names_in fields.ranks.now) 0 slots
   pub room : length (names_of sides.reader) ≤ length slots
 
--- nothing lies there
+-- all slots are empty
 abbrev pub IsClear : List (Option ℕ) → Type 0
 IsClear slots = (rank k : ℕ) → slot slots rank ≡ Some k → ⊥
 
--- each rank that is met has a box
+-- each mapped rank has a slot
 abbrev pub HasSlots : List (Option ℕ) → List (Option ℕ) → Type 0
 HasSlots slots rank_map = (name rank : ℕ) → mapped_rank rank_map name ≡ Some rank → rank < length slots
 
--- the first field that has the first of the names that a field has, or none, if no field has one of them
+-- the first field with the first of these names that any field has, or `None` if no field has one of the names
 abbrev pub IsSource : List (Option ℕ) → List ℕ → List ℕ → Option ℕ → Type 0
 IsSource rank_map names [] source = source ≡ None
 IsSource rank_map names (rank ∷ ranks) source = IfSome source (λ k. IsFirst rank_map names 0 k rank) × (source ≡ None → ⊥) ⊎ NoField rank_map names rank × IsSource rank_map names ranks source
 
--- for each of the reader's fields the place of the type of its source among the writer's, if it has one
+-- for each of the reader's fields the place of the type of its source, or `None` without a source
 abbrev pub AreFieldSources : List FieldView → List FieldView → List (Option ℕ) → Type 0
 AreFieldSources fields wanted places = places ≡ map (source_place fields) wanted

@@ -1,16 +1,16 @@
--- Lists that stand at places (this project's choice).
+-- A list for each place (this project's choice).
 use Rattle.std.specs.Prelude.{◌≡◌, ◌⊎◌, ℕ, List, [], Contains, length, map, slice_index_or, Vec}
 use Rattle.std.specs.declared.alloc.Global.{Global}
 
--- the list that stands at a place, and none past the last
+-- the list of a place, or the empty list past the last place
 unfoldable pub list_at : {X : Type 0} → List (Vec X Global) → ℕ → List X
 list_at {X} lists place = slice_index_or (map (λ (v : Vec X Global). v.items) lists) place []
 
--- whether it stands in the list of the place
+-- the list of the place contains the item
 abbrev pub IsListedAt : {X : Type 0} → List (Vec X Global) → X → ℕ → Type 0
 IsListedAt lists x place = Contains (list_at lists place) x
 
--- only such were added to the lists of such places
+-- only such items were added to the lists of such places
 pub record OnlyAdds {X : Type 0} (Such : X → ℕ → Type 0) (old new : List (Vec X Global)) : Type 0 where
   pub long : length new ≡ length old
   pub kept : (x : X) (place : ℕ) → IsListedAt old x place → IsListedAt new x place

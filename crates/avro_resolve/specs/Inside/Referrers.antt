@@ -1,4 +1,4 @@
--- What asks for a place: unions for their branches, and what refers to it by a label.
+-- The nodes that refer to a place: unions that have it as a branch, and arrays, maps and records by labels.
 use Rattle.std.specs.Prelude.{◌≡◌, ◌⊎◌, ℕ, ◌+◌, ◌<◌, List, [], All, Contains, Option, None, Some, length, option_map, slice_get, Vec}
 use Rattle.std.specs.Borrow.{Bor}
 use Rattle.std.specs.List.Sorted.{IsNonDecreasingBy}
@@ -19,7 +19,7 @@ use Rattle.avro_resolve.specs.Inside.RankMaps.{mapped_rank}
 use Rattle.avro_resolve.specs.Inside.Sides.{columns, names_of, rows}
 use Rattle.avro_resolve.specs.Inside.Sources.{code_at, AreSources}
 
--- where the node is a union, its place stands in the list of each branch
+-- if the node is a union, its place is in the list of each branch
 abbrev pub IsUnionListed : List (Vec ℕ Global) → ℕ → NodeView → Type 0
 IsUnionListed lists i (union branches) = All (IsListedAt lists i) branches
 IsUnionListed lists i (primitive k _) = Unit {0}
@@ -39,7 +39,7 @@ HasBranch (enumeration named symbols fallback _) place = ⊥
 HasBranch (fixed named size _) place = ⊥
 HasBranch (rec named fields _) place = ⊥
 
--- the lists have each union for each of its branches, and nothing else
+-- the list of each place has exactly the unions that have the place as a branch
 pub record HasUnions (nodes : List NodeView) (lists : List (Vec ℕ Global)) : Type 0 where
   pub long : length lists ≡ length nodes
   pub within : (i place : ℕ) → IsListedAt lists i place → i < length nodes
@@ -51,38 +51,38 @@ pub record AreUnions (nodes : List NodeView) (unions : List ℕ) : Type 0 where
   pub within : All (λ i. i < length nodes) unions
   pub all : (i : ℕ) (branches : List ℕ) → slice_get nodes i ≡ Some (union branches) → Contains unions i
 
--- the node at the place is no union
+-- the node at the place isn't a union
 abbrev pub IsNoUnion : List NodeView → ℕ → Type 0
 IsNoUnion nodes i = (branches : List ℕ) → slice_get nodes i ≡ Some (union branches) → ⊥
 
--- the link has the label, and refers in this way
+-- the link has the label and the kind
 abbrev pub HasLabel : ℕ → LinkKind → Link → Type 0
 HasLabel label kind x = (x.label ≡ label) × (x.kind ≡ kind)
 
--- the link has the label, and is of an alias of the record's field of this index
+-- the link has the label, and is by an alias of the record's field at this index
 abbrev pub IsAlias : List Aliased → ℕ → ℕ → ℕ → Link → Type 0
 IsAlias aliased referrer index label x = (number : ℕ) × HasLabel label (ByAlias number) x × (slice_get aliased number ≡ Some (record { place = referrer; index = index }))
 
--- the asker refers to the place by such a link
+-- the referrer refers to the place by such a link
 abbrev pub LinkedBy : (Link → Type 0) → List (Vec Link Global) → ℕ → ℕ → Type 0
 LinkedBy Such lists referrer place = (x : Link) × Such x × (x.referrer ≡ referrer) × IsListedAt lists x place
 
--- The label of a field's own name: of a writer's field the rank that the reader has for it, if it has one, of a reader's its own rank. For a
--- writer it is told which ranks the reader has for its names, and for a reader nothing.
+-- The label of a field's own name. For a writer, given its rank map: the reader's rank of the name, if the reader has it. For a reader, without a
+-- rank map: the rank itself.
 abbrev pub own_label : Option (List (Option ℕ)) → ℕ → Option ℕ
 own_label None rank = Some rank
 own_label (Some rank_map) rank = mapped_rank rank_map rank
 
--- the labels of its aliases, for which a reader's field looks too
+-- the labels of a field's aliases: only a reader's field has such
 abbrev pub alias_labels : Option (List (Option ℕ)) → List ℕ → List ℕ
 alias_labels None ranks = ranks
 alias_labels (Some rank_map) ranks = []
 
--- the ranks that the reader has for a writer's names
+-- the reader's ranks of the writer's names
 abbrev pub ranks_of : Option (Bor RankMap) → Option (List (Option ℕ))
 ranks_of rank_map = option_map (λ m. m.now.ranks.items) rank_map
 
--- the asker refers to the type of its field by each label of the field
+-- the referrer refers to the type of its field by each label of the field
 pub record IsFieldLinked (rank_map : Option (List (Option ℕ))) (links : Links) (referrer index place : ℕ) (ranks : FieldRanks) : Type 0 where
   pub own : (label : ℕ) → own_label rank_map ranks.name ≡ Some label → LinkedBy (HasLabel label ByName) links.lists.items referrer place
   pub aliases : All (λ label. LinkedBy (IsAlias links.aliased.items referrer index label) links.lists.items referrer place) (alias_labels rank_map ranks.aliases.items)
@@ -91,7 +91,7 @@ pub record IsFieldLinked (rank_map : Option (List (Option ℕ))) (links : Links)
 abbrev pub AreFieldsLinked : Option (List (Option ℕ)) → Links → ℕ → List FieldView → List FieldRanks → Type 0
 AreFieldsLinked rank_map links referrer fields ranks = (index : ℕ) (f : FieldView) (x : FieldRanks) → slice_get fields index ≡ Some f → slice_get ranks index ≡ Some x → IsFieldLinked rank_map links referrer index f.place x
 
--- the place of an array's items or of a map's values
+-- the place of an array's items or of a map's values, or `None` for another node
 abbrev pub element_place : NodeView → Option ℕ
 element_place (primitive k _) = None
 element_place (array place _) = Some place
@@ -101,70 +101,70 @@ element_place (enumeration named symbols fallback _) = None
 element_place (fixed named size _) = None
 element_place (rec named fields _) = None
 
--- The asker refers to what its node is made of: to items and values by the label 0, to the types of fields by their names, of which these are the
--- ranks.
+-- The referrer refers to the parts of its node: to items and values by the label 0, and to the types of fields by the labels of the fields, whose
+-- name ranks are given.
 pub record IsNodeLinked (names : List (List ℕ)) (rank_map : Option (List (Option ℕ))) (links : Links) (referrer : ℕ) (a : NodeView) (ranks : List FieldRanks) : Type 0 where
   pub contained : (place : ℕ) → element_place a ≡ Some place → LinkedBy (HasLabel 0 ByElement) links.lists.items referrer place
   pub ranked : AreFieldsRanked names (fields_of a) ranks
   pub fields : AreFieldsLinked rank_map links referrer (fields_of a) ranks
 
--- the same for a node
+-- the same for some name ranks
 abbrev pub IsPlaceLinked : List (List ℕ) → Option (List (Option ℕ)) → Links → ℕ → NodeView → Type 0
 IsPlaceLinked names rank_map links referrer a = (ranks : List FieldRanks) × IsNodeLinked names rank_map links referrer a ranks
 
--- The field of this index gives its record such a link: by its own name, whose label this is, or by an alias, with the number of the field.
+-- The field at this index gives its record a link of this kind: by its own name, if the label is its, or by an alias, with the field's number.
 abbrev pub GivenBy : Option (List (Option ℕ)) → List Aliased → ℕ → FieldRanks → Link → LinkKind → Type 0
 GivenBy rank_map numbered index ranks x ByElement = ⊥
 GivenBy rank_map numbered index ranks x ByName = own_label rank_map ranks.name ≡ Some x.label
 GivenBy rank_map numbered index ranks x (ByAlias number) = slice_get numbered number ≡ Some (record { place = x.referrer; index = index })
 
--- one of these fields has the type at the place, and gives such a link
+-- one of these fields has its type at the place, and gives such a link
 abbrev pub IsOfField : Option (List (Option ℕ)) → List Aliased → List FieldView → List FieldRanks → Link → ℕ → Type 0
 IsOfField rank_map numbered fields ranks x place = (index : ℕ) × (f : FieldView) × (y : FieldRanks) × (slice_get fields index ≡ Some f) × (slice_get ranks index ≡ Some y) × (f.place ≡ place) × GivenBy rank_map numbered index y x x.kind
 
--- the node gives such a link to the place: it contains it, or a field of it does
+-- the node has such a link to the place: by its items or values, or by a field
 abbrev pub IsOfNode : List (List ℕ) → Option (List (Option ℕ)) → List Aliased → NodeView → Link → ℕ → Type 0
 IsOfNode names rank_map numbered a x place = ((x.kind ≡ ByElement) × (element_place a ≡ Some place)) ⊎ ((ranks : List FieldRanks) × AreFieldsRanked names (fields_of a) ranks × IsOfField rank_map numbered (fields_of a) ranks x place)
 
--- only such links were added to the lists of such places, each field that has a number keeps it, and the lists of unions are the same
+-- only such links were added to the lists of such places, each numbered field keeps its number, and the lists of unions are unchanged
 pub record OnlyAddsLinks (Such : Link → ℕ → Type 0) (old new : Links) : Type 0 where
   pub adds : OnlyAdds Such old.lists.items new.lists.items
   pub kept : (number : ℕ) (field : Aliased) → slice_get old.aliased.items number ≡ Some field → slice_get new.aliased.items number ≡ Some field
   pub unions : new.unions ≡ old.unions
 
--- the labels of each list don't fall
+-- each list is sorted by label
 abbrev pub AreSorted : List (Vec Link Global) → Type 0
 AreSorted lists = (place : ℕ) → IsNonDecreasingBy (λ (x : Link). x.label) (list_at lists place)
 
--- the lists have each asker for each place that it refers to, by each label, and nothing else
+-- the list of each place has a link for each reference to it, by each label, and no other link
 pub record HasLinks (names : List (List ℕ)) (rank_map : Option (List (Option ℕ))) (nodes : List NodeView) (links : Links) : Type 0 where
   pub within : (x : Link) (place : ℕ) → IsListedAt links.lists.items x place → x.referrer < length nodes
   pub sorted : AreSorted links.lists.items
   pub named : (i : ℕ) (a : NodeView) → slice_get nodes i ≡ Some a → IsPlaceLinked names rank_map links i a
   pub meant : (x : Link) (place : ℕ) → IsListedAt links.lists.items x place → (a : NodeView) → slice_get nodes x.referrer ≡ Some a → IsOfNode names rank_map links.aliased.items a x place
 
--- both for a side
-pub record HasReferrers (names : List (List ℕ)) (rank_map : Option (List (Option ℕ))) (nodes : List NodeView) (askers : Links) : Type 0 where
-  pub unions : HasUnions nodes askers.unions.items
-  pub links : HasLinks names rank_map nodes askers
+-- the unions and the links of a side
+pub record HasReferrers (names : List (List ℕ)) (rank_map : Option (List (Option ℕ))) (nodes : List NodeView) (side_links : Links) : Type 0 where
+  pub unions : HasUnions nodes side_links.unions.items
+  pub links : HasLinks names rank_map nodes side_links
 
--- of a writer and of a reader, whose fields look for their aliases too, with the sources of those that have aliases
+-- the references of both sides, with the source codes of the reader's fields that have aliases
 pub record AreReferrers (sides : Sides) (writer_links reader_links : Links) (table : List (Vec ℕ Global)) : Type 0 where
   pub writer : HasReferrers (names_of sides.writer) (Some sides.rank_map.ranks.items) (rows sides) writer_links
   pub reader : HasReferrers (names_of sides.reader) None (columns sides) reader_links
   pub sources : AreSources (rows sides) (columns sides) reader_links.aliased.items table
 
--- the ways go together: both places contain what they refer to, or have a field of one name, or the reader's field is read from the writer's place
+-- two links can match: both are by element, both are by name, or the source of the reader's aliased field has its type at the writer's place
 abbrev pub CanMatchLinks : List (Vec ℕ Global) → ℕ → ℕ → LinkKind → LinkKind → Type 0
 CanMatchLinks sources place referrer ByElement ByElement = Unit {0}
 CanMatchLinks sources place referrer ByName ByName = Unit {0}
 CanMatchLinks sources place referrer ByName (ByAlias number) = code_at sources referrer number ≡ place + 1
 CanMatchLinks sources place referrer _ _ = ⊥
 
--- the writer's place refers to the one, and the reader's to the other, such that their pair asks for the pair of these
+-- the pair of the two referrers may depend on the pair of the places to which the links refer
 abbrev pub MayDepend : List (Vec ℕ Global) → ℕ → Link → Link → Type 0
 MayDepend sources place x y = CanMatchLinks sources place x.referrer x.kind y.kind
 
--- the relation has the askers of each two such links of one label
+-- each two such links with the same label have their referrers in the relation
 abbrev pub Joins : List (Vec ℕ Global) → ℕ → (ℕ → ℕ → Type 0) → List Link → List Link → Type 0
 Joins sources place Looked xs ys = (x y : Link) → Contains xs x → Contains ys y → x.label ≡ y.label → MayDepend sources place x y → Looked x.referrer y.referrer

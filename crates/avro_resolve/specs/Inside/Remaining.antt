@@ -1,4 +1,4 @@
--- The pairs that a table has left.
+-- The pairs that remain in a table, and the invariant of elimination.
 use Rattle.std.specs.Prelude.{◌≡◌, ◌⊎◌, ℕ, ◌+◌, ◌*◌, List, [], ◌++◌, Bool, true, false, All, ◌&&◌, ◌||◌, length, ◌<◌, nat_lt, slice_get, slice_index_or, sum_by, IsTrue, MatchOption}
 use Rattle.avro_nodes.specs.Nodes.{NodeView}
 use Rattle.avro_resolve.specs.declared.rows.Progress.{Progress}
@@ -9,7 +9,7 @@ use Rattle.avro_resolve.specs.Inside.Agreeing.{Agree}
 use Rattle.avro_resolve.specs.Inside.Sides.{columns, rows, IsSides}
 use Rattle.avro_resolve.specs.Witnesses.{Pair, member, without, RefutesAfter, AreDistinct}
 
--- the flag of a pair, where the flags stand row by row
+-- the flag of a pair, in a list of flags row by row
 unfoldable pub flag : List Bool → ℕ → ℕ → ℕ → Bool
 flag flags readers i j = nat_lt j readers && slice_index_or flags (i * readers + j) false
 
@@ -30,7 +30,7 @@ pub record SameShape (old new : Table) : Type 0 where
   pub writers : new.writers ≡ old.writers
   pub readers : new.readers ≡ old.readers
 
--- The table has all pairs of the two schemas' places but those of a list of different pairs that refutes, in the order in which they were struck out.
+-- The table has all pairs of the two schemas' places except those of a refuting list: the distinct eliminated pairs, in the order of elimination.
 pub record IsRemainder (w r : List NodeView) (t : Table) : Type 0 where
   pub writers : t.writers ≡ length w
   pub readers : t.readers ≡ length r
@@ -44,79 +44,79 @@ pub record IsRemainder (w r : List NodeView) (t : Table) : Type 0 where
 abbrev pub Agreed : List NodeView → List NodeView → ℕ → ℕ → Type 0
 Agreed w r i j = MatchOption (slice_get w i) ⊥ (λ a. MatchOption (slice_get r j) ⊥ (λ b. Agree a b))
 
--- what is left after those pairs were struck out whose nodes don't agree
+-- the pairs that remain after at least those whose nodes disagree were eliminated
 pub record IsAgreedRemainder (w r : List NodeView) (t : Table) : Type 0 where
   pub rest : IsRemainder w r t
   pub agreed : (i j : ℕ) → i < length w → j < length r → IsTrue (remains t i j) → Agreed w r i j
 
--- the pairs that are left, and those that are listed: struck out, and not yet told to the pairs that ask for them
+-- the pairs that remain, and the queued ones: eliminated, but not yet propagated to their dependents
 abbrev pub remains_or_queued : Table → List Pair → Pairs
 remains_or_queued t ps i j = remains t i j || member ps i j
 
--- what is left or listed supports the pair, if it is left
+-- if the pair remains, the remaining and queued pairs support it
 abbrev pub StillSupported : List NodeView → List NodeView → Table → List Pair → ℕ → ℕ → Type 0
 StillSupported w r t ps i j = IsTrue (remains t i j) → Supports w r (remains_or_queued t ps) i j
 
 abbrev pub AllStillSupported : List NodeView → List NodeView → Table → List Pair → Type 0
 AllStillSupported w r t ps = (i j : ℕ) → i < length w → j < length r → StillSupported w r t ps i j
 
--- the pair of i and j is left only where that of the branch and j is left or listed
+-- the pair of i and j remains only if the pair of the branch and j remains or is queued
 abbrev pub NeedsBranch : Table → List Pair → ℕ → ℕ → ℕ → Type 0
 NeedsBranch t ps i branch j = IsTrue (remains t i j) → IsTrue (remains_or_queued t ps branch j)
 
--- no listed pair is left
+-- no queued pair remains
 abbrev pub AreEliminated : Table → List Pair → Type 0
 AreEliminated t ps = All (λ (p : Pair). remains t p.0 p.1 ≡ false) ps
 
--- some pairs were struck out, and each is listed
+-- some pairs were eliminated, and each was queued
 pub record QueuesEliminated (old : Table) (before : List Pair) (new : Table) (after : List Pair) : Type 0 where
   pub fewer : (i j : ℕ) → IsTrue (remains new i j) → IsTrue (remains old i j)
   pub remains_or_queued : (i j : ℕ) → IsTrue (remains_or_queued old before i j) → IsTrue (remains_or_queued new after i j)
   pub count : count_remaining new + length after ≡ count_remaining old + length before
   pub out : AreEliminated old before → AreEliminated new after
 
--- each pair of the one set is one of the other, or this pair
+-- the first set is a subset of the second, except for this pair
 abbrev pub WithinBut : ℕ → ℕ → Pairs → Pairs → Type 0
 WithinBut p q R S = (a b : ℕ) → IsTrue (R a b) → IsTrue (S a b) ⊎ ((a ≡ p) × (b ≡ q))
 
--- what supports the pair (i, j) does so without the pair (p, q)
+-- each set that supports the pair (i, j) does so without the pair (p, q)
 abbrev pub Ignores : List NodeView → List NodeView → ℕ → ℕ → ℕ → ℕ → Type 0
 Ignores w r i j p q = (R S : Pairs) → WithinBut p q R S → Supports w r R i j → Supports w r S i j
 
--- without the pair (p, q) nothing supports the pair (i, j)
+-- no set without the pair (p, q) supports the pair (i, j)
 abbrev pub DependsOn : List NodeView → List NodeView → ℕ → ℕ → ℕ → ℕ → Type 0
 DependsOn w r i j p q = (R : Pairs) → R p q ≡ false → Supports w r R i j → ⊥
 
--- ---- the same of how far the striking out has come, for the two sides of a resolution
+-- ---- the same for the state of an elimination, with the two sides
 
--- the sides, and what is left of their pairs after those were struck out whose nodes don't agree
+-- the two sides are valid, and the nodes of each remaining pair agree
 abbrev pub HasAgreedRemainder : Sides → Progress → Type 0
 HasAgreedRemainder sides p = IsSides sides × IsAgreedRemainder (rows sides) (columns sides) p.table
 
--- the same, and the pair that is told isn't left
+-- the same, and the popped pair is eliminated
 abbrev pub IsPopped : Sides → Progress → Pair → Type 0
 IsPopped sides p popped = HasAgreedRemainder sides p × (remains p.table popped.0 popped.1 ≡ false)
 
--- some pairs were struck out, which nothing left supports, and each is listed
+-- some unsupported pairs were eliminated, and each was queued
 abbrev pub Eliminates : Sides → Progress → Progress → Type 0
 Eliminates sides p q = IsAgreedRemainder (rows sides) (columns sides) q.table × QueuesEliminated p.table p.eliminated.items q.table q.eliminated.items
 
--- the pair is settled
+-- the pair is still supported
 abbrev pub IsStillSupported : Sides → Progress → ℕ → ℕ → Type 0
 IsStillSupported sides p i j = StillSupported (rows sides) (columns sides) p.table p.eliminated.items i j
 
--- each pair of a writer's place
+-- each pair of a writer's place is still supported
 abbrev pub IsRowStillSupported : Sides → Progress → ℕ → Type 0
 IsRowStillSupported sides p i = (j : ℕ) → j < length sides.reader.schema.now → IsStillSupported sides p i j
 
--- each pair
+-- each pair is still supported
 abbrev pub AreStillSupported : Sides → Progress → Type 0
 AreStillSupported sides p = AllStillSupported (rows sides) (columns sides) p.table p.eliminated.items
 
--- each pair, if those of a run count as listed
+-- each pair is still supported, if the pairs of a run count as queued
 abbrev pub AreStillSupportedBut : Sides → Progress → List Pair → Type 0
 AreStillSupportedBut sides p run = AllStillSupported (rows sides) (columns sides) p.table (p.eliminated.items ++ run)
 
--- the pairs are of one place of the writer, and none of them is left
+-- the pairs are of one of the writer's places, and none of them remains
 abbrev pub AreRun : Table → ℕ → List Pair → Type 0
 AreRun t row run = All (λ (p : Pair). (p.0 ≡ row) × (remains t p.0 p.1 ≡ false)) run

@@ -1,4 +1,4 @@
--- A writer's place, while its fields lie in the boxes (this project's choice).
+-- A writer's place whose fields are in the slots (this project's choice).
 use Rattle.std.specs.Prelude.{◌≡◌, ℕ, ◌<◌, List, All, Option, Some, length, map, slice_get}
 use Rattle.std.specs.List.{AllZip}
 use Rattle.avro_nodes.specs.Nodes.{FieldView, NodeView, field_view}
@@ -16,7 +16,7 @@ use Rattle.avro_resolve.specs.Inside.Sources.{Describes, IsSourceCode, IsReaderF
 abbrev pub row_fields : WriterPlace → List FieldView
 row_fields row = map field_view row.fields.fields.now
 
--- The fields are those of the writer's node at the place, lie in the boxes of the reader's names, and have the sources that the entries tell.
+-- The fields are those of the writer's node at the place, the slots have them, and the entries are the source codes of the reader's aliased fields.
 pub record IsWriterPlace (sides : Sides) (row : WriterPlace) : Type 0 where
   pub within : row.place < length sides.writer.schema.now
   pub are : (a : NodeView) → slice_get (rows sides) row.place ≡ Some a → row_fields row ≡ fields_of a
@@ -25,7 +25,7 @@ pub record IsWriterPlace (sides : Sides) (row : WriterPlace) : Type 0 where
   pub entries : AllZip (IsSourceCode (columns sides) (row_fields row)) row.aliased_fields.aliased.now row.entries.now
   pub wanted : AllZip (IsReaderField sides.reader) row.aliased_fields.aliased.now row.aliased_fields.wanted.now
 
--- with the sides and a table of their pairs, where a place of the reader's has a column
+-- the pair of the writer's place and the reader's place j is one of the table's, for these two sides
 pub record IsPairInTable (sides : Sides) (row : WriterPlace) (table : Table) (j : ℕ) : Type 0 where
   pub both : IsSides sides
   pub is : IsWriterPlace sides row
@@ -33,6 +33,6 @@ pub record IsPairInTable (sides : Sides) (row : WriterPlace) (table : Table) (j 
   pub readers : table.readers ≡ length sides.reader.schema.now
   pub within : j < table.readers
 
--- what reading a reader's field from the writer's place rests on: the place of the type of its source, if it has one, and what is asked of it
+-- the place of the type of the field's source, or `None` without a source, and the description of the field
 abbrev pub IsFieldSource : Sides → WriterPlace → Option ℕ → ReaderField → FieldView → Type 0
 IsFieldSource sides row source wanted f = (source ≡ source_place (row_fields row) f) × Describes (names_of sides.reader) wanted f

@@ -13,25 +13,25 @@ use Rattle.avro_resolve.specs.Inside.RankMaps.{AreMapped, IsKnown}
 abbrev pub nodes_of : Side → List NodeView
 nodes_of side = nodes_view side.schema.now
 
--- its names, by their ranks
+-- the names of the schema, by rank
 abbrev pub names_of : Side → List (List ℕ)
 names_of side = texts_view side.index.now.names.items
 
--- each named place is a node's, the index is that of the nodes, a place and one fit 16 bits, and each field is the one that its name finds
+-- each reference is to a node, the index is that of the nodes, a place plus 1 fits 16 bits, and each field of a record is its own source
 pub record IsSide (side : Side) : Type 0 where
   pub whole : IsSelfContained (nodes_of side)
   pub index : IsIndex (nodes_of side) side.index.now
   pub few : length side.schema.now < 65536
   pub own : (i : ℕ) (a : NodeView) → slice_get (nodes_of side) i ≡ Some a → All (λ f. source (fields_of a) f ≡ Some f) (fields_of a)
 
--- the nodes of the writer and those of the reader
+-- the writer's nodes are the rows of the pair table, the reader's nodes its columns
 abbrev pub rows : Sides → List NodeView
 rows sides = nodes_of sides.writer
 
 abbrev pub columns : Sides → List NodeView
 columns sides = nodes_of sides.reader
 
--- both are such, and their names are met
+-- both sides are valid, and their name ranks are mapped
 pub record IsSides (sides : Sides) : Type 0 where
   pub writer : IsSide sides.writer
   pub reader : IsSide sides.reader

@@ -1,4 +1,4 @@
--- The sources of a reader's fields that have aliases, by the writer's places (this project's choice).
+-- The sources of a reader's fields that have aliases, for each of the writer's places (this project's choice).
 use Rattle.std.specs.Prelude.{◌≡◌, ◌↔◌, ℕ, ◌+◌, List, Option, None, Some, IsSome, IsTrue, get_or, option_and_then, slice_get, IfSome, Vec}
 use Rattle.std.specs.List.{AllZip}
 use Rattle.std.specs.Option.{IsSomeAnd}
@@ -13,32 +13,32 @@ use Rattle.avro_resolve.specs.Inside.Agreeing.{fields_of}
 use Rattle.avro_resolve.specs.Inside.Lists.{list_at}
 use Rattle.avro_resolve.specs.Inside.Sides.{names_of, nodes_of}
 
--- a place and one, or 0 for none
+-- the place of the source's type plus 1, or 0 without a source
 abbrev pub source_code : Option ℕ → ℕ
 source_code None = 0
 source_code (Some place) = place + 1
 
--- the field that is meant
+-- the field at the index in the record at the place
 abbrev pub field_at : List NodeView → Aliased → Option FieldView
 field_at nodes aliased = option_and_then (λ a. slice_get (fields_of a) aliased.index) (slice_get nodes aliased.place)
 
--- it tells the source of the field, if there is such a field
+-- the number is the source code of the field, if the schema has this field
 abbrev pub IsSourceCode : List NodeView → List FieldView → Aliased → ℕ → Type 0
 IsSourceCode nodes fields aliased entry = (f : FieldView) → field_at nodes aliased ≡ Some f → entry ≡ source_code (source_place fields f)
 
--- it tells the place of the field's type, whether the field has a default, and the ranks of its names
+-- it has the place of the field's type, whether the field has a default, and the ranks of its names
 abbrev pub Describes : List (List ℕ) → ReaderField → FieldView → Type 0
 Describes names wanted f = (wanted.place ≡ f.place) × (IsTrue wanted.has_default ↔ IsSome f.value) × IsFieldRanked names f wanted.names.now
 
--- it tells that of some field, if it tells anything, and of the field that is meant, if there is such a field
+-- it describes some field unless it is `None`, and it describes the aliased field if the schema has this field
 pub record IsReaderField (side : Side) (aliased : Aliased) (wanted : Option ReaderField) : Type 0 where
   pub some : IfSome wanted (λ w. (f : FieldView) × Describes (names_of side) w f)
   pub known : (f : FieldView) → field_at (nodes_of side) aliased ≡ Some f → IsSomeAnd wanted (λ w. Describes (names_of side) w f)
 
--- those of all listed fields, for each of the writer's nodes
+-- the source codes of all aliased fields, for each of the writer's nodes
 abbrev pub AreSources : List NodeView → List NodeView → List Aliased → List (Vec ℕ Global) → Type 0
 AreSources w r aliased sources = AllZip (λ a (row : Vec ℕ Global). AllZip (IsSourceCode r (fields_of a)) aliased row.items) w sources
 
--- what is told for a writer's place and the field of a number
+-- the source code for a writer's place and a field's number
 abbrev pub code_at : List (Vec ℕ Global) → ℕ → ℕ → ℕ
 code_at sources i number = get_or (list_at sources i) number 0

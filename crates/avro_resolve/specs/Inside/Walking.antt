@@ -1,4 +1,4 @@
--- What the recursion keeps: the assumed pairs, the failed ones in their order, and how many visits it counted.
+-- The recursion's invariant, and the meaning of its answers. Its state is the assumed pairs, the failed pairs in order, and the number of visits.
 use Rattle.std.specs.Prelude.{◌≡◌, ℕ, ◌+◌, ◌*◌, ◌<◌, ◌≤◌, ◌⊎◌, [], List, take, length, IsTrue}
 use Rattle.avro_nodes.specs.Nodes.{NodeView}
 use Rattle.avro_resolve.specs.declared.pair_set.PairSet.{PairSet}
@@ -12,14 +12,16 @@ use Rattle.avro_resolve.specs.Inside.Sides.{columns, rows, IsSides}
 use Rattle.avro_resolve.specs.Witnesses.{Pair, member, RefutesAfter, AreDistinct, HasClosedSet, HasRefutation}
 use Rattle.avro_resolve.specs.Inside.PairSets.{has}
 use Rattle.avro_resolve.specs.Asking.{ContainsAsked}
-use Rattle.avro_resolve.specs.Inside.IsReachable.{IsReachable, IsSmall}
+use Rattle.avro_resolve.specs.Inside.Reachable.{IsReachable, IsSmall}
 
--- the set has the pairs of the list, which are of a reader with so many places
+-- the bit set, of a reader with m places, has exactly the pairs of the list
 pub record Represents (m : ℕ) (s : PairSet) (ps : List Pair) : Type 0 where
   pub readers : s.readers ≡ m
   pub within : (i j : ℕ) → IsTrue (member ps i j) → j < m
   pub exact : (i j : ℕ) → j < m → has s i j ≡ member ps i j
 
+-- The invariant of these assumed and failed pairs and the number of visits: the pairs are reachable, each occurs once, no pair is both assumed and
+-- failed, the failed pairs refute in order, and the number of visits is bounded.
 pub record WalkInvariant (w r : List NodeView) (assumed failed : List Pair) (visits : ℕ) : Type 0 where
   pub assumed_reachable : (i j : ℕ) → IsTrue (member assumed i j) → IsReachable w r i j
   pub failed_reachable : (i j : ℕ) → IsTrue (member failed i j) → IsReachable w r i j
@@ -30,7 +32,7 @@ pub record WalkInvariant (w r : List NodeView) (assumed failed : List Pair) (vis
   pub at_least : length assumed + length failed ≤ visits
   pub at_most : (ps : List Pair) → ContainsAsked w r ps → visits ≤ length ps * length failed + length assumed
 
--- from one state to a later one, where nothing that was assumed is taken back
+-- a later state extends an earlier one: no assumption was withdrawn, new assumed pairs are supported, and failed pairs stay failed
 pub record Extends (w r : List NodeView) (assumed failed assumed2 failed2 : List Pair) : Type 0 where
   pub longer : length assumed ≤ length assumed2
   pub front : take (length assumed) assumed2 ≡ assumed
@@ -43,7 +45,7 @@ HasWalkInvariant w r s = WalkInvariant w r s.assumed.items s.failed.items s.visi
 abbrev pub ExtendsWalk : List NodeView → List NodeView → Walk → Walk → Type 0
 ExtendsWalk w r s t = Extends w r s.assumed.items s.failed.items t.assumed.items t.failed.items
 
--- the recursion may go on from these assumed and failed pairs, their sets and so many visits, with so many pairs open
+-- the recursion may continue, at this depth, from these assumed and failed pairs, their bit sets and this number of visits
 pub record CanContinue (w r : List NodeView) (depth : ℕ) (ps qs : List Pair) (s t : PairSet) (visits : ℕ) : Type 0 where
   pub writer : IsSelfContained w
   pub reader : IsSelfContained r
@@ -57,11 +59,11 @@ pub record CanContinue (w r : List NodeView) (depth : ℕ) (ps qs : List Pair) (
 abbrev pub IsReady : List NodeView → List NodeView → ℕ → Walk → Type 0
 IsReady w r depth s = CanContinue w r depth s.assumed.items s.failed.items s.assumed_set s.failed_set s.visits
 
--- the same for the nodes of two sides, whose names are met
+-- the same for the nodes of two sides
 abbrev pub MayContinue : Sides → ℕ → Walk → Type 0
 MayContinue sides depth s = IsSides sides × IsReady (rows sides) (columns sides) depth s
 
--- Yes and no hold at their answers, from a state with these assumed and failed pairs. The third comes only after a thousand visits.
+-- From a state with these assumed and failed pairs: yes proves the first property, no the second. Unfinished comes only after a thousand visits.
 abbrev pub AnswerHolds : List NodeView → List NodeView → ℕ → List Pair → List Pair → Walk → Type 0 → Type 0 → Answer → Type 0
 AnswerHolds w r depth ps qs t held lost Yes = IsReady w r depth t × Extends w r ps qs t.assumed.items t.failed.items × held
 AnswerHolds w r depth ps qs t held lost No = IsReady w r depth t × Extends w r ps qs t.assumed.items t.failed.items × lost
@@ -70,7 +72,7 @@ AnswerHolds w r depth ps qs t held lost Unfinished = HasWalkInvariant w r t × (
 abbrev pub WalkAnswerHolds : Sides → ℕ → Walk → Walk → Type 0 → Type 0 → Answer → Type 0
 WalkAnswerHolds sides depth s t held lost answer = AnswerHolds (rows sides) (columns sides) depth s.assumed.items s.failed.items t held lost answer
 
--- what the recursion's answer for the roots shows
+-- what the recursion's answer for the roots proves
 abbrev pub AnswerShows : List NodeView → List NodeView → ℕ → Answer → Type 0
 AnswerShows w r visits Yes = Resolves w r × HasClosedSet w r visits
 AnswerShows w r visits No = (Resolves w r → ⊥) × HasRefutation w r visits

@@ -43,7 +43,7 @@ loop-at-init c = record {
   still_supported = λ k d le l. absurd (omega arith);
 }
 
--- the ways of two links, looked at one by one
+-- whether two links match, by their kinds
 by_ways : (sources : List (Vec ℕ Global)) (p : ℕ) (x y : Link) (v w : LinkKind) → x.kind ≡ v → y.kind ≡ w → (CanMatchLinks sources p x.referrer v w → MayDepend sources p x y) × (MayDepend sources p x y → CanMatchLinks sources p x.referrer v w)
 by_ways s p x y v w e f = (
   (λ h. subst (λ (z : LinkKind). CanMatchLinks s p x.referrer z y.kind) (sym e) (subst (λ (z : LinkKind). CanMatchLinks s p x.referrer v z) (sym f) h)),

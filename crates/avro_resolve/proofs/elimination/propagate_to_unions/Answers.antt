@@ -21,7 +21,7 @@ use Rattle.avro_resolve.proofs.ViewLemmas.{no_union}
 use Rattle.avro_resolve.proofs.elimination.propagate_to_unions.Goals.{then-to-places+in_ok-eliminate_pair, else-to-places}
 use Rattle.avro_resolve.proofs.elimination.propagate_to_unions.Goals as goal
 
--- what holds after so many pairs of the run
+-- the state after the first n pairs of the run
 abbrev Kept : List NodeView → List NodeView → Table → List Pair → ℕ → List Pair → ℕ → Progress → Type 0
 Kept w r t ps i run n p = record { rest : IsAgreedRemainder w r p.table; lists : QueuesEliminated t ps p.table p.eliminated.items; gone : (k : ℕ) (d : Pair) → k < n → remains p.table i (get_or run k d).1 ≡ false }
 
@@ -109,7 +109,7 @@ loop-union-preserved c =
           (λ m e n. done.gone m e (let past = c.loop-to-test.false in omega (arith, past, n)));
     }
 
--- what holds of each union that has the place as a branch
+-- a property of each union that has the place as a branch
 each_union : (r : List NodeView) (lists : List (Vec ℕ Global)) → HasUnions r lists → (q : ℕ) (P : ℕ → Type 0) → ((u : ℕ) → IsListedAt lists u q → (bs : List ℕ) → slice_get r u ≡ Some (union bs) → P u) → All P (list_at lists q)
 each_union r lists is q P each = λ k d l.
     let u = get_or (list_at lists q) k d in let stands = Contains-get_or (list_at lists q) k d l in

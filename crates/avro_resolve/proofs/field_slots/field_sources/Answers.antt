@@ -11,7 +11,7 @@ use Rattle.avro_resolve.proofs.Sourcing.{mapped_more, nth, ranked_field}
 use Rattle.avro_resolve.proofs.SupportLemmas.{source_fits}
 use Rattle.avro_resolve.proofs.field_slots.field_sources.Goals as goal
 
--- the field whose names these are
+-- the field with these ranks of names
 named_at : (r : List (List ℕ)) (fields : List FieldView) (ranks : List FieldRanks) (i : ℕ) (x : FieldRanks) → AreFieldsRanked r fields ranks → i < length ranks → slice_get ranks i ≡ Some x
     → (f : FieldView) × (slice_get fields i ≡ Some f) × IsFieldRanked r f x
 named_at r fields ranks i x ranked l here =

@@ -34,7 +34,7 @@ module _ (sides : Sides) (fields : Fields) (slots : List (Option ℕ)) (h : AreF
       → ((m : ℕ) → m < i → m < length names.aliases.items → NoField sides.rank_map.ranks.items (names_in fields.ranks.now) (get_or names.aliases.items m 0)) → Source (Some k)
   by_alias_at i k l e m here none = by_alias (Some k) l e (source_here sides.rank_map.ranks.items (names_in fields.ranks.now) slots h.in_slots names.aliases.items i k m here none)
 
-  -- the field that is found is one of the fields
+  -- the index that is found is below the number of fields
   below : (k : ℕ) → Source (Some k) → k < length fields.fields.now
   below k source =
       let within = source_within sides.rank_map.ranks.items (names_in fields.ranks.now) (names.name ∷ names.aliases.items) k source in
@@ -54,7 +54,7 @@ module _ (sides : Sides) (fields : Fields) (slots : List (Option ℕ)) (h : AreF
       let w = names_of sides.writer in let r = names_of sides.reader in let rank_map = sides.rank_map.ranks.items in
       source_told w r rank_map (ranks_decide_names w r rank_map h.both.rank_map h.both.reader.index.names.rise) (map field_view fields.fields.now) fields.ranks.now h.ranked f names is None source
 
-  -- each of its names has a box
+  -- each name of the field has a slot
   name_in : (f : FieldView) × IsFieldRanked (names_of sides.reader) f names → names.name < length slots
   name_in f = (let l = slice_get_within (names_of sides.reader) names.name f.0.name f.1.name in omega (arith, l, h.room))
 

@@ -29,7 +29,7 @@ use Rattle.avro_resolve.proofs.ListLemmas.{adds_such, nothing_stands}
 use Rattle.avro_resolve.proofs.links.add_node_links.Goals.{then-is_some-via-then-is_some, then-is_some-via-else-is_some+then-is_empty}
 use Rattle.avro_resolve.proofs.links.add_node_links.Goals as goal
 
--- what is neither an array nor a map contains nothing
+-- a node that is neither an array nor a map has no elements
 nothing_contained : (n : Node) → ((x : ℕ) (y : _) → n ≡ Array x y → ⊥) → ((x : ℕ) (y : _) → n ≡ Map x y → ⊥) → element_place (node_view n) ≡ None
 nothing_contained (Primitive k x) f g = refl
 nothing_contained (Array p x) f g = absurd (f p x refl)
@@ -42,7 +42,7 @@ nothing_contained (Rec k fs x) f g = refl
 pub loop-index-init : goal.loop-index-init
 loop-index-init c = record { notes = notes_none _ c.args.links.now; there = λ k f x l. absurd (omega arith) }
 
--- a label that stands in the list of the one that there is, or isn't
+-- a label in the list of an optional label is that label
 some_label : (o : Option ℕ) (ls : List ℕ) → MatchOption o (ls ≡ []) (λ x. ls ≡ x ∷ []) → (l : ℕ) → Contains ls l → o ≡ Some l
 some_label None ls e l h = absurd (nothing_stands l (subst (λ (xs : List ℕ). Contains xs l) e h))
 some_label (Some x) ls e l h = elim (Contains-push_cases [] x l (subst (λ (xs : List ℕ). Contains xs l) e h)) [ inl m ↦ absurd (nothing_stands l m) | inr g ↦ ap (λ (n : ℕ). Some n) g ]
@@ -59,7 +59,7 @@ got_still (z ∷ zs) x y (suc k) e = got_still zs x y k e
 got_pushed : (xs ys : List Aliased) (y : Aliased) (number : ℕ) → ys ≡ xs ++ y ∷ [] → number ≡ length xs → slice_get ys number ≡ Some y
 got_pushed xs ys y number e long = ap (λ (zs : List Aliased). slice_get zs number) e ∙ ap (λ (n : ℕ). slice_get (xs ++ y ∷ []) n) long ∙ got_last xs y
 
--- one more field is noted
+-- the links of one more field are added
 module _ (rank_map : Option (List (Option ℕ))) (views : List FieldView) (ranks : List FieldRanks) (i at : ℕ) (f : FieldView) (y : FieldRanks) (f_at : slice_get views at ≡ Some f) (y_at : slice_get ranks at ≡ Some y)
     (old xs ys : Links) (more : OnlyAddsLinks (λ x p. (x.referrer ≡ i) × (p ≡ f.place) × GivenBy rank_map ys.aliased.items at y x x.kind) xs ys) where
   next_notes : OnlyAddsLinks (λ x p. (x.referrer ≡ i) × IsOfField rank_map xs.aliased.items views ranks x p) old xs → OnlyAddsLinks (λ x p. (x.referrer ≡ i) × IsOfField rank_map ys.aliased.items views ranks x p) old ys
@@ -80,7 +80,7 @@ own_is : (rank_map : Option (Bor RankMap)) (rank : ℕ) (own : Option ℕ) (P : 
 own_is None rank own P ranked h = h
 own_is (Some m) rank own P ranked h = ranked m h
 
--- the labels of its aliases: none, if the side is a writer's or if it has none, or else all
+-- no labels of aliases, if the side is the writer's or the field has no aliases
 no_labels : (rank_map : Option (Bor RankMap)) (aliases : List ℕ) → (is_some rank_map ≡ true) ⊎ (aliases ≡ []) → alias_labels (ranks_of rank_map) aliases ≡ []
 no_labels None aliases (inl h) = absurd cc
 no_labels None aliases (inr e) = e
@@ -159,7 +159,7 @@ loop-index-preserved c =
       there = next_there rank_map views ranks i at (field_view field) names field_here names_here old xs ys more inv.there here;
     }
 
--- what contains something refers to that, and to nothing else
+-- an array or a map refers only to its elements
 module _ (names : List (List ℕ)) (rank_map : Option (List (Option ℕ))) (links : Links) (i p : ℕ) where
   ends : (a : NodeView) → element_place a ≡ Some p → fields_of a ≡ [] → LinkedBy (HasLabel 0 ByElement) links.lists.items i p → IsPlaceLinked names rank_map links i a
   ends a e none h = (

@@ -11,7 +11,7 @@ use Rattle.avro_resolve.proofs.ViewLemmas.{no_union, view_got}
 use Rattle.avro_resolve.proofs.lists.unions_in.Goals.{in-Union+in_ok-push, in_default}
 use Rattle.avro_resolve.proofs.lists.unions_in.Goals as goal
 
--- one place more, which is noted if it is a union
+-- one more place, which is listed if it is a union
 noted : (nodes : List Node) (n : ℕ) (xs ys : List ℕ) (a : Node) → slice_get nodes n ≡ Some a → All (λ i. i < n) xs → ((i : ℕ) (bs : List ℕ) → i < n → slice_get (nodes_view nodes) i ≡ Some (union bs) → Contains xs i)
     → (ys ≡ xs ++ n ∷ []) ⊎ ((ys ≡ xs) × ((bs : List ℕ) → node_view a ≡ union bs → ⊥)) → All (λ i. i < n + 1) ys × ((i : ℕ) (bs : List ℕ) → i < n + 1 → slice_get (nodes_view nodes) i ≡ Some (union bs) → Contains ys i)
 noted nodes n xs ys a ea within all (inl e) =

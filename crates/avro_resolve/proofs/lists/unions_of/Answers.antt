@@ -25,7 +25,7 @@ loop-i-init c = record {
   meant = λ i p h. absurd (c.in_ok-lists.ensures.empty i p h);
 }
 
--- what is no union has no branches
+-- a node other than a union has no branches
 not_listed : (lists : List (Vec ℕ Global)) (i : ℕ) (n : Node) → ((x : _) → n ≡ Union x → ⊥) → IsUnionListed lists i (node_view n)
 not_listed lists i (Union ps) f = absurd (f ps refl)
 not_listed lists i (Primitive k x) f = tt

@@ -12,13 +12,13 @@ use Rattle.avro_resolve.specs.declared.readable.ReaderField.{ReaderField}
 use Rattle.avro_resolve.specs.declared.sides.Side.{Side}
 use Rattle.avro_resolve.specs.Asking.{source_place}
 use Rattle.avro_resolve.specs.Inside.Sides.{columns, names_of}
-use Rattle.avro_resolve.specs.Inside.Sources.{code, Describes, IsSourceCode, IsReaderField}
+use Rattle.avro_resolve.specs.Inside.Sources.{source_code, Describes, IsSourceCode, IsReaderField}
 use Rattle.avro_resolve.proofs.LinkLemmas.{zip_got, zip_more}
 use Rattle.avro_resolve.proofs.SupportLemmas.{source_fits, unsourced}
 use Rattle.avro_resolve.proofs.readable.source_codes.Goals as goal
 use Rattle.avro_resolve.proofs.readable.source_codes.Goals.{in-None, in-Some}
 
--- what is asked of the field of a number
+-- the reader's field with a number
 reader_field : (side : Side) (all : List Aliased) (wanted : List (Option ReaderField)) → AllZip (IsReaderField side) all wanted → (n : ℕ) (x : Option ReaderField) → n < length wanted → x ≡ get_or wanted n x → (a : Aliased) × (slice_get all n ≡ Some a) × IsReaderField side a x
 reader_field side all wanted zip n x l e =
     let none : Aliased = record { place = 0; index = 0 } in
@@ -27,7 +27,7 @@ reader_field side all wanted zip n x l e =
     let w = zip_got (IsReaderField side) all wanted zip n (get_or all n none) at in
     (get_or all n none, at, subst (IsReaderField side (get_or all n none)) (sym (e ∙ get_or_from_slice_get wanted n w.0 x w.1)) w.2)
 
--- what holds of what is asked
+-- a property of the value in an option
 asked_by : {X : Type 0} (P : X → Type 0) (o : Option X) (x : X) → o ≡ Some x → IsSomeAnd o P → P x
 asked_by P o x e h = subst (λ q. IsSomeAnd q P) e h
 
@@ -43,8 +43,8 @@ zeros P h [] (suc n) e = absurd (omega arith)
 zeros P h (x ∷ xs) zero e = absurd (omega arith)
 zeros P h (x ∷ xs) (suc n) e = (h x, zeros P h xs n (omega arith))
 
-empty_source : (xs : List Field) (f : FieldView) → (length xs == 0) ≡ true → 0 ≡ code (source_place (map field_view xs) f)
-empty_source [] f e = sym (ap code (unsourced f))
+empty_source : (xs : List Field) (f : FieldView) → (length xs == 0) ≡ true → 0 ≡ source_code (source_place (map field_view xs) f)
+empty_source [] f e = sym (ap source_code (unsourced f))
 empty_source (x ∷ xs) f e = absurd (let l : length (x ∷ xs) ≡ 0 = grind (arith, nat_tests) in omega (arith, l))
 
 pub returns-then-is_empty : goal.returns-then-is_empty
@@ -79,11 +79,11 @@ loop-wanted-preserved c =
     let P = IsSourceCode (columns c.args.sides.now) (map field_view c.args.fields.fields.now) in let all = c.args.aliased_fields.aliased.now in let n = c.loop-wanted.wanted-index in
     let side = c.args.sides.now.reader in let x = c.wanted-item.result in
     let a = reader_field side all c.args.aliased_fields.wanted.now c.requires.wanted n x c.loop-wanted-test.true c.wanted-item.is in
-    let entry : c.map_or.result ≡ code c.match-wanted.place = search rules in
+    let entry : c.map_or.result ≡ source_code c.match-wanted.place = search rules in
     let known : P a.0 c.map_or.result = (λ f h. elim c.match-wanted.branch [
       | in-Some w ↦ (
           let own = asked_by (λ (v : ReaderField). Describes (names_of side) v f) x w.in-Some.wanted w.in-Some.is (a.2.known f h) in
-          entry ∙ ap code (w.place-is ∙ w.find_source-place.ensures f own.2))
+          entry ∙ ap source_code (w.place-is ∙ w.find_source-place.ensures f own.2))
       | in-None w ↦ absurd (none_by (λ (v : ReaderField). Describes (names_of side) v f) x w.in-None.is (a.2.known f h))
     ]) in
     rw c.in_ok-push.ensures.items (zip_more P all n a.0 c.loop-wanted.row.items c.map_or.result a.1 c.loop-wanted.invariant known)

@@ -15,7 +15,7 @@ use Rattle.avro_resolve.specs.declared.recursion.Walk.{Walk}
 use Rattle.avro_resolve.specs.declared.recursion.Answer.TheVariants.{No}
 use Rattle.avro_resolve.specs.declared.pair_set.PairSet.{PairSet}
 use Rattle.avro_resolve.specs.Inside.PairSets.{has}
-use Rattle.avro_resolve.specs.Inside.IsReachable.{AreReachable, IsReachablePair, IsSourceReachable}
+use Rattle.avro_resolve.specs.Inside.Reachable.{AreReachable, IsReachablePair, IsSourceReachable}
 use Rattle.avro_resolve.specs.Inside.Sides.{columns, rows}
 use Rattle.avro_resolve.specs.Inside.Walking.{CanContinue, WalkInvariant, ExtendsWalk, Represents, IsReady, AnswerHolds}
 use Rattle.avro_resolve.specs.Inside.Agreeing.{Agree}
@@ -215,7 +215,7 @@ fits-returns-in-Union t c =
           (subst held c.deref-p-items.ensures.value (subst held (take_all c.loop-p.p-index places c.loop-p-test.false) c.loop-p.invariant.held)),
     )
 
--- what fits a pair with a union whose other node is none, and what the pair asks for
+-- a reader's union with a writer's node other than a union: when the pair fits, and on which pairs it depends
 with_union : (R : Pairs) (i j : ℕ) (n : Node) (bs : List ℕ) → ((x : Vec ℕ Global) → n ≡ Union x → ⊥)
     → (Fits R i j (node_view n) (union bs) ↔ Any (λ p. IsTrue (R i p)) bs) × ((q : ℕ) → Contains bs q → AsksFor i j (node_view n) (union bs) i q)
 with_union R i j (Union x) bs f = absurd (f x refl)
@@ -272,7 +272,7 @@ fits-returns-in-Union-b t c =
       (λ h. none_of ps i places lost ((with_union (without ps) i j a places c.in_default.not-Union).0.0 (subst (λ (x : NodeView). Fits (without ps) i j (node_view a) x) same h))),
     )
 
--- two nodes that agree, and ask for nothing, fit
+-- two nodes that agree and depend on no pairs fit
 fits_rest : (R : Pairs) (i j : ℕ) (n m : Node) → Agree (node_view n) (node_view m) → ((x : _) → n ≡ Union x → ⊥) → ((x y : _) → n ≡ Array x y → ⊥) → ((x y : _) → n ≡ Map x y → ⊥) → ((x y z : _) → n ≡ Rec x y z → ⊥) → ((x : _) → m ≡ Union x → ⊥) → Fits R i j (node_view n) (node_view m)
 fits_rest R i j (Union x) m h u a p r v = absurd (u x refl)
 fits_rest R i j (Array x y) m h u a p r v = absurd (a x y refl)
@@ -292,7 +292,7 @@ fits-returns-in_default-4-4 t c =
     let fit = fits_rest (member s.assumed.items) c.args.at.0 c.args.at.1 c.args.a.now c.args.b.now c.requires.agreed c.in_default.not-Union c.in_default-4.not-Array-0 c.in_default-4.not-Map-0 c.in_default-4.not-Rec-0 c.in_default-b.not-Union in
     (c.requires.ready.1, grown0 (rows c.args.sides.now) (columns c.args.sides.now) s, fit)
 
--- what was read off for the field at an index
+-- the source of the field at an index
 read_at : (fs : List FieldView) (gs : List Field) (sources : List (Option ℕ)) (n : ℕ) (f : Field) → AreFieldSources fs (map field_view gs) sources → n < length gs → f ≡ get_or gs n f → get_or sources n None ≡ source_place fs (field_view f)
 read_at fs gs sources n f outcome l is =
     let here : slice_get gs n ≡ Some f = slice_get-get_or gs n f l ∙ ap Some (sym is) in

@@ -11,7 +11,7 @@ use Rattle.avro_resolve.proofs.Dependence.{rests_by_branch}
 use Rattle.avro_resolve.proofs.KeptSupport.{lists_none, lists_then, not_back, stays_out}
 use Rattle.avro_resolve.proofs.rows.eliminate_by_branch.Goals as goal
 
--- the next place with which the branch isn't left
+-- all pairs up to the next place are eliminated with the branch's
 gone_before : (t v : Table) (i branch from at : ℕ) → ((b : ℕ) → remains v branch b ≡ true → remains t branch b ≡ true) → ((b : ℕ) → b < from → remains t branch b ≡ false → remains v i b ≡ false)
     → ((b : ℕ) → from ≤ b → b < at → IsTrue (remains v i b) → IsTrue (remains v branch b)) → (b : ℕ) → b < at → remains t branch b ≡ false → remains v i b ≡ false
 gone_before t v i branch from at fewer gone rest b l e = elim (cases_lt b from) [

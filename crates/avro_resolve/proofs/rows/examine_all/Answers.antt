@@ -43,8 +43,8 @@ loop-place-init c =
       still_supported = λ a b lo l. absurd (omega (arith, lo));
     }
 
-pub fill_slots-requires-clause-holds : goal.fill_slots-requires-clause-holds
-fill_slots-requires-clause-holds c = λ name rank e.
+pub fill_slots-requires-clause-has_slots : goal.fill_slots-requires-clause-has_slots
+fill_slots-requires-clause-has_slots c = λ name rank e.
     let sides = c.args.sides.now in let room = c.loop-place.invariant.room in
     let below = met_below (names_of sides.writer) (names_of sides.reader) sides.rank_map.ranks.items c.requires.rest.0.rank_map name rank e in
     omega arith
@@ -74,8 +74,8 @@ examine_row-requires-clause-row c =
       wanted = subst (AllZip (IsReaderField sides.reader) c.args.aliased.now) (sym c.deref-2.ensures.value) c.in_ok-wanted.ensures;
     }
 
-pub clear_slots-requires-clause-holds : goal.clear_slots-requires-clause-holds
-clear_slots-requires-clause-holds c = λ name rank e.
+pub clear_slots-requires-clause-has_slots : goal.clear_slots-requires-clause-has_slots
+clear_slots-requires-clause-has_slots c = λ name rank e.
     let sides = c.args.sides.now in let room = c.loop-place.invariant.room in let kept = c.fill_slots.auto.slots in
     let below = met_below (names_of sides.writer) (names_of sides.reader) sides.rank_map.ranks.items c.requires.rest.0.rank_map name rank e in
     omega arith

@@ -12,7 +12,7 @@ use Rattle.avro_schema.proofs.Rising.{order, level, less_not_equal}
 use Rattle.avro_resolve.proofs.RankMaps.{name_at}
 use Rattle.avro_resolve.proofs.sides.first_from.Goals as goal
 
--- how the name at a rank compares
+-- the comparison with the name at a rank
 at_rank : (names : List (List ℕ)) (at : ℕ) (here name : List ℕ) (o : Ordering) → slice_get names at ≡ Some here → o ≡ order here name → order (get_or names at []) name ≡ o
 at_rank names at here name o e is = ap (λ (x : List ℕ). order x name) (get_or_from_slice_get names at here [] e) ∙ sym is
 

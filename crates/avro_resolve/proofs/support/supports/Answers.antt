@@ -13,7 +13,7 @@ use Rattle.avro_resolve.proofs.Agreement.{agreed_at}
 use Rattle.avro_resolve.proofs.Monotone.{at_place, supports_at}
 use Rattle.avro_resolve.proofs.support.supports.Goals as goal
 
--- the places that a node names are below the number of the places
+-- the places to which a node refers are below the number of places
 names_below : (side : Side) → IsSide side → (n : ℕ) → n ≡ length side.schema.now → (i : ℕ) (a : NodeView) → slice_get (nodes_of side) i ≡ Some a → RefersBelow n a
 names_below side is n e i a at = subst (λ (m : ℕ). RefersBelow m a) (length-map side.schema.now node_view ∙ sym e) (at_place (nodes_of side) (RefersBelow (length (nodes_of side))) i a is.whole at)
 
