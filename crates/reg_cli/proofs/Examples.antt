@@ -1,4 +1,4 @@
--- What some lines ask for, by computing.
+-- The tasks of some example arguments, by computation.
 use Rattle.std.proofs.Common.{◌≡◌, refl, [], ◌∷◌, Some, None, codes}
 use Rattle.clap.proofs.OnLiterals.{clap_on_literals}
 use Rattle.reg_cli.specs.Line.{line}
@@ -20,12 +20,12 @@ pub with_a_value_attached : line (codes "run" ∷ codes "--db=F" ∷ []) ≡ Som
 unfolding clap_on_literals
 with_a_value_attached = refl
 
--- `serve --db F --port 8081`: as many connections as there may be
+-- `serve --db F --port 8081`: the maximum number of connections
 pub without_connections : line (codes "serve" ∷ codes "--db" ∷ codes "F" ∷ codes "--port" ∷ codes "8081" ∷ []) ≡ Some (to_serve (codes "F") 8081 2147483647)
 unfolding clap_on_literals
 without_connections = refl
 
--- `serve --connections=2 --port 1 --db F`: in another order
+-- `serve --connections=2 --port 1 --db F`: options in another order
 pub in_any_order : line (codes "serve" ∷ codes "--connections=2" ∷ codes "--port" ∷ codes "1" ∷ codes "--db" ∷ codes "F" ∷ []) ≡ Some (to_serve (codes "F") 1 2)
 unfolding clap_on_literals
 in_any_order = refl
@@ -60,12 +60,12 @@ pub audited : line (codes "audit" ∷ codes "--db" ∷ codes "F" ∷ []) ≡ Som
 unfolding clap_on_literals
 audited = refl
 
--- `audit --db F versions`: a word too many
+-- `audit --db F versions`: an argument too many
 pub audit_a_listing : line (codes "audit" ∷ codes "--db" ∷ codes "F" ∷ codes "versions" ∷ []) ≡ None
 unfolding clap_on_literals
 audit_a_listing = refl
 
--- no words
+-- no arguments
 pub no_arguments : line [] ≡ None
 unfolding clap_on_literals
 no_arguments = refl
@@ -80,7 +80,7 @@ pub an_option_twice : line (codes "run" ∷ codes "--db" ∷ codes "F" ∷ codes
 unfolding clap_on_literals
 an_option_twice = refl
 
--- `run F`: a word too many
+-- `run F`: an argument too many
 pub an_argument_too_many : line (codes "run" ∷ codes "F" ∷ []) ≡ None
 unfolding clap_on_literals
 an_argument_too_many = refl

@@ -1,4 +1,4 @@
--- The number of a text, as it is parsed.
+-- Parsing a number agrees with the definition.
 use Rattle.std.proofs.Common.{◌≡◌, ℕ, ◌^◌, Bool, true, false, List, [], ◌∷◌, length, nat_lt, Option, Some, None, Result, Ok, Err, refl, ap, lt-ltb, ltb-true}
 use Rattle.std.specs.List.{list_all}
 use Rattle.std.specs.Char.{digit_value}
@@ -7,12 +7,12 @@ use Rattle.clap.proofs.WalkLemmas.{both}
 use Rattle.clap.specs.Words.{Text}
 use Rattle.reg_cli.specs.Numbers.{is_number, number_in}
 
--- digits pass the test of each
+-- digits pass the test
 digits_pass : (digits : List ℕ) → AllDigits 10 digits → list_all (λ digit. nat_lt (digit_value digit) 10) digits ≡ true
 digits_pass [] all = refl
 digits_pass (digit ∷ digits) all = rw (lt-ltb (digit_value digit) 10 all.0) (digits_pass digits all.1)
 
--- what passes the test is digits
+-- only digits pass the test
 digits_from : (digits : List ℕ) → list_all (λ digit. nat_lt (digit_value digit) 10) digits ≡ true → AllDigits 10 digits
 digits_from [] pass = tt
 digits_from (digit ∷ digits) pass =
@@ -23,7 +23,7 @@ abbrev kept : {E : Type 0} → Result ℕ E → Option ℕ
 kept (Ok n) = Some n
 kept (Err e) = None
 
--- a parse gives the number that the text writes, and fails where it writes none
+-- a parse returns the number that the text denotes, and fails if it denotes none
 pub number_read : {E : Type 0} (bits : ℕ) (text : Text) (r : Result ℕ E) → ParsesUnsigned bits 10 text r → kept r ≡ number_in bits text
 number_read bits text (Ok n) parses =
     let digits = without_leading_plus text in

@@ -1,4 +1,4 @@
--- What a parse of the program's words says of what they ask for.
+-- How a parse by clap determines the task.
 use Rattle.std.proofs.Common.{◌≡◌, ◌∙◌, ap, ap₂, unwrap_or, sym, subst, refl, true, inl, inr, List, [], ◌∷◌, Option, Some, None, option_map}
 use Rattle.std.specs.Prelude.{option_and_then}
 use Rattle.clap.specs.Words.{App, HasKind, HasMatchesOf, IsAmong, Kinds, Row, Text, fault_of, is_simple, is_simple_and_free, kind_of, subcommand_of, subcommand_rows_of}
@@ -10,12 +10,12 @@ use Rattle.clap.proofs.OnLiterals.{clap_on_literals}
 use Rattle.reg_cli.specs.Commands.{program}
 use Rattle.reg_cli.specs.Line.{line, line_unless_faulty, task_in}
 
--- clap says exactly when a parse of the program's words fails
+-- clap's contract says exactly when a parse of the program's arguments fails
 is_free : is_simple_and_free program ≡ true
 unfolding clap_on_literals
 is_free = refl
 
--- and what it finds where it doesn't
+-- and what a successful parse returns
 is_plain : is_simple program ≡ true
 unfolding clap_on_literals
 is_plain = refl
@@ -24,7 +24,7 @@ faulty : (k : ErrorKind) (kinds : Kinds) (arguments : List Text) → IsAmong k k
 faulty k [] arguments among = absurd among
 faulty k (x ∷ xs) arguments among = refl
 
--- words that a parse refuses, other than for want of memory, ask for nothing
+-- arguments that a parse rejects for another reason than memory give no task
 pub refused : (a : App) → a ≡ program → (arguments : List Text) (e : Error) → (is_simple_and_free a ≡ true → HasKind (fault_of a arguments) e)
     → (kind_of e ≡ kind.OutOfMemory → ⊥) → line arguments ≡ None
 refused a is arguments e fails other =
@@ -33,7 +33,7 @@ refused a is arguments e fails other =
       | inr among ↦ faulty (kind_of e) (fault_of program arguments) arguments among
     ]
 
--- words that a parse takes ask for what the command that it entered does
+-- arguments that a parse accepts give the task of the subcommand
 pub taken : (a : App) → a ≡ program → (arguments : List Text) → (is_simple_and_free a ≡ true → fault_of a arguments ≡ []) → (m : ArgMatches) → HasMatchesOf a arguments m
     → line arguments ≡ option_and_then (λ found. task_in found.0 found.1) (subcommand_rows_of m)
 taken a is arguments free m has =
@@ -41,7 +41,7 @@ taken a is arguments free m has =
     let met : subcommand_rows_of m ≡ subcommand_of program arguments = (subst (λ (x : App). HasMatchesOf x arguments m) is has is_plain).1 in
     ap (λ kinds. line_unless_faulty kinds arguments) none ∙ ap (option_and_then (λ (found : Text × List Row). task_in found.0 found.1)) (sym met)
 
--- a name and rows that are known apart, as a pair
+-- a name and rows that are known separately, as a pair
 pub pair_from : {X : Type 0} (f : X → Text) (g : X → List Row) (o : Option X) (name : Text) (rows : List Row) → Some name ≡ option_map f o
     → Some rows ≡ option_map (λ (p : Text × List Row). p.1) (option_map {U = Text × List Row} (λ x. (f x, g x)) o)
     → option_map {U = Text × List Row} (λ x. (f x, g x)) o ≡ Some (name, rows)

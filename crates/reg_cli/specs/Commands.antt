@@ -1,4 +1,4 @@
--- The program's commands and their arguments (this project's choice).
+-- The program's subcommands and their arguments (this project's choice).
 use Rattle.std.specs.Prelude.{◌≡◌, ℕ, Some, true, false, pos, codes}
 use Rattle.clap.specs.Words.{App, Rule, Text, app_of, new_app, new_rule, with_rule, with_subcommand}
 use Rattle.clap.specs.Simple.{on_top}
@@ -6,15 +6,15 @@ use Rattle.clap.specs.declared.Command.{Command}
 use Rattle.clap.specs.declared.Command.TheViews.{out-Command}
 use Rattle.clap.specs.declared.builder.ValueParser.TheVariants as parser
 
--- an option with one value, which help names
+-- an option with one value
 abbrev pub option_rule : Text → Rule
 option_rule name = record (new_rule name) { long = Some name; value_names = 1 }
 
--- an argument that may not be left out
+-- a required argument
 abbrev pub needed : Rule → Rule
 needed rule = record rule { required = true }
 
--- an argument that is a number from 1 to the greatest
+-- an argument that is a number from 1 to `greatest`
 abbrev pub numbered : ℕ → Rule → Rule
 numbered greatest rule = record rule { parser = Some (parser.Signed (pos 1) (pos greatest)) }
 
@@ -54,7 +54,7 @@ migrate_command = with_rule (new_app (codes "migrate")) (needed database_rule)
 abbrev pub audit_command : App
 audit_command = with_rule (new_app (codes "audit")) (needed database_rule)
 
--- The words begin behind the program's name, and name a command.
+-- the program without its subcommands: the arguments don't include the program's name, and a subcommand is required
 abbrev pub root_command : App
 root_command = on_top (λ top. record top { no_binary_name = true; subcommand_required = true }) (new_app (codes "avroreg"))
 
@@ -63,7 +63,7 @@ program =
     with_subcommand (with_subcommand (with_subcommand (with_subcommand (with_subcommand (with_subcommand (with_subcommand root_command run_command.top) serve_command.top) check_command.top) text_command.top)
     list_command.top) migrate_command.top) audit_command.top
 
--- the command is this one, and no argument of it is one of its subcommands' too
+-- the command has this definition, and no argument of it is global, that is, an argument of its subcommands too
 pub record IsApp (app : App) (command : Command) : Type 0 where
   pub shape : app_of command ≡ app
   pub local : (out-Command command).has_globals ≡ false

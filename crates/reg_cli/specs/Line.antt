@@ -1,4 +1,4 @@
--- What the words behind the program's name ask for, as clap reads them (this project's choice).
+-- The task of the program's arguments, as clap parses them (this project's choice).
 use Rattle.std.specs.Prelude.{ℕ, List, [], ◌∷◌, codes, bytes_eq, Option, Some, None, option_map, option_and_then, if◌then◌else◌}
 use Rattle.clap.specs.Words.{Kinds, Row, Text, fault_of, first_of, subcommand_of}
 use Rattle.reg_cli.specs.Commands.{max_connections, program}
@@ -7,7 +7,7 @@ use Rattle.reg_cli.specs.Tasks.{TaskView, to_run, to_print, to_check, to_list, t
 use Rattle.reg_cli.specs.declared.task.ListingName.{ListingName}
 use Rattle.reg_cli.specs.declared.task.ListingName.TheVariants.{Subjects, Versions, Schemas}
 
--- the listing that a word names
+-- the listing with this name
 abbrev pub listing_in : Text → Option ListingName
 listing_in argument =
     if bytes_eq argument (codes "subjects") then Some Subjects
@@ -15,12 +15,12 @@ listing_in argument =
     else if bytes_eq argument (codes "schemas") then Some Schemas
     else None
 
--- how many connections: as many as there may be, where no number is given
+-- the number of connections: the maximum by default
 abbrev pub connections_in : Option Text → Option ℕ
 connections_in None = Some max_connections
 connections_in (Some text) = number_in 32 text
 
--- the port that is given
+-- the port
 abbrev pub port_in : List Row → Option ℕ
 port_in rows = option_and_then (number_in 16) (first_of (codes "port") rows)
 
@@ -56,7 +56,7 @@ migrate_in rows = option_map to_migrate (first_of (codes "db") rows)
 abbrev pub audit_in : List Row → Option TaskView
 audit_in rows = option_map to_audit (first_of (codes "db") rows)
 
--- what a command with these values asks for
+-- the task of a subcommand with these values
 abbrev pub task_in : Text → List Row → Option TaskView
 task_in name rows =
     if bytes_eq name (codes "run") then run_in rows
@@ -68,11 +68,11 @@ task_in name rows =
     else if bytes_eq name (codes "audit") then audit_in rows
     else None
 
--- what the command that the words name asks for, where clap finds no fault in them
+-- the task of the subcommand in the arguments, if clap finds no fault in them
 abbrev pub line_unless_faulty : Kinds → List Text → Option TaskView
 line_unless_faulty [] arguments = option_and_then (λ found. task_in found.0 found.1) (subcommand_of program arguments)
 line_unless_faulty (fault ∷ faults) arguments = None
 
--- What the words ask for. A usage fault asks for nothing: an option twice, a word too many, a request for help.
+-- The task of the arguments, or `None` for a usage error: an option given twice, an argument too many, a request for help.
 abbrev pub line : List Text → Option TaskView
 line arguments = line_unless_faulty (fault_of program arguments) arguments

@@ -1,4 +1,4 @@
--- What the program is asked to do, with each text as its bytes.
+-- The program's tasks, with each text as its bytes.
 use Rattle.std.specs.Prelude.{ℕ, Option, option_map, string_bytes}
 use Rattle.clap.specs.Words.{Text}
 use Rattle.reg_cli.specs.declared.task.ListingName.{ListingName}
@@ -30,7 +30,7 @@ abbrev pub task_view : Task → TaskView
 task_view (task.Job job) = job_view job
 task_view (task.Server server) = to_serve (string_bytes server.database) server.port server.connections
 
--- the fault is in the words, and no want of memory
+-- the fault is a usage error, not a failed allocation
 abbrev pub IsUsage : LineFault → Type 0
 IsUsage (Usage text) = Unit {0}
 IsUsage OutOfMemory = ⊥

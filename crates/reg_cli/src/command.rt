@@ -1,4 +1,4 @@
-//! The program's commands and their arguments, for `clap`, with their help.
+//! The program's subcommands, their arguments and their help texts, for `clap`.
 
 ghost use Rattle.std.specs.Prelude.{◌≡◌, IfOk, false};
 ghost use Rattle.clap.specs.Words.{new_rule, rule_of};
@@ -11,7 +11,7 @@ use crate::task::MAX_CONNECTIONS;
 use clap::{Arg, Command, value_parser};
 use std::alloc::{AllocError, Global};
 
-/// An option with one value, and its help.
+/// An option with one value and a help text.
 fn option<'a>(alloc: Global, name: &'a str, value: &'a str, help: &'a str) -> Arg<'a>
     ensures rule { rule_of result ≡ option_rule name.entry.now }
     ensures local { result.global ≡ false }
@@ -22,7 +22,7 @@ fn option<'a>(alloc: Global, name: &'a str, value: &'a str, help: &'a str) -> Ar
         .help(help)
 }
 
-/// An argument without a name that may not be left out, and its help.
+/// A required positional argument with a help text.
 fn positional<'a>(alloc: Global, name: &'a str, help: &'a str) -> Arg<'a>
     ensures rule { rule_of result ≡ needed (new_rule name.entry.now) }
     ensures local { result.global ≡ false }
@@ -178,7 +178,7 @@ an error, with one line on standard error.",
         .arg(database.required(true))
 }
 
-/// The program without its commands.
+/// The program without its subcommands.
 fn root_command<'a>(alloc: Global) -> Result<Command<'a>, AllocError>
     ensures { IfOk result (IsApp root_command) }
 {
@@ -197,7 +197,7 @@ Examples:
         .bin_name("avroreg")
 }
 
-/// The program, with its commands.
+/// The program with its subcommands.
 ///
 /// # Errors
 ///

@@ -9,10 +9,10 @@ use clap::{Command, Error};
 use std::alloc::{AllocError, Global};
 use thiserror::Error as ErrorText;
 
-/// Why the arguments name no task. Its text is printed on standard error.
+/// Why the arguments give no task. The text goes to standard error.
 #[derive(Debug, Drop, ErrorText)]
 pub enum LineFault {
-    /// The arguments are wrong, or ask for help. The text has whole lines, each with its line end.
+    /// The arguments are wrong, or request help. The text has whole lines, each with its line end.
     #[error("{0}")]
     Usage(String),
     /// An allocation failed. The text has no line end.
@@ -31,7 +31,7 @@ impl From<AllocError> for LineFault {
     }
 }
 
-/// The usage error that `clap` found, with its text.
+/// The error for a fault that `clap` reports, with its text.
 pub fn fault_of(alloc: Global, error: &Error) -> LineFault
     ensures { IsUsage result → kind_of error.now ≢ ErrorKind.OutOfMemory }
 {
@@ -44,8 +44,8 @@ pub fn fault_of(alloc: Global, error: &Error) -> LineFault
     }
 }
 
-/// A usage error that `clap` doesn't find, with a text in its form: the message and the command's
-/// usage.
+/// A usage error that `clap` doesn't report, in the form of its errors: the message and the
+/// command's usage.
 pub fn usage_error(
     alloc: Global,
     mut command: Command<'_>,

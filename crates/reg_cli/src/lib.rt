@@ -1,4 +1,4 @@
-//! The program's arguments, as `clap` reads them.
+//! The program's arguments, as `clap` parses them.
 
 #![tactic(auto)]
 

@@ -1,4 +1,4 @@
-//! From arguments to tasks.
+//! Turns arguments into tasks.
 
 ghost use Rattle.std.specs.Prelude.{◌≡◌, None, Some, MatchResult, map, string_bytes};
 ghost use Rattle.clap.specs.Words.{found_of, rows_of};
@@ -13,7 +13,7 @@ use clap::ArgMatches;
 use clap::error::ErrorKind;
 use std::alloc::{AllocError, Global};
 
-/// The error for a missing command or value. `clap` reports it first.
+/// The error for a missing subcommand or value. `clap` itself reports these first.
 fn incomplete(alloc: Global) -> Result<LineFault, AllocError> {
     Ok(usage_error(
         alloc,
@@ -32,7 +32,7 @@ fn unknown_listing(alloc: Global, argument: &str) -> Result<LineFault, AllocErro
     Ok(usage_error(alloc, command, ErrorKind::InvalidValue, message.as_str()))
 }
 
-/// The server of `serve`.
+/// The task of `serve`.
 fn serve_task(alloc: Global, matches: &ArgMatches<'_>) -> Result<Task, LineFault>
     ensures { MatchResult result
         (λ task. serve_in (rows_of (found_of matches.now)) ≡ Some (task_view task))
@@ -57,7 +57,7 @@ fn serve_task(alloc: Global, matches: &ArgMatches<'_>) -> Result<Task, LineFault
     }))
 }
 
-/// The job of `check`.
+/// The task of `check`.
 fn check_task(alloc: Global, matches: &ArgMatches<'_>) -> Result<Task, LineFault>
     ensures { MatchResult result
         (λ task. check_in (rows_of (found_of matches.now)) ≡ Some (task_view task))
@@ -75,7 +75,7 @@ fn check_task(alloc: Global, matches: &ArgMatches<'_>) -> Result<Task, LineFault
     }))
 }
 
-/// The job of `text`.
+/// The task of `text`.
 fn text_task(alloc: Global, matches: &ArgMatches<'_>) -> Result<Task, LineFault>
     ensures { MatchResult result
         (λ task. text_in (rows_of (found_of matches.now)) ≡ Some (task_view task))
@@ -89,7 +89,7 @@ fn text_task(alloc: Global, matches: &ArgMatches<'_>) -> Result<Task, LineFault>
     }))
 }
 
-/// The job of `list`.
+/// The task of `list`.
 fn list_task(alloc: Global, matches: &ArgMatches<'_>) -> Result<Task, LineFault>
     ensures { MatchResult result
         (λ task. list_in (rows_of (found_of matches.now)) ≡ Some (task_view task))
@@ -110,7 +110,7 @@ fn list_task(alloc: Global, matches: &ArgMatches<'_>) -> Result<Task, LineFault>
     }))
 }
 
-/// The job of `migrate`.
+/// The task of `migrate`.
 fn migrate_task(alloc: Global, matches: &ArgMatches<'_>) -> Result<Task, LineFault>
     ensures { MatchResult result
         (λ task. migrate_in (rows_of (found_of matches.now)) ≡ Some (task_view task))
@@ -124,7 +124,7 @@ fn migrate_task(alloc: Global, matches: &ArgMatches<'_>) -> Result<Task, LineFau
     }))
 }
 
-/// The job of `audit`.
+/// The task of `audit`.
 fn audit_task(alloc: Global, matches: &ArgMatches<'_>) -> Result<Task, LineFault>
     ensures { MatchResult result
         (λ task. audit_in (rows_of (found_of matches.now)) ≡ Some (task_view task))
@@ -138,7 +138,7 @@ fn audit_task(alloc: Global, matches: &ArgMatches<'_>) -> Result<Task, LineFault
     }))
 }
 
-/// The task of a command with the values of its arguments.
+/// The task of a subcommand, from the values of its arguments.
 fn task_named(alloc: Global, name: &str, matches: &ArgMatches<'_>) -> Result<Task, LineFault>
     ensures { MatchResult result
         (λ task. task_in name.now (rows_of (found_of matches.now)) ≡ Some (task_view task))
@@ -158,12 +158,12 @@ fn task_named(alloc: Global, name: &str, matches: &ArgMatches<'_>) -> Result<Tas
     }
 }
 
-/// The task that the arguments name. They don't include the program's name.
+/// The task of the arguments, which don't include the program's name.
 ///
 /// # Errors
 ///
-/// `Usage` if the arguments are wrong or ask for help: `clap` refuses them, or the argument of `list`
-/// names no listing. `OutOfMemory` if an allocation fails.
+/// `Usage` if the arguments are wrong or request help: `clap` rejects them, or the argument of
+/// `list` isn't the name of a listing. `OutOfMemory` if an allocation fails.
 pub fn task_of(alloc: Global, arguments: &[String]) -> Result<Task, LineFault>
     ensures { MatchResult result
         (λ task. line (map string_bytes arguments.now) ≡ Some (task_view task))

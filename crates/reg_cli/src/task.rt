@@ -1,9 +1,9 @@
 //! The program's tasks.
 
-/// The largest number of connections after which a server ends, and the default.
+/// The largest number of connections after which a server may stop, and the default.
 pub const MAX_CONNECTIONS: u32 = 2_147_483_647;
 
-/// What to list of a registry.
+/// The kind of a listing.
 #[derive(Clone, Copy, Debug, PartialEq, Eq)]
 pub enum ListingName {
     /// The subjects, each with its own level and its numbers of versions.
@@ -17,8 +17,8 @@ pub enum ListingName {
 /// A task that ends by itself.
 #[derive(Debug, Drop)]
 pub enum Job {
-    /// Answer the requests on standard input, on standard output. The registry is in a database file,
-    /// or a new one in memory.
+    /// Answer the requests on standard input, on standard output. The registry is in a database
+    /// file, or a new one in memory.
     Run { database: Option<String> },
     /// Print the identity text of the schema in a file.
     Text { file: String },
@@ -28,7 +28,8 @@ pub enum Job {
     List { database: String, kind: ListingName },
     /// Upgrade the registry in a database file to the newest layout.
     Migrate { database: String },
-    /// Print whether the evidence of the registry in a database file holds.
+    /// Print whether all pairs in the evidence of a registry are compatible. The registry is in a
+    /// database file.
     Audit { database: String },
 }
 
@@ -39,11 +40,11 @@ pub struct Server {
     pub database: String,
     /// The port, 1 to 65,535.
     pub port: u16,
-    /// The number of connections after which it ends, 1 to `MAX_CONNECTIONS`.
+    /// The number of connections after which it stops, 1 to `MAX_CONNECTIONS`.
     pub connections: u32,
 }
 
-/// What the words ask for.
+/// A task of the program.
 #[derive(Debug, Drop)]
 pub enum Task {
     Job(Job),

@@ -9,7 +9,7 @@ use crate::task::{ListingName, MAX_CONNECTIONS};
 use clap::ArgMatches;
 use std::alloc::{AllocError, Global};
 
-/// The value of an argument, if it has one.
+/// The value of an argument, or `None`.
 pub fn value_of<'a>(matches: &ArgMatches<'a>, id: &str) -> Option<&'a str>
     ensures { option_map (λ text. text.now) result
         ≡ first_of id.now (rows_of (found_of matches.now)) }
@@ -17,7 +17,7 @@ pub fn value_of<'a>(matches: &ArgMatches<'a>, id: &str) -> Option<&'a str>
     matches.get_str(id)
 }
 
-/// A copy of a text, if there is one.
+/// A copy of a text, or `None` without a text.
 ///
 /// # Errors
 ///
@@ -32,7 +32,7 @@ pub fn copy_of(alloc: Global, text: Option<&str>) -> Result<Option<String>, Allo
     }
 }
 
-/// A number of 16 bits, if the text is one.
+/// The text as a number of 16 bits, or `None`.
 pub fn port_in(text: &str) -> Option<u16>
     ensures { result ≡ number_in 16 text.now }
 {
@@ -42,7 +42,7 @@ pub fn port_in(text: &str) -> Option<u16>
     }
 }
 
-/// A number of 32 bits, if the text is one.
+/// The text as a number of 32 bits, or `None`.
 fn count_in(text: &str) -> Option<u32>
     ensures { result ≡ number_in 32 text.now }
 {
@@ -52,7 +52,8 @@ fn count_in(text: &str) -> Option<u32>
     }
 }
 
-/// The number of connections, or `None` if the text is no number.
+/// The number of connections: the default without a text, and `None` if the text isn't a number of
+/// 32 bits.
 pub fn connections_in(text: Option<&str>) -> Option<u32>
     ensures { result ≡ connections_in (option_map (λ text. text.now) text.entry) }
 {
@@ -62,7 +63,7 @@ pub fn connections_in(text: Option<&str>) -> Option<u32>
     }
 }
 
-/// The listing with this name, if there is one.
+/// The listing with this name, or `None`.
 pub fn listing_in(argument: &str) -> Option<ListingName>
     ensures { result ≡ listing_in argument.now }
 {

@@ -1,4 +1,4 @@
--- The values of a name among the fields, one field more at a time.
+-- The values of a name in a list of fields, built one field at a time.
 use Rattle.std.proofs.Common.{◌≡◌, ℕ, ◌+◌, ◌<◌, Bool, true, false, List, [], ◌∷◌, ◌++◌, length, take, map, filter, get_or, refl, ap, ◌∙◌, append-nil}
 use Rattle.std.specs.Prelude.{cond}
 use Rattle.std.specs.Str.{str_eq_ignore_ascii_case}
@@ -6,7 +6,7 @@ use Rattle.std.proofs.lemmas.List.{map-append, take_more}
 use Rattle.std.proofs.lemmas.List.Elements.{filter-append}
 use Rattle.reg_messages.specs.Fields.{HeaderField, values_named}
 
--- the name is the one that is looked for
+-- the field has the name
 abbrev pub is_named : List ℕ → HeaderField → Bool
 is_named name p = str_eq_ignore_ascii_case p.0 name
 
@@ -25,7 +25,7 @@ pub values_named-no : (name : List ℕ) (ps : List HeaderField) (p : HeaderField
     → values_named name (ps ++ p ∷ []) ≡ values_named name ps
 values_named-no name ps p e = one name ps p false e ∙ append-nil (values_named name ps)
 
--- one field more
+-- one more field
 pub fields_more : {A : Type 0} (view : A → HeaderField) (fields : List A) (i : ℕ) (d : A) → i < length fields
     → map view (take (i + 1) fields) ≡ map view (take i fields) ++ view (get_or fields i d) ∷ []
 fields_more view fields i d lt = ap (map view) (take_more fields i d lt) ∙ map-append view (take i fields) (get_or fields i d ∷ [])

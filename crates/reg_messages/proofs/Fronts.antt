@@ -1,4 +1,4 @@
--- The front of the bytes, where the head is looked for.
+-- The front of the bytes, which the parser searches for a head.
 use Rattle.std.proofs.Common.{◌≡◌, ℕ, suc, ◌+◌, ◌-◌, ◌<◌, ◌≤◌, List, [], ◌∷◌, ◌++◌, length, take, drop, map, refl, sym, ap, ◌∙◌, subst, arith, append_assoc, append-nil, length-append, length-drop, lit≤, flat_map, Result, Ok, All, inl, inr}
 use Rattle.std.proofs.lemmas.List.{take-append-drop, take-take, drop-take, drop-append-le, drop-drop, length-take-le}
 use Rattle.httparse.specs.declared.spans.Span.{Span}
@@ -13,7 +13,7 @@ use Rattle.reg_messages.specs.Framing.{framing}
 use Rattle.reg_messages.specs.Messages.{Message, IsMessage, HasHead, HasNoHead, IsPartOfHead, Follows, Part, fields_of}
 use Rattle.reg_messages.specs.ParseOutcomes.{IsWholeMessage, IsPartialUntil}
 
--- where two splits are of one list, the shorter front is a front of the longer
+-- if one list is split twice, the shorter front is a prefix of the longer one
 front_of : (a b c d : List ℕ) → a ++ b ≡ c ++ d → length a ≤ length c → (e : List ℕ) × (c ≡ a ++ e)
 front_of [] b c d h n = (c, refl)
 front_of (x ∷ a) b [] d h n = absurd (omega arith)
@@ -23,19 +23,19 @@ front_of (x ∷ a) b (y ∷ c) d h n =
     let m : length a ≤ length c = omega arith in
     let r = front_of a b c d t m in (r.0, λ i. sym s i ∷ r.1 i)
 
--- no head in the front, so none of its size in the whole
+-- if the front has no head, the whole has no head of the front's size
 pub HasNoHead-front : (bytes front back : List ℕ) → bytes ≡ front ++ back → length front ≡ 16384 → HasNoRequest front → HasNoHead bytes
 HasNoHead-front bytes front back e n none head rest x =
     let fits : length (print_request head) ≤ length front = omega (arith, x.size) in
     let f = front_of (print_request head) rest front back (sym x.reads.1 ∙ e) fits in
     none head f.0 (x.reads.0, f.1)
 
--- nothing that follows makes a head
+-- if no bytes can complete a head in the front, none can in the whole
 pub NeverHasRequest-front : (bytes front back : List ℕ) → bytes ≡ front ++ back → NeverHasRequest front → NeverHasRequest bytes
 NeverHasRequest-front bytes front back e never more head rest x =
     never (back ++ more) head rest (x.0, sym (append_assoc front back more) ∙ (ap (λ w. w ++ more) (sym e) ∙ x.1))
 
--- the head of the front is the head of the whole
+-- a head at the start of the front is a head of the whole
 HasHead-front : (bytes front back rest : List ℕ) (head : RequestHead) → bytes ≡ front ++ back → length front ≤ 16384
     → ReadsRequest front head rest → HasHead bytes head (rest ++ back)
 HasHead-front bytes front back rest head e n x = record {
@@ -43,14 +43,14 @@ HasHead-front bytes front back rest head e n x = record {
   size = omega (arith, ap length x.1, length-append (print_request head) rest);
 }
 
--- a head has a byte at least
+-- a head has at least one byte
 pub head_some : (buf rest : List ℕ) (head : RequestHead) → ReadsRequest buf head rest → 0 < length (print_request head)
 head_some buf rest head x =
     let e = ap length (sym (append-nil (print_request head)) ∙ print_request-append head []) in
     let t = simp length-append at e in
     omega (arith, t, x.0.method.0)
 
--- a field has a byte at least
+-- a field has at least one byte
 field_some : (field : Field) → 0 < length (print_field field)
 field_some field =
     let whole : length (print_field field) ≡ length (field.name ++ (colon ∷ field.raw)) + length (print_end field.end) =
@@ -61,7 +61,7 @@ fields_some : (fields : List Field) → length fields ≤ length (flat_map print
 fields_some [] = lit≤ tt
 fields_some (field ∷ fields) = omega (arith, length-append (print_field field) (flat_map print_field fields), field_some field, fields_some fields)
 
--- bytes that begin with a head of too many fields are more than there is room for fields
+-- if a head has too many fields, there are more bytes than room for fields
 pub exceeds_room : (room : ℕ) (bytes : List ℕ) → RequestExceeds room bytes → room < length bytes
 exceeds_room room bytes (front, rest, is, head, reads, over) =
     let e = ap length (sym (append-nil (print_request head)) ∙ print_request-append head []) in
@@ -77,7 +77,7 @@ span_bytes-take n xs s w =
     ap (λ m. take (s.end - s.start) (drop s.start (take m xs))) e
     ∙ (ap (take (s.end - s.start)) (drop-take s.start (n - s.start) xs) ∙ take-take (s.end - s.start) (n - s.start) (drop s.start xs) le)
 
--- and so do the spans of headers
+-- so do the spans of header fields
 pub header_bytes-take : (n : ℕ) (xs : List ℕ) (hs : List HeaderSpan) → All (IsHeaderWithin n) hs
     → map (header_bytes (take n xs)) hs ≡ map (header_bytes xs) hs
 header_bytes-take n xs [] w = refl
@@ -89,7 +89,7 @@ header_bytes-take n xs (h ∷ hs) w =
     let value = span_bytes-take n xs h.value here.1 in
     λ i. (name i, value i) ∷ rest i
 
--- the head that the parser found in the front
+-- the parser's head is a head of the whole
 pub HasHead-found : (bytes : List ℕ) (n : ℕ) (headers : List HeaderSpan) (r : RequestSpans) (head : RequestHead)
     → n ≤ length bytes → n ≤ 16384 → IsRequestAt (take n bytes) headers r head → HasHead bytes head (drop r.len bytes)
 HasHead-found bytes n headers r head le small x =
@@ -101,12 +101,12 @@ HasHead-found bytes n headers r head le small x =
     sym (drop-append-le r.len front (drop n bytes) fits) ∙ ap (drop r.len) (take-append-drop n bytes) in
     subst (HasHead bytes head) e (HasHead-front bytes front (drop n bytes) (drop r.len front) head (sym (take-append-drop n bytes)) short x.reads)
 
--- what its fields say of the body
+-- the framing by the spans is the framing of the head
 pub framed : (front : List ℕ) (headers : List HeaderSpan) (r : RequestSpans) (head : RequestHead) (result : Result ℕ Code)
     → IsRequestAt front headers r head → result ≡ framing (map (header_bytes front) (take r.headers headers)) → framing (fields_of head) ≡ result
 framed front headers r head result x e = sym (e ∙ ap framing x.fields)
 
--- and the whole message
+-- the parser's head and a body make a whole message
 pub IsWholeMessage-found : (bytes : List ℕ) (n k : ℕ) (headers : List HeaderSpan) (r : RequestSpans) (head : RequestHead)
     → n ≤ length bytes → n ≤ 16384 → IsRequestAt (take n bytes) headers r head → IsRequestWithin (take n bytes) headers r
     → framing (fields_of head) ≡ Ok k → k ≤ length bytes - r.len
@@ -149,7 +149,7 @@ IsWholeMessage-found bytes n k headers r head le small x within f fits =
       },
     )
 
--- more bytes behind a head
+-- more bytes after a head
 HasHead-more : (bytes rest more : List ℕ) (head : RequestHead) → HasHead bytes head rest → HasHead (bytes ++ more) head (rest ++ more)
 HasHead-more bytes rest more head x = record {
   reads = (x.reads.0, ap (λ w. w ++ more) x.reads.1 ∙ append_assoc (print_request head) rest more);
@@ -162,7 +162,7 @@ IsMessage-more bytes rest more message x = record {
   body = x.body;
 }
 
--- a part of a head may be whole with the next byte
+-- a part of a head may be complete after the next byte
 pub IsPartialUntil-head : (bytes : List ℕ) → IsPartOfHead bytes → IsPartialUntil bytes (length bytes + 1)
 IsPartialUntil-head bytes h = record {
   short = omega arith;
@@ -176,7 +176,7 @@ IsPartialUntil-head bytes h = record {
     no_bytes [] few = refl
     no_bytes (x ∷ more) few = absurd (omega arith)
 
--- a whole head waits for its body
+-- a whole head is incomplete until its body is there
 pub IsPartialUntil-body : (bytes : List ℕ) (head : RequestHead) (len size : ℕ) → size ≤ 1048576 → HasHead bytes head (drop len bytes) → framing (fields_of head) ≡ Ok size
     → len ≤ length bytes → len ≡ length (print_request head) → length bytes < len + size → IsPartialUntil bytes (len + size)
 IsPartialUntil-body bytes head len size most x f inside is short = record {

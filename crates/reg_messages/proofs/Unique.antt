@@ -1,4 +1,4 @@
--- The bytes have one reading.
+-- A stream of bytes has only one parse.
 use Rattle.std.proofs.Common.{◌≡◌, ℕ, zero, suc, Bool, List, [], ◌∷◌, ◌++◌, length, codes, lit<, lit≤, inl, inr, refl, sym, ap, ◌∙◌, subst, arith, append-nil, length-append, Ok, Err, Result}
 use Rattle.std.specs.Prelude.{IsTrue}
 use Rattle.httparse.specs.Grammar.{lf, AllPass, is_token_byte, is_uri_byte, RequestHead, IsRequestHead, print_request, NeverHasRequest}
@@ -8,7 +8,7 @@ use Rattle.reg_messages.specs.Framing.{framing}
 use Rattle.reg_messages.specs.Messages.{Message, HasHead, NeverHasHead, IsMessage, ParsesInto, Follows, Agree, Messages, fields_of, Tail, End, Part, Faulty}
 use Rattle.reg_messages.proofs.Fronts.{head_some}
 
--- equal lists that are split at one position
+-- equal lists, split at the same position, have equal parts
 same_split : (a b c d : List ℕ) → a ++ b ≡ c ++ d → length a ≡ length c → (a ≡ c) × (b ≡ d)
 same_split [] b [] d e n = (refl, e)
 same_split [] b (y ∷ c) d e n = absurd (omega arith)
@@ -19,7 +19,7 @@ same_split (x ∷ a) b (y ∷ c) d e n =
     let m : length a ≡ length c = omega arith in
     let r = same_split a b c d t m in ((λ i. s i ∷ r.0 i), r.1)
 
--- the heads and the rests are the same
+-- two heads at the start of the same bytes are equal, and so are the rests
 HasHead-unique : (bytes : List ℕ) (h k : RequestHead) (r q : List ℕ) → HasHead bytes h r → HasHead bytes k q → (h ≡ k) × (r ≡ q)
 HasHead-unique bytes h k r q x y = request_unique bytes h k r q x.reads y.reads
 
@@ -29,7 +29,7 @@ same_ok m n a b e f g = cc
 ok_or_err : (n : ℕ) (code : Code) (a b : Result ℕ Code) → a ≡ b → a ≡ Ok n → b ≡ Err code → ⊥
 ok_or_err n code a b e f g = cc
 
--- the length that the fields say
+-- the body's length by the fields of a head, or the code of their fault
 abbrev framing_of : RequestHead → Result ℕ Code
 framing_of h = framing (fields_of h)
 
@@ -40,19 +40,19 @@ IsMessage-unique bytes m k r q x y =
     let t = same_split m.body r k.body q s.1 n in
     ((λ i. record { head = s.0 i; body = t.0 i }), t.1)
 
--- bytes that begin with no head, whatever follows them, have none
+-- if no bytes can complete a head, the bytes have none
 no_head_ever : (bytes rest : List ℕ) (head : RequestHead) → NeverHasHead bytes → HasHead bytes head rest → ⊥
 no_head_ever bytes rest head (inl never) x = never [] head (rest ++ []) (ReadsRequest-append bytes head rest [] x.reads)
 no_head_ever bytes rest head (inr none) x = none.1 head rest x
 
--- no byte is no head
+-- an empty list has no head
 no_bytes : (bytes rest : List ℕ) (head : RequestHead) → bytes ≡ [] → HasHead bytes head rest → ⊥
 no_bytes bytes rest head none x =
     let some = head_some bytes rest head x.reads in
     let e = ap length (sym none ∙ x.reads.1) in
     omega (arith, some, e, length-append (print_request head) rest)
 
--- what follows the messages begins with none
+-- the remainder doesn't begin with a message
 no_message : (bytes rest : List ℕ) (m : Message) (tail : Tail) → Follows bytes tail → IsMessage bytes m rest → ⊥
 no_message bytes rest m End f x = no_bytes bytes (m.body ++ rest) m.head f x.head
 no_message bytes rest m Part (inl f) x = f.none_yet m.head (m.body ++ rest) x.head.reads
@@ -65,7 +65,7 @@ no_message bytes rest m (Faulty code) (inr f) x =
     let s = HasHead-unique bytes f.head m.head f.rest (m.body ++ rest) f.has_head x.head in
     ok_or_err _ code _ _ (sym (ap framing_of s.0)) x.body f.framed
 
--- ---- what follows the messages
+-- ---- the remainder
 
 one_byte : (test : ℕ → Bool) (byte : ℕ) → IsTrue (test byte) → AllPass test (byte ∷ [])
 one_byte test byte passes zero d low = passes
@@ -84,11 +84,11 @@ a_head_is_one = record {
   fields = λ k d low. absurd (omega (arith, low));
 }
 
--- no byte may become a head
+-- an empty list may become a head
 may_begin : NeverHasRequest [] → ⊥
 may_begin never = never (print_request a_head) a_head [] (a_head_is_one, sym (append-nil (print_request a_head)))
 
--- where nothing follows, neither a part does nor a fault
+-- an empty remainder is neither a part nor a fault
 no_part : (bytes : List ℕ) → Follows bytes End → Follows bytes Part → ⊥
 no_part bytes none (inl f) = omega (arith, f.some, ap length none)
 no_part bytes none (inr f) = no_bytes bytes f.rest f.head none f.has_head
@@ -98,7 +98,7 @@ no_fault bytes code none (inl (is, inl never)) = may_begin (subst NeverHasReques
 no_fault bytes code none (inl (is, inr long)) = omega (arith, long.0, ap length none)
 no_fault bytes code none (inr f) = no_bytes bytes f.rest f.head none f.has_head
 
--- a part is a fault only inside a target
+-- a remainder is both a part and a fault only if it ends inside a target
 part_or_fault : (bytes : List ℕ) (code : Code) → Follows bytes Part → Follows bytes (Faulty code) → Agree bytes Part (Faulty code)
 part_or_fault bytes code (inl f) (inl (is, inl never)) = elim f.may_become [
   | inl head ↦ absurd (never head.0 head.1 [] head.2)
@@ -150,7 +150,7 @@ ParsesInto-unique bytes (m ∷ ms) (k ∷ ks) r q t u a f b h =
     let z = ParsesInto-unique a.0 ms ks r q t u a.2 f (subst (λ (w : List ℕ). ParsesInto w ks q) (sym s.1) b.2) h in
     ((λ i. s.0 i ∷ z.0 i), z.1)
 
--- the messages are these and no others, and so is what follows them
+-- the messages and the remainder are determined
 pub Messages-unique : (bytes : List ℕ) (ms ks : List Message) (t u : Tail) (one : Messages bytes ms t) → Messages bytes ks u
     → (ms ≡ ks) × Agree one.rest t u
 Messages-unique bytes ms ks t u one other =

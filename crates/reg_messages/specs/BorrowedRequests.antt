@@ -1,4 +1,4 @@
--- A message, borrowed from the bytes that were read.
+-- Messages that are borrowed from the input.
 use Rattle.std.specs.Prelude.{◌≡◌, List, map}
 use Rattle.httparse.specs.Spans.{header_bytes}
 use Rattle.reg_messages.specs.declared.request.Request.{Request}
@@ -9,7 +9,7 @@ use Rattle.reg_messages.specs.Messages.{Message, fields_of}
 abbrev pub fields_in : Request → List HeaderField
 fields_in r = map (header_bytes r.head.now) r.fields.now
 
--- its parts are those of the message
+-- the borrowed request has the parts of the message
 pub record Borrows (r : Request) (message : Message) : Type 0 where
   pub method : r.method.now ≡ message.head.method
   pub target : r.target.now ≡ message.head.target

@@ -1,4 +1,4 @@
--- How long a message's body is, by the fields of its head (RFC 9112, section 6).
+-- The length of a message's body, by the fields of its head (RFC 9112, section 6).
 use Rattle.std.specs.Prelude.{ℕ, Bool, ◌&&◌, List, [], ◌∷◌, length, codes, nat_lt, nat_le, Result, Ok, Err, if◌then◌else◌}
 use Rattle.std.specs.List.{list_all}
 use Rattle.std.specs.Char.{is_ascii_digit}
@@ -7,32 +7,32 @@ use Rattle.reg_core.specs.declared.code.Code.{Code}
 use Rattle.reg_core.specs.declared.code.Code.TheVariants.{MalformedRequest, CodingNotSupported, BodyTooLarge}
 use Rattle.reg_messages.specs.Fields.{HeaderField, values_named}
 
--- the most bytes of a body (this project's choice)
+-- the maximum size of a body in bytes (this project's choice)
 abbrev pub max_body : ℕ
 max_body = 1048576
 
--- 1 to 19 digits (this project's choice of a length's form)
+-- a length has 1 to 19 digits (this project's choice)
 abbrev pub is_length : List ℕ → Bool
 is_length text = nat_lt 0 (length text) && nat_le (length text) 19 && list_all is_ascii_digit text
 
--- the number of bytes that a length writes, within the limit
+-- the number of bytes that a text says, within the limit
 abbrev pub body_length : List ℕ → Result ℕ Code
 body_length text =
     if is_length text
     then (if nat_le (digits_value 10 text) max_body then Ok (digits_value 10 text) else Err BodyTooLarge)
     else Err MalformedRequest
 
--- by the values of the Content-Length fields: none means no body, and two are refused
+-- The length by the values of the Content-Length fields: none means no body, and two are rejected.
 abbrev pub length_of : List (List ℕ) → Result ℕ Code
 length_of [] = Ok 0
 length_of (text ∷ []) = body_length text
 length_of (text ∷ other ∷ more) = Err MalformedRequest
 
--- A Transfer-Encoding is refused before a Content-Length is looked at.
+-- A Transfer-Encoding is rejected, before any Content-Length is examined.
 abbrev pub length_unless_coded : List (List ℕ) → List (List ℕ) → Result ℕ Code
 length_unless_coded [] lengths = length_of lengths
 length_unless_coded (coding ∷ more) lengths = Err CodingNotSupported
 
--- the body's length, or the first fault that the fields have
+-- the body's length, or the code of the first fault in the fields
 unfoldable pub framing : List HeaderField → Result ℕ Code
 framing fields = length_unless_coded (values_named (codes "Transfer-Encoding") fields) (values_named (codes "Content-Length") fields)

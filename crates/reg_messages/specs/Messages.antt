@@ -1,5 +1,5 @@
--- The messages of a stream of bytes. A message is a request's head, as httparse's grammar has it
--- (RFC 9112, sections 2 to 5), and a body of as many bytes as the head's fields say.
+-- The messages of a stream of bytes. A message is a request's head and a body. The head follows the grammar of httparse (RFC 9112, sections 2 to 5).
+-- The body has the length that the head's fields say.
 use Rattle.std.specs.Prelude.{◌≡◌, ℕ, ◌<◌, ◌≤◌, ◌⊎◌, List, [], ◌∷◌, ◌++◌, map, length, Ok, Err}
 use Rattle.httparse.specs.Grammar.{RequestHead, print_request, ReadsRequest, HasNoRequest, NeverHasRequest, EndsInTarget, MayBecomeRequest}
 use Rattle.httparse.specs.Spans.{name_and_value}
@@ -8,7 +8,7 @@ use Rattle.reg_core.specs.declared.code.Code.TheVariants.{MalformedRequest}
 use Rattle.reg_messages.specs.Fields.{HeaderField}
 use Rattle.reg_messages.specs.Framing.{framing}
 
--- the most bytes of a head, with its empty line (this project's choice)
+-- the maximum size of a head in bytes, including its empty line (this project's choice)
 abbrev pub max_head : ℕ
 max_head = 16384
 
@@ -16,7 +16,7 @@ pub record Message : Type 0 where
   pub head : RequestHead
   pub body : List ℕ
 
--- bytes begin with a head within the limit, and then rest
+-- the bytes are a head within the size limit, followed by the rest
 pub record HasHead (bytes : List ℕ) (head : RequestHead) (rest : List ℕ) : Type 0 where
   pub reads : ReadsRequest bytes head rest
   pub size : length (print_request head) ≤ max_head
@@ -25,17 +25,17 @@ pub record HasHead (bytes : List ℕ) (head : RequestHead) (rest : List ℕ) : T
 abbrev pub fields_of : RequestHead → List HeaderField
 fields_of head = map name_and_value head.fields
 
--- bytes are the message, and then rest
+-- the bytes are the message, followed by the rest
 pub record IsMessage (bytes : List ℕ) (message : Message) (rest : List ℕ) : Type 0 where
   pub head : HasHead bytes message.head (message.body ++ rest)
   pub body : framing (fields_of message.head) ≡ Ok (length message.body)
 
--- bytes are these messages, and then rest
+-- the bytes are these messages, followed by the rest
 abbrev pub ParsesInto : List ℕ → List Message → List ℕ → Type 0
 ParsesInto bytes [] rest = bytes ≡ rest
 ParsesInto bytes (m ∷ ms) rest = (mid : List ℕ) × IsMessage bytes m mid × ParsesInto mid ms rest
 
--- no head within the limit is at the front
+-- the bytes don't begin with a head within the size limit
 abbrev pub HasNoHead : List ℕ → Type 0
 HasNoHead bytes = (head : RequestHead) (rest : List ℕ) → ¬ (HasHead bytes head rest)
 
@@ -55,11 +55,11 @@ pub record IsPartOfBody (bytes : List ℕ) : Type 0 where
   pub framed : framing (fields_of head) ≡ Ok size
   pub short : length rest < size
 
--- no bytes can follow that make a head, or the limit is reached without one
+-- no further bytes can complete a head, or the bytes reach the size limit without one
 abbrev pub NeverHasHead : List ℕ → Type 0
 NeverHasHead bytes = NeverHasRequest bytes ⊎ ((max_head ≤ length bytes) × HasNoHead bytes)
 
--- a whole head, whose fields have a fault
+-- a whole head whose fields have a fault
 pub record HasFaultyHead (bytes : List ℕ) (code : Code) : Type 0 where
   pub head : RequestHead
   pub rest : List ℕ
@@ -71,23 +71,22 @@ pub data Tail : Type 0 where
   End Part : Tail
   Faulty : Code → Tail
 
--- Nothing follows; or less than a whole message; or a fault, the first in the order of the rules.
--- Where bytes end inside a target and no continuation is a head, they are both a part and a fault:
--- the grammar leaves this one case open.
+-- Nothing follows the messages, or a part of a message, or the first fault in the order of the rules. If the bytes end inside a target that no bytes
+-- can continue to a head, they are both a part and a fault: the grammar leaves this case open.
 abbrev pub Follows : List ℕ → Tail → Type 0
 Follows bytes End = bytes ≡ []
 Follows bytes Part = IsPartOfHead bytes ⊎ IsPartOfBody bytes
 Follows bytes (Faulty code) = ((code ≡ MalformedRequest) × NeverHasHead bytes) ⊎ HasFaultyHead bytes code
 
--- the bytes end inside a target, and are read as a part and as a fault: the case that the grammar leaves open
+-- the bytes end inside a target, and are read as a part and as a fault
 abbrev pub IsAmbiguous : List ℕ → Tail → Tail → Type 0
 IsAmbiguous bytes t u = EndsInTarget bytes × (t ≡ Part) × (u ≡ Faulty MalformedRequest)
 
--- two readings of what follows are one, but for that case
+-- two readings of the remainder are equal, except in that case
 abbrev pub Agree : List ℕ → Tail → Tail → Type 0
 Agree bytes t u = (t ≡ u) ⊎ (IsAmbiguous bytes t u ⊎ IsAmbiguous bytes u t)
 
--- the whole messages at the front, and what follows them
+-- the bytes are these whole messages, followed by this remainder
 pub record Messages (bytes : List ℕ) (messages : List Message) (tail : Tail) : Type 0 where
   pub rest : List ℕ
   pub leads : ParsesInto bytes messages rest

@@ -1,4 +1,4 @@
--- What one look at the front of the bytes found.
+-- What one parse of the front of the bytes returns.
 use Rattle.std.specs.Prelude.{◌≡◌, ℕ, ◌+◌, ◌<◌, ◌≤◌, List, ◌++◌, map, length, take, drop}
 use Rattle.httparse.specs.declared.spans.HeaderSpan.{HeaderSpan}
 use Rattle.httparse.specs.Spans.{IsRequestWithin, span_bytes, header_bytes}
@@ -12,7 +12,7 @@ use Rattle.reg_messages.specs.Messages.{Message, max_head, IsMessage, Follows, E
 abbrev pub head_bytes : List ℕ → Whole → List ℕ
 head_bytes bytes whole = take whole.head.len bytes
 
--- the message is at the front, and these are the positions of its parts
+-- The message is at the front of the bytes, and `whole` has the positions of its parts in `headers` and in the bytes.
 pub record IsWholeMessage (bytes : List ℕ) (headers : List HeaderSpan) (whole : Whole) (message : Message) : Type 0 where
   pub reads : IsMessage bytes message (drop (whole.head.len + whole.body) bytes)
   pub size : whole.head.len + whole.body ≤ length bytes
@@ -24,14 +24,14 @@ pub record IsWholeMessage (bytes : List ℕ) (headers : List HeaderSpan) (whole 
   pub fields : map (header_bytes (head_bytes bytes whole)) (take whole.head.headers headers) ≡ fields_of message.head
   pub body : take whole.body (drop whole.head.len bytes) ≡ message.body
 
--- The bytes are less than a whole message, and stay so while there are fewer than that, whatever they are. With those that
--- are needed they fit into the room for a message.
+-- The bytes are less than a whole message. With any bytes after them they remain so, until there are `needs` bytes in all. These fit into a buffer of
+-- the maximum sizes of a head and a body.
 pub record IsPartialUntil (bytes : List ℕ) (needs : ℕ) : Type 0 where
   pub short : length bytes < needs
   pub fits : needs ≤ max_head + max_body
   pub part : (more : List ℕ) → length (bytes ++ more) < needs → Follows (bytes ++ more) Part
 
--- what a look found that had room for so many fields; as many as a head may have bytes suffice
+-- the outcome of a parse with room for `room` fields; `max_head` fields are enough for every head
 abbrev pub ParsesAs : ℕ → List ℕ → List HeaderSpan → ParseOutcome → Type 0
 ParsesAs room bytes headers (WholeLook whole) = (message : Message) × IsWholeMessage bytes headers whole message
 ParsesAs room bytes headers Nothing = Follows bytes End

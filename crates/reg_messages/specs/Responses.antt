@@ -1,4 +1,4 @@
--- The bytes of an answer (RFC 9112, sections 2 to 6).
+-- The bytes of a response (RFC 9112, sections 2 to 6).
 use Rattle.std.specs.Prelude.{ℕ, Bool, true, false, List, [], ◌∷◌, ◌++◌, length, Option, Some, None, codes, unwrap_or}
 use Rattle.std.specs.Fmt.{decimal}
 use Rattle.http.specs.StatusCode.{reason_phrase}
@@ -9,11 +9,11 @@ use Rattle.reg_core.specs.Replies.{ReplyView, fault}
 abbrev pub line_end : List ℕ
 line_end = 13 ∷ 10 ∷ []
 
--- a status's phrase, by http's table
+-- a status's reason phrase, from the table of `http`
 unfoldable pub phrase_of : ℕ → List ℕ
 phrase_of status = unwrap_or (reason_phrase status) []
 
--- the line that begins an answer (RFC 9112, section 4)
+-- the status line (RFC 9112, section 4)
 abbrev pub status_line : ℕ → List ℕ
 status_line status = codes "HTTP/1.1 " ++ decimal status ++ codes " " ++ phrase_of status ++ line_end
 
@@ -21,25 +21,25 @@ status_line status = codes "HTTP/1.1 " ++ decimal status ++ codes " " ++ phrase_
 abbrev pub type_line : List ℕ
 type_line = codes "Content-Type: application/vnd.schemaregistry.v1+json" ++ line_end
 
--- the methods of the path, where one that it hasn't was asked for (RFC 9110, section 10.2.1)
+-- the methods of the path, for a method that it doesn't have (RFC 9110, section 10.2.1)
 abbrev pub allow_line : Option (List ℕ) → List ℕ
 allow_line None = []
 allow_line (Some methods) = codes "Allow: " ++ methods ++ line_end
 
--- how many bytes the body has (RFC 9110, section 8.6)
+-- the body's length in bytes (RFC 9110, section 8.6)
 abbrev pub length_line : ℕ → List ℕ
 length_line length = codes "Content-Length: " ++ decimal length ++ line_end
 
--- where the connection ends after this answer (RFC 9112, section 9.6)
+-- for a response after which the connection ends (RFC 9112, section 9.6)
 abbrev pub close_line : Bool → List ℕ
 close_line true = codes "Connection: close" ++ line_end
 close_line false = []
 
--- an answer: its lines in this order, an empty line, and the body
+-- a response: its lines in this order, an empty line, and the body
 unfoldable pub answer_bytes : ReplyView → Option (List ℕ) → Bool → List ℕ
 answer_bytes reply allow close =
     status_line reply.status ++ type_line ++ allow_line allow ++ length_line (length reply.body) ++ close_line close ++ line_end ++ reply.body
 
--- the answer to a fault after the whole messages, which ends the connection
+-- the response to a fault after the whole messages, which ends the connection
 abbrev pub fault_response : Code → List ℕ
 fault_response code = answer_bytes (fault code) None true

@@ -1,4 +1,4 @@
-//! Whether the connection ends after a message. (RFC 9112, section 9.)
+//! Whether a message ends the connection (RFC 9112, section 9).
 
 ghost use Rattle.std.specs.Prelude.{◌≡◌};
 ghost use Rattle.reg_messages.specs.BorrowedRequests.{fields_in};
@@ -8,8 +8,8 @@ use crate::request::Request;
 use http1::fields::KnownFields;
 
 impl<'a> Request<'a> {
-    /// Whether the connection ends after this message is answered: for HTTP/1.0, and where a
-    /// `Connection` field lists `close`, whatever the case of its letters. (RFC 9112, sections 9.3 and
+    /// Whether the connection ends after the response to this message. It does for HTTP/1.0, and if
+    /// a `Connection` field lists `close`, in upper or lower case. (RFC 9112, sections 9.3 and
     /// 9.6.)
     pub fn closes(&self) -> bool
         ensures { result ≡ closes_by self.now.minor (fields_in self.now) }

@@ -7,18 +7,18 @@ ghost use Rattle.reg_messages.specs.Fields.{values_named};
 
 use httparse::spans::HeaderSpan;
 
-/// What a look for a field's name finds.
+/// The result of a lookup of a field by its name.
 #[derive(Clone, Copy)]
 pub enum FieldLookup<'a> {
     /// No field has the name.
     Missing,
-    /// One field has it, with this value.
+    /// One field has the name, with this value.
     Once(&'a [u8]),
-    /// More than one field has it.
+    /// More than one field has the name.
     Repeated,
 }
 
-/// Whether the names are equal but for the case of their letters.
+/// Whether the names are equal, regardless of case.
 fn is_name(name: &[u8], other: &[u8]) -> bool
     ensures { result ≡ str_eq_ignore_ascii_case name.now other.now }
 {
@@ -28,7 +28,7 @@ fn is_name(name: &[u8], other: &[u8]) -> bool
 impl<'a> FieldLookup<'a> {
     ghost use Rattle.reg_messages.specs.Fields.{FindsField};
 
-    /// With one more value behind those that were found.
+    /// The result with one more value found.
     fn and(self, value: &'a [u8]) -> FieldLookup<'a>
         ensures { (values : List (List ℕ)) → FindsField values self.entry
             → FindsField (values ++ value.now ∷ []) result }
@@ -40,7 +40,7 @@ impl<'a> FieldLookup<'a> {
         }
     }
 
-    /// Looks for a field by its name, whatever the case of its letters.
+    /// Looks up a field by its name, regardless of case.
     pub fn by_name(head: &'a [u8], fields: &[HeaderSpan], name: &[u8]) -> FieldLookup<'a>
         requires { All (IsHeaderWithin (length head.now)) fields.now }
         ensures { FindsField (values_named name.now (map (header_bytes head.now) fields.now)) result }

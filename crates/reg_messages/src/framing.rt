@@ -1,4 +1,4 @@
-//! How long a message's body is (RFC 9112, section 6).
+//! The length of a message's body (RFC 9112, section 6).
 
 ghost use Rattle.std.specs.Prelude.{◌≡◌, ◌≤◌, IfOk, map, length, All};
 ghost use Rattle.httparse.specs.Spans.{IsHeaderWithin, header_bytes};
@@ -8,11 +8,11 @@ use crate::fields::FieldLookup;
 use httparse::spans::HeaderSpan;
 use reg_core::Code;
 
-/// The most bytes of a body.
+/// The maximum size of a body, in bytes.
 pub const MAX_BODY: u64 = 1_048_576;
 
-/// The length in bytes that a `Content-Length` writes in 1 to 19 digits: `MalformedRequest` where
-/// it doesn't, and `BodyTooLarge` past the limit.
+/// The length in bytes that the text of a `Content-Length` says. `MalformedRequest` unless the text
+/// is 1 to 19 digits; `BodyTooLarge` above `MAX_BODY`.
 fn parse_length(text: &[u8]) -> Result<usize, Code>
     ensures value { result ≡ body_length text.now }
     ensures within { IfOk result (λ length. length ≤ max_body) }
@@ -33,12 +33,13 @@ fn parse_length(text: &[u8]) -> Result<usize, Code>
     Ok(n as usize)
 }
 
-/// The body's length in bytes by the fields of the head, 0 without a `Content-Length`.
+/// The length of the body in bytes, as the fields of the head say: 0 without a `Content-Length`.
 ///
 /// # Errors
 ///
-/// `CodingNotSupported` for a `Transfer-Encoding`. Else `MalformedRequest` for two lengths, or for
-/// one that isn't 1 to 19 digits, and `BodyTooLarge` for one above `MAX_BODY`.
+/// `CodingNotSupported` if there is a `Transfer-Encoding`. Otherwise `MalformedRequest` if there
+/// are two lengths, or one that isn't 1 to 19 digits, and `BodyTooLarge` if the length is above
+/// `MAX_BODY`.
 pub fn length_from_fields(head: &[u8], fields: &[HeaderSpan]) -> Result<usize, Code>
     requires { All (IsHeaderWithin (length head.now)) fields.now }
     ensures value { result ≡ framing (map (header_bytes head.now) fields.now) }

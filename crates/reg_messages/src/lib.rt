@@ -1,4 +1,4 @@
-//! HTTP messages: from bytes to requests, and from replies to bytes.
+//! HTTP messages: parses requests from bytes, and writes responses as bytes.
 
 #![tactic(auto)]
 

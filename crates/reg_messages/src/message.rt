@@ -1,4 +1,4 @@
-//! Cutting the first message off a stream of bytes (RFC 9112, sections 2 to 6).
+//! Parses the first message of a stream of bytes (RFC 9112, sections 2 to 6).
 
 ghost use Rattle.std.specs.Prelude.{◌≡◌, ℕ, List, length};
 ghost use Rattle.reg_messages.specs.ParseOutcomes.{ParsesAs};
@@ -9,33 +9,34 @@ use httparse::spans::{HeaderSpan, RequestSpans, parse_request};
 use httparse::{Error, Status};
 use reg_core::Code;
 
-/// The most bytes of a head, with its empty line.
+/// The maximum size of a head in bytes, including its empty line.
 pub const MAX_HEAD: usize = 16_384;
 
-/// A whole message at the front of the bytes: where the parts of its head are, and its body's
-/// length in bytes.
+/// The spans of a whole message at the front of the bytes: those of its head, and its body's length
+/// in bytes.
 #[derive(Clone, Copy)]
 pub struct Whole {
     pub head: RequestSpans,
     pub body: usize,
 }
 
-/// What stands at the front of the bytes.
+/// What is at the front of the bytes.
 #[derive(Clone, Copy)]
 pub enum ParseOutcome {
     /// A whole message.
     Whole(Whole),
-    /// No byte.
+    /// There are no bytes.
     Nothing,
-    /// Less than a whole message, which has at least so many bytes.
+    /// Less than a whole message. The message has at least this number of bytes.
     Part(usize),
-    /// What is no message, with the code of its fault.
+    /// A fault, with its code.
     Faulty(Code),
-    /// More fields than there is room for.
+    /// A head with more fields than there is room for.
     TooManyFields,
 }
 
-/// Looks at the front of the bytes, with room for the fields of a head. 16,384 fields are enough.
+/// Parses the front of the bytes. `headers` is the room for the fields of a head: 16,384 are enough
+/// for every head.
 pub fn parse_front(bytes: &[u8], headers: &mut [HeaderSpan]) -> ParseOutcome
     ensures { ParsesAs (length headers.old) bytes.now headers.new result }
 {
@@ -68,8 +69,8 @@ pub fn parse_front(bytes: &[u8], headers: &mut [HeaderSpan]) -> ParseOutcome
     }
 }
 
-/// A law: a stream of bytes has one list of whole messages, and one of what follows them, but where
-/// it ends inside a target. So what is answered is determined.
+/// A law: a stream of bytes has one list of whole messages and one remainder, unless it ends inside
+/// a target. So the bytes determine the responses.
 pub fn parse_is_unique()
     ensures { (bytes : List ℕ) (ms ks : List Message) (t u : Tail)
         → (one : Messages bytes ms t) → Messages bytes ks u → (ms ≡ ks) × Agree one.rest t u }

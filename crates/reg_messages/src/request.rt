@@ -1,4 +1,4 @@
-//! A whole message, borrowed from the bytes that were read.
+//! A whole message, borrowed from the input.
 
 ghost use Rattle.std.specs.Prelude.{length, All};
 ghost use Rattle.httparse.specs.Spans.{IsHeaderWithin};
@@ -6,16 +6,16 @@ ghost use Rattle.httparse.specs.Spans.{IsHeaderWithin};
 use crate::message::Whole;
 use httparse::spans::HeaderSpan;
 
-/// A whole message, borrowed from the bytes that were read. (RFC 9112, section 2.1.)
+/// A whole message, borrowed from the input. (RFC 9112, section 2.1.)
 #[derive(Clone, Copy)]
 pub struct Request<'a> {
-    /// The method's name.
+    /// The method.
     pub method: &'a [u8],
-    /// The target as it was sent.
+    /// The target, as sent.
     pub target: &'a [u8],
-    /// The minor version of HTTP: 0 or 1.
+    /// The minor version of HTTP/1: 0 or 1.
     pub minor: u8,
-    /// The bytes that the fields' spans are of.
+    /// The bytes of the head, to which the spans of the fields refer.
     pub head: &'a [u8],
     /// The fields of the head.
     pub fields: &'a [HeaderSpan],
@@ -29,7 +29,7 @@ impl<'a> Request<'a> {
     ghost use Rattle.reg_messages.specs.Messages.{Message};
     ghost use Rattle.reg_messages.specs.BorrowedRequests.{Borrows};
 
-    /// The whole message at the front of the bytes.
+    /// The whole message at the front of the bytes, by the spans that `parse_front` found.
     pub fn of(bytes: &'a [u8], headers: &'a [HeaderSpan], whole: Whole) -> Request<'a>
         requires { (message : Message) × IsWholeMessage bytes.now headers.now whole message }
         ensures { (message : Message) → IsWholeMessage bytes.entry.now headers.entry.now whole message

@@ -1,4 +1,4 @@
-//! The bytes of an answer (RFC 9112, sections 2 to 6).
+//! The bytes of a response (RFC 9112, sections 2 to 6).
 
 ghost use Rattle.std.specs.Prelude.{◌≡◌, IfOk, option_map, string_bytes};
 ghost use Rattle.http.specs.StatusCode.{IsStatusCode};
@@ -8,10 +8,10 @@ use http::StatusCode;
 use reg_core::{OutOfMemory, Reply};
 use std::alloc::Global;
 
-/// The line that names the body's media type.
+/// The line with the body's media type.
 const TYPE_LINE: &str = "Content-Type: application/vnd.schemaregistry.v1+json\r\n";
 
-/// The phrase of a status, by http's table.
+/// The reason phrase of a status, from the table of `http`.
 fn phrase_of(status: u16) -> &'static str
     requires { IsStatusCode status }
     ensures { result.now ≡ phrase_of status }
@@ -22,7 +22,7 @@ fn phrase_of(status: u16) -> &'static str
     }
 }
 
-/// The line that begins an answer.
+/// The status line (RFC 9112, section 4).
 fn status_line(alloc: Global, status: u16) -> Result<String, OutOfMemory>
     requires { IsStatusCode status }
     ensures { IfOk result (λ line. string_bytes line ≡ status_line status) }
@@ -31,14 +31,14 @@ fn status_line(alloc: Global, status: u16) -> Result<String, OutOfMemory>
     Ok(format!(in alloc; "HTTP/1.1 {status} {phrase}\r\n")?)
 }
 
-/// The line that says how many bytes the body has.
+/// The line with the body's length in bytes.
 fn length_line(alloc: Global, length: usize) -> Result<String, OutOfMemory>
     ensures { IfOk result (λ line. string_bytes line ≡ length_line length) }
 {
     Ok(format!(in alloc; "Content-Length: {length}\r\n")?)
 }
 
-/// The line that names the methods of a path, where it is due.
+/// The `Allow` line, or nothing.
 fn allow_line(alloc: Global, allow: Option<&str>) -> Result<String, OutOfMemory>
     ensures { IfOk result (λ line. string_bytes line
         ≡ allow_line (option_map (λ text. text.now) allow.entry)) }
@@ -49,19 +49,19 @@ fn allow_line(alloc: Global, allow: Option<&str>) -> Result<String, OutOfMemory>
     }
 }
 
-/// The line that says that the connection ends after this answer.
+/// The line that announces the end of the connection, or nothing.
 fn close_line(close: bool) -> &'static str
     ensures { result.now ≡ close_line close }
 {
     if close { "Connection: close\r\n" } else { "" }
 }
 
-/// The bytes of the answer to a message: status line, fields and body, with `Allow` and
-/// `Connection: close` where due.
+/// The bytes of a response: status line, fields and body. `allow` has the methods for an `Allow`
+/// field. `close` adds `Connection: close`.
 ///
 /// # Errors
 ///
-/// `OutOfMemory` where memory for the bytes is refused.
+/// `OutOfMemory` if an allocation fails.
 pub fn bytes_of(
     alloc: Global,
     reply: &Reply,

@@ -1,4 +1,4 @@
--- What an insert makes of the rows.
+-- The table after an insert.
 use Rattle.std.proofs.Common.{◌≡◌, OnOk, Result, Ok, Err}
 use Rattle.matchit.specs.Rows.{RowsOf}
 use Rattle.matchit.specs.Route.{Scan}

@@ -1,4 +1,4 @@
--- Retry keys as a test and as a fact.
+-- The test of a retry key decides the definition.
 use Rattle.std.proofs.Common.{◌≡◌, ℕ, ◌<◌, ◌≤◌, Bool, true, false, ◌&&◌, List, refl, arith, get_or}
 use Rattle.std.specs.Prelude.{length, nat_lt, nat_le}
 use Rattle.std.specs.List.{list_all}

@@ -1,4 +1,4 @@
--- Which methods are named beside a refusal.
+-- The methods in the `Allow` field of a rejection.
 use Rattle.std.proofs.Common.{◌≡◌, ℕ, Bool, true, false, List, refl, sym, ap, ◌∙◌, inl, inr}
 use Rattle.std.specs.Prelude.{Option, Some, None, Result, Ok, Err, cond, ◌==◌}
 use Rattle.reg_core.specs.declared.code.Code.{Code}
@@ -12,11 +12,11 @@ use Rattle.reg_routes.specs.Routes.{resource_of, methods_of, operation_for, allo
 use Rattle.reg_routes.specs.Targets.{path_of}
 use Rattle.reg_routes.specs.Deliveries.{Rejection, without_allow, by_method, by_resource, requested, allow_field, IsRejected}
 
--- the methods that a refusal names are those that are due beside its fault
+-- the methods of a rejection are those in the `Allow` field of its fault
 IsDue : Rejection → Type 0
 IsDue rejection = (reply : ReplyView) → reply ≡ fault rejection.0 → rejection.1 ≡ allow_field (Err rejection) reply
 
--- none is named beside any other status
+-- no other status has methods
 none_due : (rejection : Rejection) → rejection.1 ≡ None → IsDue rejection
 unfolding IsDue
 none_due rejection none reply e = by (reply.status == 405)
@@ -61,7 +61,7 @@ due (Err rejection) code allow reply all (inr h) e =
     let same : rejection ≡ (code, allow) = cc in
     ap (λ (r : Rejection). r.1) (sym same) ∙ all rejection refl reply (e ∙ ap (λ (r : Rejection). fault r.0) (sym same))
 
--- what is named beside a fault is what is due there
+-- the methods with a fault are those of the `Allow` field
 pub allow_due : (method target : List ℕ) (fields : List HeaderField) (body : List ℕ) (code : Code) (allow : Option (List ℕ)) (reply : ReplyView)
     → IsRejected (requested method target fields body) code allow → reply ≡ fault code → allow ≡ allow_field (requested method target fields body) reply
 allow_due method target fields body code allow reply = due (requested method target fields body) code allow reply (requested_due method target fields body)

@@ -1,4 +1,4 @@
--- The bodies of requests: JSON objects, and the members that are read (RFC 8259; Schema Registry API reference, Schemas, Config and Mode).
+-- The members of JSON bodies (RFC 8259; Schema Registry API reference, Schemas, Config and Mode).
 use Rattle.std.specs.Prelude.{ℕ, Bool, true, false, ◌&&◌, List, codes, bytes_eq, Option, Some, None, option_map, option_and_then, if◌then◌else◌}
 use Rattle.std.specs.Str.{is_utf8}
 use Rattle.serde_json.specs.Data.{Data, null, string, array, Items, no_items, item}
@@ -6,19 +6,19 @@ use Rattle.serde_json.specs.Read.{read}
 use Rattle.serde_json.specs.Find.{get, as_str}
 use Rattle.reg_routes.specs.declared.body.SentSchema.{SentSchema}
 
--- the value of a body that is JSON
+-- the value of a body, or `None` if it isn't JSON
 unfoldable pub body_json : List ℕ → Option Data
 body_json body = if is_utf8 body then read body else None
 
--- the string under a name in an object
+-- a string member of an object
 abbrev pub string_member : List ℕ → Data → Option (List ℕ)
 string_member name value = option_and_then as_str (get name value)
 
--- the string that a body sends under a name
+-- a string member of a body
 abbrev pub body_string : List ℕ → List ℕ → Option (List ℕ)
 body_string name body = option_and_then (string_member name) (body_json body)
 
--- a `schemaType` that is supported: none, null or Avro
+-- a supported `schemaType`: missing, null or AVRO
 abbrev pub is_avro : Option Data → Bool
 is_avro None = true
 is_avro (Some null) = true
@@ -29,7 +29,7 @@ abbrev pub is_no_item : Items → Bool
 is_no_item no_items = true
 is_no_item (item value values) = false
 
--- `references` that are supported: none, null or an empty array
+-- supported `references`: missing, null or an empty list
 abbrev pub has_no_references : Option Data → Bool
 has_no_references None = true
 has_no_references (Some null) = true
@@ -39,10 +39,10 @@ has_no_references (Some other) = false
 abbrev pub is_supported : Data → Bool
 is_supported value = is_avro (get (codes "schemaType") value) && has_no_references (get (codes "references") value)
 
--- the schema that an object sends
+-- the member `schema` of an object, and whether its type is supported
 abbrev pub schema_member : Data → Option SentSchema
 schema_member value = option_map (λ text. record { text = text; supported = is_supported value }) (string_member (codes "schema") value)
 
--- the schema that a body sends
+-- the schema in a body
 abbrev pub body_schema : List ℕ → Option SentSchema
 body_schema body = option_and_then schema_member (body_json body)

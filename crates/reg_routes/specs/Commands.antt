@@ -1,6 +1,6 @@
--- The command that a path, a query and a body ask for, by the kind of command that its resource and method name. None where a
--- part of the path isn't UTF-8 or no subject, or the body isn't what such a command needs. The number of a part is that of
--- the slashes before it. (Schema Registry API reference, Subjects, Schemas, Config, Compatibility and Mode.)
+-- The command of a request, by its operation, path, query and body. `None` if a part of the path isn't UTF-8 or no valid subject, or if the body
+-- lacks a member that the command needs. The number of a part is the number of slashes before it. (Schema Registry API reference, Subjects, Schemas,
+-- Config, Compatibility and Mode.)
 use Rattle.std.specs.Prelude.{ℕ, Bool, List, codes, Option, Some, option_map, option_and_then}
 use Rattle.reg_core.specs.declared.command.Command.{Command}
 use Rattle.reg_core.specs.declared.command.Command.TheVariants.{SetGlobal, SetLevel, Register, DeleteVersion, DeleteSubject, Global, LevelOf, Lookup, Subjects, Versions, Version, Text, ById, VersionsOfId, Types, Check, CheckAll, SetGlobalMode, SetMode, GlobalMode, ModeOf}
@@ -11,27 +11,27 @@ use Rattle.reg_routes.specs.Targets.{path_text, path_subject}
 use Rattle.reg_routes.specs.Queries.{is_on}
 use Rattle.reg_routes.specs.Bodies.{body_string, body_schema}
 
--- with the subject of a part
+-- a command with the subject in a part of the path
 abbrev pub for_subject : ℕ → List ℕ → (List ℕ → Option Command) → Option Command
 for_subject n path then = option_and_then then (path_subject n path)
 
--- with the text of a part
+-- a command with the text of a part of the path
 abbrev pub for_text : ℕ → List ℕ → (List ℕ → Option Command) → Option Command
 for_text n path then = option_and_then then (path_text n path)
 
--- with the string under a name of a body
+-- a command with a string member of the body
 abbrev pub for_string : List ℕ → List ℕ → (List ℕ → Command) → Option Command
 for_string name body then = option_map then (body_string name body)
 
--- with the level of a body
+-- a command with the level in the body
 abbrev pub for_level : List ℕ → (List ℕ → Command) → Option Command
 for_level = for_string (codes "compatibility")
 
--- with the mode of a body
+-- a command with the mode in the body
 abbrev pub for_mode : List ℕ → (List ℕ → Command) → Option Command
 for_mode = for_string (codes "mode")
 
--- with the schema of a body, and whether it is supported
+-- a command with the schema in the body, and whether its type is supported
 abbrev pub for_schema : List ℕ → (List ℕ → Bool → Command) → Option Command
 for_schema body then = option_map (λ schema. then schema.text schema.supported) (body_schema body)
 
@@ -44,6 +44,7 @@ permanent query = is_on query (codes "permanent")
 abbrev pub default_to_global : List ℕ → Bool
 default_to_global query = is_on query (codes "defaultToGlobal")
 
+-- the command of an operation
 abbrev pub command_from : Operation → List ℕ → List ℕ → List ℕ → Option Command
 command_from op.SetGlobal path query body = for_level body SetGlobal
 command_from op.SetLevel path query body = for_subject 2 path (λ subject. for_level body (SetLevel subject))
@@ -72,6 +73,6 @@ command_from op.SetMode path query body = for_subject 2 path (λ subject. for_mo
 command_from op.GlobalMode path query body = Some GlobalMode
 command_from op.ModeOf path query body = for_subject 2 path (λ subject. Some (ModeOf subject (default_to_global query)))
 
--- what a borrowed message sends
+-- the same for the borrowed parts of a request
 abbrev pub command_in : Operation → RequestParts → Option Command
 command_in operation parts = command_from operation parts.target.path.now parts.target.query.now parts.body.now

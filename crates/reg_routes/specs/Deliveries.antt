@@ -1,4 +1,4 @@
--- The delivery that a message asks for, or why it asks for none.
+-- The delivery that a message makes, or why it is rejected.
 use Rattle.std.specs.Prelude.{◌≡◌, ◌⊎◌, ℕ, ◌==◌, List, codes, Option, Some, None, Result, Ok, Err, if◌then◌else◌}
 use Rattle.reg_core.specs.declared.code.Code.{Code}
 use Rattle.reg_core.specs.declared.code.Code.TheVariants.{BackendFault, MalformedRequest, NotFound, MethodNotAllowed}
@@ -16,55 +16,56 @@ use Rattle.reg_routes.specs.Targets.{path_of, query_of}
 use Rattle.reg_routes.specs.Commands.{command_from}
 use Rattle.reg_routes.specs.Keys.{retry_key_for}
 
--- the code of a fault, and the methods of the path where another one was used
+-- the code of a fault, with the path's methods if the message has another method
 abbrev pub Rejection : Type 0
 Rejection = Code × Option (List ℕ)
 
--- a command with its key
+-- a command with its retry key, or the code of the key's fault
 abbrev pub with_retry_key : Command → Result (Option (List ℕ)) Code → Result Delivery Code
 with_retry_key command (Err code) = Err code
 with_retry_key command (Ok key) = Ok (record { key = key; command = command })
 
--- the values of the retry key's field
+-- the values of the retry key fields
 abbrev pub keys_in : List HeaderField → List (List ℕ)
 keys_in fields = values_named (codes "Registry-Retry-Key") fields
 
--- the delivery of a command, if there is one
+-- the delivery of a command, or MalformedRequest if there is no command
 abbrev pub delivery_from : Option Command → List HeaderField → Result Delivery Code
 delivery_from None fields = Err MalformedRequest
 delivery_from (Some command) fields = with_retry_key command (retry_key_for command (keys_in fields))
 
--- no method is named beside it
+-- a fault without methods for an `Allow` field
 abbrev pub without_allow : Result Delivery Code → Result Delivery Rejection
 without_allow (Ok delivery) = Ok delivery
 without_allow (Err code) = Err (code, None)
 
--- what a method of a resource asks for
+-- the delivery of an operation on a resource, or MethodNotAllowed
 abbrev pub by_method : Resource → Option Operation → List ℕ → List HeaderField → List ℕ → Result Delivery Rejection
 by_method resource None target fields body = Err (MethodNotAllowed, Some (allow_of resource))
-by_method resource (Some requested) target fields body = without_allow (delivery_from (command_from requested (path_of target) (query_of target) body) fields)
+by_method resource (Some operation) target fields body = without_allow (delivery_from (command_from operation (path_of target) (query_of target) body) fields)
 
+-- the delivery of a method on a resource, or NotFound
 abbrev pub by_resource : Option Resource → List ℕ → List ℕ → List HeaderField → List ℕ → Result Delivery Rejection
 by_resource None method target fields body = Err (NotFound, None)
 by_resource (Some resource) method target fields body = by_method resource (operation_for method (methods_of resource)) target fields body
 
--- What is asked by method, target, fields and body. The path comes before the method, and the method before all else.
+-- The delivery that method, target, fields and body make. The path is checked first, then the method, then the rest.
 unfoldable pub requested : List ℕ → List ℕ → List HeaderField → List ℕ → Result Delivery Rejection
 requested method target fields body = by_resource (resource_of (path_of target)) method target fields body
 
--- what a message asks for
+-- the delivery that a message makes, or why it is rejected
 abbrev pub delivery_of : Message → Result Delivery Rejection
 delivery_of message = requested message.head.method message.head.target (fields_of message.head) message.body
 
--- what a borrowed message asks for
+-- the same for a borrowed message
 abbrev pub requested_by : Request → Result Delivery Rejection
 requested_by r = requested r.method.now r.target.now (fields_in r) r.body.now
 
--- why a message is refused: as it asks, or for want of memory
+-- why a message is rejected: by its contents, or because an allocation failed
 abbrev pub IsRejected : Result Delivery Rejection → Code → Option (List ℕ) → Type 0
 IsRejected what code allow = ((code ≡ BackendFault) × (allow ≡ None)) ⊎ (what ≡ Err (code, allow))
 
--- the `Allow` that is due beside a reply to what was asked: the path's methods, where another one was used (RFC 9110, section 15.5.6)
+-- the `Allow` field of the reply to a message: the path's methods if it has another method (RFC 9110, section 15.5.6)
 abbrev pub allow_field : Result Delivery Rejection → ReplyView → Option (List ℕ)
 allow_field (Ok delivery) reply = None
 allow_field (Err rejection) reply = if reply.status == 405 then rejection.1 else None

@@ -1,4 +1,4 @@
--- The retry key beside a command (this project's choice).
+-- The retry key of a request (this project's choice).
 use Rattle.std.specs.Prelude.{ℕ, Bool, ◌&&◌, length, nat_lt, nat_le, List, [], ◌∷◌, Option, Some, None, Result, Ok, Err, if◌then◌else◌}
 use Rattle.std.specs.List.{list_all}
 use Rattle.reg_core.specs.declared.code.Code.{Code}
@@ -7,16 +7,16 @@ use Rattle.reg_core.specs.declared.command.Command.{Command}
 use Rattle.reg_core.specs.Keys.{is_key_byte}
 use Rattle.reg_core.specs.Machine.{is_write}
 
--- whether a text is a retry key
+-- a valid retry key has 1 to 64 bytes of those that keys may have
 abbrev pub is_key : List ℕ → Bool
 is_key text = nat_lt 0 (length text) && nat_le (length text) 64 && list_all is_key_byte text
 
--- the retry key by the values of its field: none, or one that is a key
+-- the retry key by the values of its field: no value, or one valid key
 abbrev pub retry_key_of : List (List ℕ) → Result (Option (List ℕ)) Code
 retry_key_of [] = Ok None
 retry_key_of (text ∷ []) = if is_key text then Ok (Some text) else Err MalformedRequest
 retry_key_of (text ∷ other ∷ more) = Err MalformedRequest
 
--- A read's field isn't looked at.
+-- The field is ignored in a read.
 abbrev pub retry_key_for : Command → List (List ℕ) → Result (Option (List ℕ)) Code
 retry_key_for command values = if is_write command then retry_key_of values else Ok None

@@ -2,15 +2,15 @@
 use Rattle.std.specs.Prelude.{ℕ, ◌==◌, zero, suc, List}
 use Rattle.std.specs.List.{before_first, after_first}
 
--- up to the first slash
+-- the bytes before the first slash
 abbrev pub before_slash : List ℕ → List ℕ
 before_slash bytes = before_first (λ byte. byte == 47) bytes
 
--- behind the first slash; nothing where there is none
+-- the bytes after the first slash, or none without a slash
 abbrev pub after_slash : List ℕ → List ℕ
 after_slash bytes = after_first (λ byte. byte == 47) bytes
 
--- the part behind so many slashes
+-- the part after this number of slashes
 abbrev pub part_at : ℕ → List ℕ → List ℕ
 part_at zero bytes = before_slash bytes
 part_at (suc n) bytes = part_at n (after_slash bytes)

@@ -3,15 +3,15 @@ use Rattle.std.specs.Prelude.{ℕ, Bool, false, List, [], ◌∷◌, codes, cond
 use Rattle.std.specs.Str.Lossy.{utf8_lossy}
 use Rattle.form_urlencoded.specs.Form.{raw_pairs, decode}
 
--- the text of a name or a value, as a form's text is read
+-- a decoded name or value of a form
 abbrev pub form_text : List ℕ → List ℕ
 form_text bytes = utf8_lossy (decode bytes)
 
--- whether the value of the first of the pairs that has the name is `true`
+-- whether the first pair of this name has the value `true`
 abbrev pub is_first_on : List (List ℕ × List ℕ) → List ℕ → Bool
 is_first_on [] name = false
 is_first_on (pair ∷ pairs) name = cond (bytes_eq (form_text pair.0) name) (bytes_eq (form_text pair.1) (codes "true")) (is_first_on pairs name)
 
--- whether a parameter is on
+-- whether the first parameter of this name is `true`
 abbrev pub is_on : List ℕ → List ℕ → Bool
 is_on query name = is_first_on (raw_pairs query) name

@@ -1,5 +1,5 @@
--- The table of the API: its paths, their methods, and what each method asks for (Schema Registry API reference, Subjects,
--- Schemas, Config, Compatibility and Mode).
+-- The table of the API: its paths, their methods, and the operation of each method (Schema Registry API reference, Subjects, Schemas, Config,
+-- Compatibility and Mode).
 use Rattle.std.specs.Prelude.{ℕ, List, [], ◌∷◌, ◌++◌, map, codes, bytes_eq, cond, Option, Some, None, option_map, Result, Ok, Err, if◌then◌else◌}
 use Rattle.std.specs.Str.{is_utf8}
 use Rattle.matchit.specs.Rows.{RowsOf}
@@ -15,7 +15,7 @@ use Rattle.reg_routes.specs.declared.resource.Operation.TheVariants as op
 
 -- ---- the paths
 
--- the rows with one more path, as matchit reads it; a text that is no path adds none
+-- the routes with one more path, as matchit parses it; a text that isn't a path adds none
 abbrev pub with_read : Result Scan InsertError → Resource → RowsOf (RouteOf Resource) → RowsOf (RouteOf Resource)
 with_read (Ok scan) value rows = placed (scan.pattern, route_from scan value) rows
 with_read (Err error) value rows = rows
@@ -41,7 +41,7 @@ paths =
     (with_path (codes "/subjects/{subject}") resource.Subject
     (with_path (codes "/subjects") resource.Subjects [])))))))))))))
 
--- the resource that a path has, by matchit's look-up; one that isn't UTF-8 has none
+-- the resource of a path, by the lookup of matchit; a path that isn't UTF-8 has none
 unfoldable pub resource_of : List ℕ → Option Resource
 resource_of path = if is_utf8 path then option_map (λ route. route.value) (first paths path) else None
 
@@ -59,7 +59,7 @@ post = codes "POST"
 abbrev pub delete : List ℕ
 delete = codes "DELETE"
 
--- the methods of a resource in the order of their bytes, and what each asks for
+-- the methods of a resource in byte order, and the operation of each
 abbrev pub methods_of : Resource → List (List ℕ × Operation)
 methods_of resource.Subjects = (get, op.Subjects) ∷ []
 methods_of resource.Subject = (delete, op.DeleteSubject) ∷ (post, op.Lookup) ∷ []
@@ -76,17 +76,17 @@ methods_of resource.CompatibilityOf = (post, op.Check) ∷ []
 methods_of resource.Mode = (get, op.GlobalMode) ∷ (put, op.SetGlobalMode) ∷ []
 methods_of resource.ModeOf = (get, op.ModeOf) ∷ (put, op.SetMode) ∷ []
 
--- what a method asks for; the case of its letters counts (RFC 9110, section 9.1)
+-- the operation of a method; methods are case-sensitive (RFC 9110, section 9.1)
 abbrev pub operation_for : List ℕ → List (List ℕ × Operation) → Option Operation
 operation_for method [] = None
 operation_for method (m ∷ ms) = cond (bytes_eq method m.0) (Some m.1) (operation_for method ms)
 
--- names, with a comma and a blank between them
+-- names, separated by a comma and a space
 abbrev pub comma_separated : List (List ℕ) → List ℕ
 comma_separated [] = []
 comma_separated (name ∷ []) = name
 comma_separated (name ∷ other ∷ names) = name ++ codes ", " ++ comma_separated (other ∷ names)
 
--- a resource's methods, as an `Allow` field names them (RFC 9110, section 10.2.1)
+-- a resource's methods, for an `Allow` field (RFC 9110, section 10.2.1)
 abbrev pub allow_of : Resource → List ℕ
 allow_of resource = comma_separated (map (λ m. m.0) (methods_of resource))

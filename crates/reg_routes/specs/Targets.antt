@@ -6,30 +6,30 @@ use Rattle.percent_encoding.specs.Percent.{percent_decode}
 use Rattle.reg_core.specs.Subjects.{is_subject}
 use Rattle.reg_routes.specs.PathParts.{part_at}
 
--- up to the first `?` (RFC 9110, section 7.1; RFC 3986, section 3.3)
+-- the bytes before the first `?` (RFC 9110, section 7.1; RFC 3986, section 3.3)
 abbrev pub path_of : List ℕ → List ℕ
 path_of target = before_first (λ byte. byte == 63) target
 
--- behind the first `?`; nothing where there is none (RFC 3986, section 3.4)
+-- the bytes after the first `?`, or none without it (RFC 3986, section 3.4)
 abbrev pub query_of : List ℕ → List ℕ
 query_of target = after_first (λ byte. byte == 63) target
 
--- bytes as a text, where they are UTF-8
+-- the bytes if they are UTF-8
 abbrev pub valid_utf8 : List ℕ → Option (List ℕ)
 valid_utf8 bytes = if is_utf8 bytes then Some bytes else None
 
--- a part's text, with its escapes decoded once (RFC 3986, section 2.1)
+-- the text of a part, percent-decoded once (RFC 3986, section 2.1)
 abbrev pub decoded_part : List ℕ → Option (List ℕ)
 decoded_part part = valid_utf8 (percent_decode part)
 
--- the text of the part behind so many slashes
+-- the text of the part after this number of slashes
 abbrev pub path_text : ℕ → List ℕ → Option (List ℕ)
 path_text n path = decoded_part (part_at n path)
 
--- a text as a subject
+-- the text if it is a valid subject
 abbrev pub valid_subject : List ℕ → Option (List ℕ)
 valid_subject text = if is_subject text then Some text else None
 
--- the subject in the part behind so many slashes
+-- the subject in the part after this number of slashes
 abbrev pub path_subject : ℕ → List ℕ → Option (List ℕ)
 path_subject n path = option_and_then valid_subject (path_text n path)

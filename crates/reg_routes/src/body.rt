@@ -1,5 +1,4 @@
-//! The members of a body that is a JSON object. (RFC 8259; Schema Registry API reference, Schemas,
-//! Config and Mode.)
+//! The members of a JSON body. (RFC 8259; Schema Registry API reference, Schemas, Config and Mode.)
 
 ghost use Rattle.std.specs.Prelude.{◌≡◌, IfOk, Some, option_and_then, option_map};
 ghost use Rattle.serde_json.specs.Find.{as_str};
@@ -10,14 +9,14 @@ use reg_core::{OutOfMemory, Text};
 use serde_json::Value;
 use std::alloc::Global;
 
-/// A schema as it was sent: its text, and whether its type is Avro and it refers to no other.
+/// A schema in a body: its text, and whether it is supported, which is Avro without references.
 #[derive(Drop)]
 pub struct SentSchema {
     pub text: Text,
     pub supported: bool,
 }
 
-/// The value of a body that is JSON.
+/// The value of a JSON body, or `None` if the body isn't JSON.
 fn body_json(alloc: Global, body: &[u8]) -> Result<Option<Value>, OutOfMemory>
     ensures { IfOk result (λ value. option_map view value ≡ body_json body.now) }
 {
@@ -33,7 +32,7 @@ fn body_json(alloc: Global, body: &[u8]) -> Result<Option<Value>, OutOfMemory>
     }
 }
 
-/// The value's text, where it is a string.
+/// The value's text if it is a string.
 fn as_string(value: Option<Value>) -> Option<Text>
     ensures { result ≡ option_and_then as_str (option_map view value) }
 {
@@ -43,7 +42,7 @@ fn as_string(value: Option<Value>) -> Option<Text>
     }
 }
 
-/// The string under this name, where the value is an object that has it.
+/// The member of this name if the value is an object and the member a string.
 fn string_member(name: &str, value: Value) -> Option<Text>
     ensures { result ≡ string_member name.now (view value) }
 {
@@ -53,7 +52,7 @@ fn string_member(name: &str, value: Value) -> Option<Text>
     }
 }
 
-/// Whether a schema of this type is supported.
+/// Whether this `schemaType` is supported: missing, null or `"AVRO"`.
 fn is_avro(kind: Option<&Value>) -> bool
     ensures { result ≡ is_avro (option_map (λ value. view value.now) kind.entry) }
 {
@@ -64,7 +63,7 @@ fn is_avro(kind: Option<&Value>) -> bool
     }
 }
 
-/// Whether the value lists no references to other schemas.
+/// Whether the value is null or an empty list.
 fn is_null_or_empty(value: &Value) -> bool
     ensures { result ≡ has_no_references (Some (view value.now)) }
 {
@@ -75,7 +74,7 @@ fn is_null_or_empty(value: &Value) -> bool
     }
 }
 
-/// Whether these are no references to other schemas.
+/// Whether these `references` are missing, null or an empty list.
 fn has_no_references(references: Option<&Value>) -> bool
     ensures { result ≡ has_no_references (option_map (λ value. view value.now) references.entry) }
 {
@@ -85,18 +84,18 @@ fn has_no_references(references: Option<&Value>) -> bool
     }
 }
 
-/// Whether a schema that is sent so is supported.
+/// Whether the schema of this object is supported, by its `schemaType` and `references`.
 fn is_supported(value: &Value) -> bool
     ensures { result ≡ is_supported (view value.now) }
 {
     is_avro(value.get("schemaType")) && has_no_references(value.get("references"))
 }
 
-/// The string that a body sends under this name, as an object. None where there is none.
+/// The string member of this name in a body, or `None` if there is none.
 ///
 /// # Errors
 ///
-/// `OutOfMemory` where memory for the value is refused.
+/// `OutOfMemory` if an allocation fails.
 pub fn body_string(alloc: Global, name: &str, body: &[u8]) -> Result<Option<Text>, OutOfMemory>
     ensures { IfOk result (λ text. text ≡ body_string name.now body.now) }
 {
@@ -106,13 +105,12 @@ pub fn body_string(alloc: Global, name: &str, body: &[u8]) -> Result<Option<Text
     }
 }
 
-/// The schema that a body sends: the string under `schema` of an object. It is supported where
-/// `schemaType` is missing, null or `"AVRO"`, and `references` are missing, null or none. None where
-/// there is no such string.
+/// The schema in a body: the string member `schema`, or `None` if there is none. It is supported if
+/// `schemaType` is missing, null or `"AVRO"`, and `references` is missing, null or an empty list.
 ///
 /// # Errors
 ///
-/// `OutOfMemory` where memory for the value is refused.
+/// `OutOfMemory` if an allocation fails.
 pub fn body_schema(alloc: Global, body: &[u8]) -> Result<Option<SentSchema>, OutOfMemory>
     ensures { IfOk result (λ schema. schema ≡ body_schema body.now) }
 {

@@ -1,4 +1,4 @@
-//! The command that a path, a query and a body ask for.
+//! The command of a request, by its operation, path, query and body.
 
 ghost use Rattle.std.specs.Prelude.{◌≡◌, IfOk};
 ghost use Rattle.reg_routes.specs.Commands.{command_in};
@@ -10,7 +10,7 @@ use crate::target::Target;
 use reg_core::{Command, OutOfMemory};
 use std::alloc::Global;
 
-/// What a message sends: its target and its body.
+/// The parts of a request that make up a command.
 #[derive(Clone, Copy)]
 pub struct RequestParts<'a> {
     pub target: Target<'a>,
@@ -253,12 +253,12 @@ impl<'a> RequestParts<'a> {
         }))
     }
 
-    /// The command that is asked for. None where a part of the path isn't UTF-8 or no subject, or the
-    /// body isn't what such a command needs.
+    /// The command of this operation. `None` if a part of the path isn't UTF-8 or no valid subject,
+    /// or if the body lacks a member that the command needs.
     ///
     /// # Errors
     ///
-    /// `OutOfMemory` where memory for what is decoded or read is refused.
+    /// `OutOfMemory` if an allocation fails.
     pub fn command(
         &self,
         alloc: Global,

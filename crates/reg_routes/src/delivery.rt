@@ -1,4 +1,4 @@
-//! The delivery that a message asks for, or why it asks for none.
+//! The delivery that a request makes, or why it is rejected.
 
 ghost use Rattle.std.specs.Prelude.{◌≡◌, ◌⊎◌, MatchResult, option_map, if◌then◌else◌};
 ghost use Rattle.reg_routes.specs.Keys.{is_key, retry_key_for, retry_key_of};
@@ -15,7 +15,7 @@ use reg_messages::{FieldLookup, Request};
 use std::alloc::Global;
 use std::str;
 
-/// The text as a retry key, where it is one.
+/// The text as a retry key, or `None` if it isn't a valid one.
 fn parse_key(text: &[u8]) -> Option<Key<'_>>
     ensures { result ≡ (if is_key text.entry.now then Some text.entry.now else None) }
 {
@@ -25,7 +25,8 @@ fn parse_key(text: &[u8]) -> Option<Key<'_>>
     }
 }
 
-/// The retry key of a write, or `MalformedRequest` where its field stands twice or holds no key.
+/// The retry key of a write, if it has one. `MalformedRequest` if the field is repeated or has no
+/// valid key.
 fn retry_key_of<'a>(request: &Request<'a>) -> Result<Option<Key<'a>>, Code>
     ensures { result ≡ retry_key_of (keys_in (fields_in request.entry.now)) }
 {
@@ -39,7 +40,7 @@ fn retry_key_of<'a>(request: &Request<'a>) -> Result<Option<Key<'a>>, Code>
     }
 }
 
-/// The retry key that counts beside the command: that of a write.
+/// The retry key of a write. A read has none: its field is ignored.
 fn retry_key_for<'a>(command: &Command, request: &Request<'a>) -> Result<Option<Key<'a>>, Code>
     ensures { result ≡ retry_key_for command.now (keys_in (fields_in request.entry.now)) }
 {
@@ -50,7 +51,8 @@ fn retry_key_for<'a>(command: &Command, request: &Request<'a>) -> Result<Option<
     }
 }
 
-/// The command that is asked for, or `MalformedRequest`; `BackendFault` for want of memory.
+/// The command of this operation. `MalformedRequest` if there is none, `BackendFault` if an
+/// allocation fails.
 fn command_for(
     alloc: Global,
     operation: Operation,
@@ -67,7 +69,7 @@ fn command_for(
     }
 }
 
-/// The delivery of what is asked for, with its retry key, or the code of its fault.
+/// The delivery of this operation, with its retry key, or the code of its fault.
 fn delivery_for<'a>(
     alloc: Global,
     operation: Operation,
@@ -84,13 +86,17 @@ fn delivery_for<'a>(
     Ok(Delivery { key, command })
 }
 
-/// The delivery that the message asks for.
+/// The delivery that a request makes: a command, and the retry key of a write if it has one.
 ///
 /// # Errors
 ///
-/// The code of the first fault, in this order: `NotFound` for the path, `MethodNotAllowed` with the
-/// methods of the path as `Allow` names them, `MalformedRequest` for a part of the path, a retry key or
-/// the body. `BackendFault` for want of memory.
+/// The code of the first fault, in this order:
+/// - `NotFound`: the path has no resource.
+/// - `MethodNotAllowed`: the resource doesn't have the method. Its methods are returned for an
+///   `Allow` field.
+/// - `MalformedRequest`: a part of the path, the body or the retry key is invalid.
+///
+/// `BackendFault` if an allocation fails.
 pub fn command_of<'a>(
     alloc: Global,
     routes: &Routes,

@@ -1,4 +1,4 @@
-//! What a request asks of the registry: its path, its method, its query, its retry key and its body.
+//! Turns a request into a command: by its path, method, query, retry key and body.
 
 #![tactic(auto)]
 

@@ -5,7 +5,7 @@ ghost use Rattle.reg_routes.specs.PathParts.{part_at};
 
 use crate::split_at_byte::split_at_byte;
 
-/// The part behind so many slashes.
+/// The part of the path after `count` slashes.
 pub fn part_at(path: &[u8], count: u32) -> &[u8]
     ensures { result.now ≡ part_at count path.entry.now }
 {

@@ -6,11 +6,11 @@ ghost use Rattle.reg_routes.specs.Queries.{is_on};
 use reg_core::OutOfMemory;
 use std::alloc::Global;
 
-/// Whether the query's first value of this name is `true`. (WHATWG URL, section 5.)
+/// Whether the first parameter of this name is `true`. (WHATWG URL, section 5.)
 ///
 /// # Errors
 ///
-/// `OutOfMemory` where memory for a decoded name or value is refused.
+/// `OutOfMemory` if an allocation fails.
 pub fn is_on(alloc: Global, query: &[u8], name: &str) -> Result<bool, OutOfMemory>
     ensures { IfOk result (λ on. on ≡ is_on query.now name.now) }
 {

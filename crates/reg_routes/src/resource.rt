@@ -1,12 +1,12 @@
-//! The resources of the API: what each method of a path asks for.
+//! The resources of the API, and the operation of each of their methods.
 
 ghost use Rattle.std.specs.Prelude.{◌≡◌, [], ◌∷◌, bytes_eq};
 ghost use Rattle.reg_routes.specs.Routes.{allow_of, operation_for, get, methods_of, put};
 
 use http::Method;
 
-/// A resource of the table of paths. (Schema Registry API reference, Subjects, Schemas, Config,
-/// Compatibility and Mode.)
+/// A resource of the API. (Schema Registry API reference, Subjects, Schemas, Config, Compatibility
+/// and Mode.)
 #[derive(Clone, Copy, Debug, PartialEq, Eq)]
 pub enum Resource {
     /// `/subjects`
@@ -39,7 +39,7 @@ pub enum Resource {
     ModeOf,
 }
 
-/// What a method of a resource asks for: the kind of a command.
+/// The operation of a method on a resource. Each is one kind of command.
 #[derive(Clone, Copy, Debug, PartialEq, Eq)]
 pub enum Operation {
     SetGlobal,
@@ -65,7 +65,7 @@ pub enum Operation {
     ModeOf,
 }
 
-/// What the method asks for, where it is the only one.
+/// The operation of a resource with one method, or `None` for another method.
 fn only(method: &[u8], name: &Method, operation: Operation) -> Option<Operation>
     ensures { result ≡ operation_for method.now ((name.now, operation) ∷ []) }
 {
@@ -76,7 +76,7 @@ fn only(method: &[u8], name: &Method, operation: Operation) -> Option<Operation>
     }
 }
 
-/// What the method asks for, where it is one of two.
+/// The operation of a resource with two methods, or `None` for another method.
 fn either(
     method: &[u8],
     first: &Method,
@@ -94,7 +94,7 @@ fn either(
     }
 }
 
-/// What the method asks for, where one is shown and set.
+/// The operation of a resource with GET and PUT, or `None` for another method.
 fn get_or_put(method: &[u8], shown: Operation, set: Operation) -> Option<Operation>
     ensures { result ≡ operation_for method.now ((get, shown) ∷ (put, set) ∷ []) }
 {
@@ -102,7 +102,8 @@ fn get_or_put(method: &[u8], shown: Operation, set: Operation) -> Option<Operati
 }
 
 impl Resource {
-    /// What the method asks for on this resource, its case regarded.
+    /// The operation of this method, or `None` if the resource doesn't have it. Methods are
+    /// case-sensitive.
     pub fn operation(self, method: &[u8]) -> Option<Operation>
         ensures { result ≡ operation_for method.now (methods_of self) }
     {
@@ -142,7 +143,7 @@ impl Resource {
         }
     }
 
-    /// The methods of this resource, as an `Allow` field names them. (RFC 9110, section 10.2.1.)
+    /// The methods of this resource, for an `Allow` field. (RFC 9110, section 10.2.1.)
     pub fn allow(self) -> &'static str
         ensures { result.now ≡ allow_of self }
     {

@@ -1,4 +1,4 @@
-//! Which resource of the table a path has.
+//! The resource of a path.
 
 ghost use Rattle.std.specs.Prelude.{◌≡◌, IfOk, MatchOption, OnOk, None, Some};
 ghost use Rattle.matchit.specs.Seek.{first};
@@ -11,7 +11,7 @@ use std::alloc::Global;
 use std::marker::Model;
 use std::str;
 
-/// The table of paths, ready for look-ups.
+/// The router: the table of the API's paths.
 #[derive(Drop)]
 pub struct Routes {
     router: Router<Resource>,
@@ -35,7 +35,7 @@ fn add(router: &mut Router<Resource>, path: &str, resource: Resource) -> Result<
     router.insert(path, resource)
 }
 
-/// The router of the table.
+/// The router with all paths of the API.
 fn router(alloc: Global) -> Result<Router<Resource>, InsertError>
     ensures { IfOk result (λ router. router ≡ paths) }
 {
@@ -82,11 +82,11 @@ fn router(alloc: Global) -> Result<Router<Resource>, InsertError>
 }
 
 impl Routes {
-    /// The table.
+    /// The table of all paths of the API.
     ///
     /// # Errors
     ///
-    /// `OutOfMemory` where memory for a path is refused.
+    /// `OutOfMemory` if an allocation fails.
     pub fn new(alloc: Global) -> Result<Routes, OutOfMemory> {
         match router(alloc) {
             Ok(router) => Ok(Routes { router }),
@@ -94,7 +94,7 @@ impl Routes {
         }
     }
 
-    /// The resource of a text.
+    /// The resource of a path, or `None` if there is none.
     fn lookup(&self, path: &str) -> Option<Resource>
         ensures { MatchOption result (first paths path.now ≡ None)
             (λ resource. (found : _) × (first paths path.now ≡ Some found) × (found.value ≡ resource)) }
@@ -105,7 +105,7 @@ impl Routes {
         }
     }
 
-    /// The resource of a path as it was sent, if it has one. It takes no memory.
+    /// The resource of a path as sent, without decoding, or `None`. It allocates nothing.
     pub fn resource_of(&self, path: &[u8]) -> Option<Resource>
         ensures { result ≡ resource_of path.now }
     {

@@ -1,9 +1,9 @@
-//! Bytes, cut at the first of a kind.
+//! Splits bytes at the first separator.
 
 ghost use Rattle.std.specs.Prelude.{◌≡◌, ◌<◌, ◌==◌, IfSome, length, position};
 ghost use Rattle.std.specs.List.{after_first, before_first};
 
-/// Where the byte stands first.
+/// The position of the first such byte, or `None`.
 fn position_of(bytes: &[u8], byte: u8) -> Option<usize>
     ensures value { result ≡ position (λ b. b == byte) bytes.now }
     ensures within { IfSome result (λ at. at < length bytes.now) }
@@ -11,7 +11,7 @@ fn position_of(bytes: &[u8], byte: u8) -> Option<usize>
     bytes.iter().position(|b| *b == byte)
 }
 
-/// What stands before the first such byte, or all where there is none; and what stands behind it.
+/// The bytes before and after the first such byte. Without one: all bytes, and none.
 pub fn split_at_byte(bytes: &[u8], byte: u8) -> (&[u8], &[u8])
     ensures before { result.0.now ≡ before_first (λ b. b == byte) bytes.entry.now }
     ensures after { result.1.now ≡ after_first (λ b. b == byte) bytes.entry.now }

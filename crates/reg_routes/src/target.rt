@@ -11,14 +11,14 @@ use percent_encoding::percent_decode;
 use reg_core::{OutOfMemory, Subject, Text};
 use std::alloc::Global;
 
-/// A target, cut at its first `?`. (RFC 9110, section 7.1; RFC 3986, section 3.)
+/// A target, split at its first `?`. (RFC 9110, section 7.1; RFC 3986, section 3.)
 #[derive(Clone, Copy)]
 pub struct Target<'a> {
     pub path: &'a [u8],
     pub query: &'a [u8],
 }
 
-/// The text of a part, its escapes decoded, where that is UTF-8.
+/// The percent-decoded text of a part, or `None` if that isn't UTF-8.
 fn decoded_part(alloc: Global, part: &[u8]) -> Result<Option<Text>, OutOfMemory>
     ensures { IfOk result (λ text. text ≡ decoded_part part.now) }
 {
@@ -31,7 +31,7 @@ fn decoded_part(alloc: Global, part: &[u8]) -> Result<Option<Text>, OutOfMemory>
 }
 
 impl<'a> Target<'a> {
-    /// The target, cut.
+    /// Splits a target at its first `?`.
     pub fn of(target: &'a [u8]) -> Target<'a>
         ensures path { result.path.now ≡ path_of target.entry.now }
         ensures query { result.query.now ≡ query_of target.entry.now }
@@ -40,22 +40,22 @@ impl<'a> Target<'a> {
         Target { path, query }
     }
 
-    /// The decoded part of the path behind so many slashes, where it is UTF-8.
+    /// The percent-decoded part of the path after `count` slashes, or `None` if that isn't UTF-8.
     ///
     /// # Errors
     ///
-    /// `OutOfMemory` where memory for the text is refused.
+    /// `OutOfMemory` if an allocation fails.
     pub fn path_text(&self, alloc: Global, count: u32) -> Result<Option<Text>, OutOfMemory>
         ensures { IfOk result (λ text. text ≡ path_text count self.now.path.now) }
     {
         decoded_part(alloc, part_at(self.path, count))
     }
 
-    /// The same part as a subject, where it is one.
+    /// The same part as a subject, or `None` if it isn't a valid one.
     ///
     /// # Errors
     ///
-    /// `OutOfMemory` where memory for the text is refused.
+    /// `OutOfMemory` if an allocation fails.
     pub fn path_subject(&self, alloc: Global, count: u32) -> Result<Option<Subject>, OutOfMemory>
         ensures { IfOk result (λ subject. subject ≡ path_subject count self.now.path.now) }
     {
@@ -65,11 +65,11 @@ impl<'a> Target<'a> {
         }
     }
 
-    /// Whether the query's first value of this name is `true`.
+    /// Whether the first query parameter of this name is `true`.
     ///
     /// # Errors
     ///
-    /// `OutOfMemory` where memory for a decoded name or value is refused.
+    /// `OutOfMemory` if an allocation fails.
     pub fn is_on(&self, alloc: Global, name: &str) -> Result<bool, OutOfMemory>
         ensures { IfOk result (λ on. on ≡ is_on self.now.query.now name.now) }
     {

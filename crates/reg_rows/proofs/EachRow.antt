@@ -1,4 +1,4 @@
--- Going through a list, to see whether each item is as it should be.
+-- A loop that tests each item of a list.
 use Rattle.std.proofs.Common.{◌≡◌, ℕ, ◌+◌, ◌<◌, ◌≤◌, List, ◌∷◌, length, drop, get_or, sym, subst, add-one, drop-cons}
 use Rattle.std.proofs.lemmas.List.{drop_all}
 use Rattle.std.specs.List.{AllByRecursion}
@@ -7,7 +7,7 @@ drop_from : {A : Type 0} (xs : List A) (i : ℕ) (x : A) → i < length xs → d
 drop_from xs i x h = rw (add-one, drop-cons xs i x)
 
 module _ {X : Type 0} (P : X → Type 0) (xs : List X) where
-  -- whether all are so is whether those from i on are
+  -- all items pass exactly if those from `i` on do
   abbrev pub Left : ℕ → Type 0
   Left i = (AllByRecursion P (drop i xs) → AllByRecursion P xs) × (AllByRecursion P xs → AllByRecursion P (drop i xs))
 

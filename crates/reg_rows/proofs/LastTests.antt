@@ -1,4 +1,4 @@
--- A test that is handed on, where the others hold.
+-- The last test decides, since all earlier ones passed.
 use Rattle.std.specs.Prelude.{◌↔◌, Bool, IfOk, IsTrue, Result, Ok, Err}
 
 pub tells : {E A B : Type 0} (r : Result Bool E) → IfOk r (λ yes. IsTrue yes ↔ A) → (A → B) → (B → A) → IfOk r (λ yes. IsTrue yes ↔ B)

@@ -1,4 +1,4 @@
--- Places: a search among them, and when their positions are 1 to their count.
+-- Binary search among positions, and when the positions are 1 to their number.
 use Rattle.std.proofs.Common.{◌≡◌, ◌≢◌, ℕ, zero, suc, ◌-◌, ◌<◌, ◌≤◌, List, [], ◌∷◌, length, map, get_or, nat_cmp, refl, sym, ap, ◌∙◌, subst, inl, inr, arith}
 use Rattle.std.specs.Prelude.{◌⊎◌, ◌↔◌, Any, Contains, IfOk, IsSorted, IsTrue, Result, Ok, Err, is_ok}
 use Rattle.std.specs.Borrow.{Bor}
@@ -28,7 +28,7 @@ greater_not_equal : (a : Ordering) → a ≡ Greater → a ≡ Equal → ⊥
 greater_not_equal a e f = true≢false (sym (ap is_eq f) ∙ ap is_eq e)
 
 module _ {K : Type 0} (R : K → K → Ordering) (order : IsTotalOrder R) (xs : List K) (x : K) (sorted : IsSorted R xs) where
-  -- a search finds a key exactly where there is an equal one
+  -- a search succeeds exactly if the list has an equal key
   pub searched : (r : Result ℕ ℕ) → IsSearchInRange r (length xs) → IfOk r (HoldsAt (λ y. R y x ≡ Equal) xs) → IsBinarySearchResult (λ y. R y x) xs r → IsTrue (is_ok r) ↔ Any (λ y. R y x ≡ Equal) xs
   searched (Ok i) within equal found = (
     λ h. (let there = Contains-get_or xs i x within in (there.0, get_or xs i x, there.1, there.2, equal x)),
@@ -45,7 +45,7 @@ module _ {K : Type 0} (R : K → K → Ordering) (order : IsTotalOrder R) (xs : 
   )
 
 module _ {X Y : Type 0} (f : X → Y) (R : Y → Y → Ordering) (order : IsTotalOrder R) (exact : (x y : Y) → R x y ≡ Equal → x ≡ y) (xs : List X) (x : X) where
-  -- an item that is equal by the order is one that is shown alike
+  -- items that the order ties have equal views
   pub contains_tied : Any (λ y. R (f y) (f x) ≡ Equal) xs → Contains (map f xs) (f x)
   contains_tied h = (h.0, rw length-map h.2, get_or-map f xs h.0 h.1 (f x) h.2 ∙ ap f h.3 ∙ exact (f h.1) (f x) h.4)
 
@@ -98,7 +98,7 @@ here y ys x e = (0, omega arith, e)
 later : {X : Type 0} (y : X) (ys : List X) (x : X) → Contains ys x → Contains (y ∷ ys) x
 later y ys x (k, l, e) = (suc k, omega arith, e)
 
--- what each item of a list has, each that is shown by one has, and the other way round
+-- A property of each item's view is a property of each member of the list of views.
 module _ {X Y : Type 0} (f : X → Y) (P : Y → Type 0) (xs : List X) where
   each_shown : AllByRecursion (λ x. P (f x)) xs → (y : Y) → Contains (map f xs) y → P y
   each_shown all y h = All-contains P (map f xs) y (All-map P f xs (All-from_recursion (λ x. P (f x)) xs all)) h
@@ -117,7 +117,7 @@ permuted_back f xs ys y same = permuted f ys xs y (IsPermutation-sym xs ys same)
 
 -- ---- positions
 
--- the greatest position of a version, if it has one
+-- the greatest position of a version, or 0 if it has none
 record Greatest (version : RowKey) (places : List VersionPosition) : Type 0 where
   at : ℕ
   above : (position : ℕ) → Contains places (version, position) → position ≤ at
@@ -153,7 +153,7 @@ greatest version (place ∷ places) = elim (same_or_not version_order version_to
 ]
 
 module _ (places : List VersionPosition) (follow : (place : VersionPosition) → Contains places place → HasPredecessor places place) (version : RowKey) where
-  -- with a position all smaller ones are there
+  -- if the list has a position of the version, it has all smaller ones
   below : (n : ℕ) → Contains places (version, n) → (p : ℕ) → 0 < p → p ≤ n → Contains places (version, p)
   below zero h p low high = absurd (omega arith)
   below (suc n) h p low high = elim (cases_lt p (suc n)) [
@@ -181,7 +181,7 @@ follows places are place h =
 
 -- ---- sorted
 
--- what was sorted holds what it held
+-- sorting keeps the members
 module _ (evidence sorted : List (Bor (List ℕ) × ℕ)) (places : List (Bor (List ℕ) × ℕ × ℕ)) (same : IsPermutation evidence sorted) where
   abbrev HasOwn : VersionPosition → Type 0
   HasOwn place = Contains (map version_view sorted) place.0
@@ -199,7 +199,7 @@ module _ (places sorted : List (Bor (List ℕ) × ℕ × ℕ)) (same : IsPermuta
   from_sorted : (place : VersionPosition) → HasPredecessor (map position_view sorted) place → HasPredecessor (map position_view places) place
   from_sorted place f = (f.0, elim (f.1) [ inl one ↦ inl one | inr before ↦ inr (permuted_back position_view places sorted (place.0, place.1 - 1) same before) ])
 
-  -- each place is reached exactly where the positions are 1 to their count
+  -- each position is 1 or has its predecessor, exactly if the positions are 1 to their number
   pub positions_sorted : AllByRecursion (HasPredecessorIn sorted) sorted ↔ AreContiguous (map position_view places)
   positions_sorted = (
     λ all version. counted (map position_view places) (λ place h. from_sorted place (each_shown position_view (HasPredecessor (map position_view sorted)) sorted all place (permuted position_view places sorted place same h))) version,

@@ -1,4 +1,4 @@
--- What the rows of `meta` say of the database (this project's choice).
+-- The rows of `meta` (this project's choice).
 use Rattle.std.specs.Prelude.{ℕ, ◌&&◌, Bool, false, List, [], ◌∷◌, codes, bytes_eq, if◌then◌else◌, Option, None, Some, is_some, option_and_then}
 use Rattle.std.specs.List.{list_any, list_all}
 use Rattle.reg_core.specs.Levels.{level_of}
@@ -9,16 +9,16 @@ use Rattle.reg_core.specs.Numbers.{parse_number}
 abbrev pub MetaPair : Type 0
 MetaPair = List ℕ × List ℕ
 
--- the value of the first row of the name
+-- the value of the first row with the name
 abbrev pub value_at : List ℕ → List MetaPair → Option (List ℕ)
 value_at name [] = None
 value_at name (row ∷ rows) = if bytes_eq row.0 name then Some row.1 else value_at name rows
 
--- the names of the rows in layout 1
+-- the names that `meta` has in layout 1
 abbrev pub layout_one_names : List (List ℕ)
 layout_one_names = codes "format" ∷ codes "layout" ∷ codes "global" ∷ []
 
--- and in layout 2
+-- the names that `meta` has in layout 2
 abbrev pub layout_two_names : List (List ℕ)
 layout_two_names = codes "format" ∷ codes "layout" ∷ codes "global" ∷ codes "mode" ∷ []
 
@@ -44,18 +44,18 @@ has_mode (Some value) = is_some (mode_of value)
 abbrev pub number_in : List ℕ → Option ℕ
 number_in text = parse_number 999999999 text
 
--- the number of the layout that the rows name beside this format, if they name one
+-- the layout number of the rows; `None` if they have no valid number, or another format than `avroreg`
 abbrev pub layout_in : List MetaPair → Option ℕ
 layout_in rows = if has_value (codes "avroreg") (value_at (codes "format") rows) then option_and_then number_in (value_at (codes "layout") rows) else None
 
--- the format, this number of the layout, and a global level
+-- the format `avroreg`, this layout number, and a global level
 abbrev pub has_common : List ℕ → List MetaPair → Bool
 has_common number rows = has_value (codes "avroreg") (value_at (codes "format") rows) && has_value number (value_at (codes "layout") rows) && has_level (value_at (codes "global") rows)
 
--- layout 1: these, and no other row
+-- a `meta` table of layout 1, with no other name
 abbrev pub is_layout_one_meta : List MetaPair → Bool
 is_layout_one_meta rows = has_common (codes "1") rows && has_only_known_names layout_one_names rows
 
--- layout 2: these and a global mode, and no other row
+-- a `meta` table of layout 2: with a global mode, and no other name
 abbrev pub is_layout_two_meta : List MetaPair → Bool
 is_layout_two_meta rows = has_common (codes "2") rows && has_mode (value_at (codes "mode") rows) && has_only_known_names layout_two_names rows

@@ -1,4 +1,4 @@
--- The places of a version: which ids it was tested against, by position.
+-- The rows of `against`: the ids that a version was tested against, by position.
 use Rattle.std.specs.Prelude.{ℕ, ◌<◌, ◌≤◌, ◌↔◌, List, Contains}
 use Rattle.std.specs.Borrow.{Bor}
 use Rattle.reg_core.specs.Registry.{RowKey}
@@ -7,20 +7,20 @@ use Rattle.reg_core.specs.Registry.{RowKey}
 abbrev pub VersionPosition : Type 0
 VersionPosition = RowKey × ℕ
 
--- the positions of the version are 1 to their count; that none stands twice is the table's own matter
+-- The positions of the version are 1, 2, .. up to `count`. The table itself rejects duplicates.
 pub record IsContiguousFor (places : List VersionPosition) (version : RowKey) : Type 0 where
   pub count : ℕ
   pub positions : (position : ℕ) → Contains places (version, position) ↔ ((0 < position) × (position ≤ count))
 
--- so they are for each version
+-- the same for each version
 abbrev pub AreContiguous : List VersionPosition → Type 0
 AreContiguous places = (version : RowKey) → IsContiguousFor places version
 
--- each version that has a place has evidence
+-- each version with a position has evidence
 abbrev pub HaveEvidence : List RowKey → List VersionPosition → Type 0
 HaveEvidence evidence places = (place : VersionPosition) → Contains places place → Contains evidence place.0
 
--- ---- with the subject behind a reference
+-- ---- with a borrowed subject
 
 abbrev pub version_view : Bor (List ℕ) × ℕ → RowKey
 version_view key = (key.0.now, key.1)

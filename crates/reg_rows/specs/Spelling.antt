@@ -1,5 +1,5 @@
--- Which rows of the tables hold a registry, and what is kept beside it (this project's choice, but where a public
--- document is named). That no key of a table stands twice, and that each id is that of a text, is the tables' own matter.
+-- Which rows of the tables spell a registry and its kept replies. This project's choice, except where a public document is named. The tables
+-- themselves enforce that keys are unique, and that each id belongs to a text.
 use Rattle.std.specs.Prelude.{◌≡◌, ◌⊎◌, ℕ, ◌+◌, ◌<◌, ◌≤◌, Bool, IsTrue, List, [], ◌∷◌, length, map, is_some, String, string_bytes, ⊤}
 use Rattle.std.specs.declared.alloc.Global.{Global}
 use Rattle.std.specs.List.{AllByRecursion}
@@ -16,13 +16,13 @@ use Rattle.reg_rows.specs.Meta.{MetaPair, is_layout_one_meta, is_layout_two_meta
 use Rattle.reg_rows.specs.Positions.{VersionPosition, AreContiguous, HaveEvidence}
 use Rattle.reg_rows.specs.declared.tables.Tables.{Tables}
 
--- a text, as a row has it
+-- a text in a row
 abbrev pub Text : Type 0
 Text = String Global
 
 -- ---- texts
 
--- the identity text of a schema
+-- the text is the identity text of a schema
 pub record IsIdentity (text : List ℕ) : Type 0 where
   pub nodes : List NodeView
   pub schema : IsSchema nodes
@@ -31,12 +31,12 @@ pub record IsIdentity (text : List ℕ) : Type 0 where
 abbrev pub IsTextRow : ℕ × Text → Type 0
 IsTextRow row = IsIdentity (string_bytes row.1)
 
--- the numbers from this one on, none left out
+-- the numbers are `first`, `first + 1`, .. in this order
 abbrev pub AreNumbered : ℕ → List ℕ → Type 0
 AreNumbered first [] = ⊤
 AreNumbered first (number ∷ numbers) = (number ≡ first) × AreNumbered (first + 1) numbers
 
--- each row has the identity text of a schema, and the ids are 1 to their count, in order
+-- each row has the identity text of a schema, and the ids are 1, 2, .. in this order, up to the maximum
 pub record AreTexts (rows : List (ℕ × Text)) : Type 0 where
   pub numbered : AreNumbered 1 (map (λ row. row.0) rows)
   pub few : length rows ≤ max_number
@@ -44,7 +44,7 @@ pub record AreTexts (rows : List (ℕ × Text)) : Type 0 where
 
 -- ---- versions
 
--- a subject, and a version's number
+-- a valid subject, and a version number from 1 to the maximum
 pub record FitsVersions (name : List ℕ) (number : ℕ) : Type 0 where
   pub subject : IsTrue (is_subject name)
   pub within : (0 < number) × (number ≤ max_number)
@@ -54,7 +54,7 @@ IsVersionRow row = FitsVersions (string_bytes row.0) row.1
 
 -- ---- levels
 
--- Schema Registry API reference, Config: a subject, and how one of the seven levels is spelt
+-- Schema Registry API reference, Config: a valid subject, and the name of one of the seven levels
 pub record FitsLevels (name text : List ℕ) : Type 0 where
   pub subject : IsTrue (is_subject name)
   pub level : IsTrue (is_some (level_of text))
@@ -64,7 +64,7 @@ IsLevelRow row = FitsLevels (string_bytes row.0) (string_bytes row.1)
 
 -- ---- kept replies
 
--- a retry key, and the status of a reply that is kept; the command and the body may be any texts
+-- a valid retry key, and a status whose replies are kept; the command and the body may be any texts
 pub record FitsKept (name : List ℕ) (number : ℕ) : Type 0 where
   pub key : IsKey name
   pub status : IsKeptStatus number
@@ -74,7 +74,7 @@ IsKeptRow row = FitsKept (string_bytes row.0) row.2
 
 -- ---- modes
 
--- Schema Registry API reference, Mode: a subject, and how one of the two modes is spelt
+-- Schema Registry API reference, Mode: a valid subject, and the name of one of the two modes
 pub record FitsModes (name text : List ℕ) : Type 0 where
   pub subject : IsTrue (is_subject name)
   pub mode : IsTrue (is_some (mode_of text))
@@ -84,7 +84,7 @@ IsModeRow row = FitsModes (string_bytes row.0) (string_bytes row.1)
 
 -- ---- evidence, and the ids that a version was tested against
 
--- how one of the seven levels is spelt; that the version is there is the table's own matter
+-- the name of one of the seven levels; the table enforces that the version exists
 abbrev pub FitsEvidence : List ℕ → Type 0
 FitsEvidence text = IsTrue (is_some (level_of text))
 
@@ -97,14 +97,14 @@ version_of row = (string_bytes row.0, row.1)
 abbrev pub version_position : Text × ℕ × ℕ × ℕ → VersionPosition
 version_position row = ((string_bytes row.0, row.1), row.2)
 
--- ---- what the database is
+-- ---- meta
 
 abbrev pub meta_pair : Text × Text → MetaPair
 meta_pair row = (string_bytes row.0, string_bytes row.1)
 
--- ---- all of them
+-- ---- all tables
 
--- The rows of each table, in any order, but those of `texts` in the order of their ids.
+-- The rows of each table: those of `texts` in the order of their ids, all others in any order.
 pub record Rows : Type 0 where
   pub texts : List (ℕ × Text)
   pub versions : List (Text × ℕ × ℕ × Bool)
@@ -127,20 +127,21 @@ rows_in t = record {
   against = t.against.items;
 }
 
--- what is the same in both layouts
+-- the tables that both layouts share
 pub record FitsBase (rows : Rows) : Type 0 where
   pub texts : AreTexts rows.texts
   pub versions : AllByRecursion IsVersionRow rows.versions
   pub levels : AllByRecursion IsLevelRow rows.levels
   pub kept : AllByRecursion IsKeptRow rows.kept
 
--- layout 1 has no modes and no evidence
+-- the rest of layout 1, which has no modes and no evidence
 pub record FitsLayoutOne (rows : Rows) : Type 0 where
   pub meta : IsTrue (is_layout_one_meta (map meta_pair rows.meta))
   pub modes : rows.modes ≡ []
   pub evidence : rows.evidence ≡ []
   pub against : rows.against ≡ []
 
+-- the rest of layout 2
 pub record FitsLayoutTwo (rows : Rows) : Type 0 where
   pub meta : IsTrue (is_layout_two_meta (map meta_pair rows.meta))
   pub modes : AllByRecursion IsModeRow rows.modes
@@ -148,7 +149,7 @@ pub record FitsLayoutTwo (rows : Rows) : Type 0 where
   pub tested : HaveEvidence (map version_of rows.evidence) (map version_position rows.against)
   pub positions : AreContiguous (map version_position rows.against)
 
--- the rows hold a registry of layout 1 or of layout 2, and what is kept beside it
+-- the rows spell a registry and its kept replies, in layout 1 or layout 2
 pub record IsSpelling (rows : Rows) : Type 0 where
   pub base : FitsBase rows
   pub layout : FitsLayoutOne rows ⊎ FitsLayoutTwo rows

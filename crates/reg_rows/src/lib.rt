@@ -1,5 +1,5 @@
-//! The rows of the registry's tables, tested: whether they hold a registry and what is kept beside
-//! it. How the rows are stored is no matter here.
+//! Tests whether the rows of the tables spell a registry and its kept replies. The rows are lists:
+//! this crate knows nothing of how they are stored.
 
 #![tactic(auto)]
 

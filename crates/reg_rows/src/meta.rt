@@ -1,4 +1,5 @@
-//! The rows of `meta`, which say what the database is.
+//! The rows of `meta`: the format, the layout number, the global level and, in layout 2, the global
+//! mode.
 
 ghost use Rattle.std.specs.Prelude.{IsTrue, ◌↔◌, ◌≡◌, map, option_map, string_bytes};
 ghost use Rattle.reg_rows.specs.Meta.{value_at, layout_one_names, layout_two_names, is_name, has_only_known_names, layout_in, has_common, is_layout_one_meta, is_layout_two_meta};
@@ -6,7 +7,7 @@ ghost use Rattle.reg_rows.specs.Spelling.{meta_pair};
 
 use reg_core::{Level, Mode, parse_number};
 
-/// The value of the first row of this name.
+/// The value of the first row with this name.
 fn value_of<'a>(rows: &'a [(String, String)], name: &str) -> Option<&'a str>
     ensures { option_map (λ value. value.now) result ≡ value_at name.now (map meta_pair rows.now) }
 {
@@ -18,11 +19,11 @@ fn value_of<'a>(rows: &'a [(String, String)], name: &str) -> Option<&'a str>
     None
 }
 
-/// The greatest number that a layout may have.
+/// The greatest layout number.
 const MAX_LAYOUT: u32 = 999_999_999;
 
-/// The number of the layout, 1 to 999,999,999, that the rows of `meta` name beside the format
-/// `avroreg`; `None` where they name none.
+/// The layout number in the rows of `meta`, 1 to 999,999,999. `None` if they have no such number,
+/// or another format than `avroreg`.
 pub fn layout_of(rows: &[(String, String)]) -> Option<u32>
     ensures { result ≡ layout_in (map meta_pair rows.now) }
 {
@@ -44,7 +45,7 @@ fn is_layout_two_name(name: &str) -> bool
     name == "mode" || is_name(name)
 }
 
-/// Whether each row has a name that `meta` knows in layout 1.
+/// Whether each row has a name of layout 1.
 fn has_only_known_names(rows: &[(String, String)]) -> bool
     ensures { result ≡ has_only_known_names layout_one_names (map meta_pair rows.now) }
 {
@@ -56,7 +57,7 @@ fn has_only_known_names(rows: &[(String, String)]) -> bool
     true
 }
 
-/// Whether each row has a name that `meta` knows in layout 2.
+/// Whether each row has a name of layout 2.
 fn has_only_layout_two_names(rows: &[(String, String)]) -> bool
     ensures { result ≡ has_only_known_names layout_two_names (map meta_pair rows.now) }
 {
@@ -68,7 +69,7 @@ fn has_only_layout_two_names(rows: &[(String, String)]) -> bool
     true
 }
 
-/// Whether the rows have the format, this number of the layout, and a global level.
+/// Whether the rows have the format `avroreg`, this layout number, and a global level.
 fn has_common(rows: &[(String, String)], number: &str) -> bool
     ensures { result ≡ has_common number.now (map meta_pair rows.now) }
 {
@@ -80,15 +81,16 @@ fn has_common(rows: &[(String, String)], number: &str) -> bool
         && Level::parse(global).is_some()
 }
 
-/// Whether these are the rows of layout 1: its format, its number and a global level, and no other.
+/// Whether the rows are a `meta` table of layout 1: the format, the layout number and a global
+/// level, and no other name.
 pub fn is_layout_one_meta(rows: &[(String, String)]) -> bool
     ensures { result ≡ is_layout_one_meta (map meta_pair rows.now) }
 {
     has_common(rows, "1") && has_only_known_names(rows)
 }
 
-/// Whether these are the rows of layout 2: its format, its number, a global level and a global
-/// mode, and no other.
+/// Whether the rows are a `meta` table of layout 2: the format, the layout number, a global level
+/// and a global mode, and no other name.
 pub fn is_layout_two_meta(rows: &[(String, String)]) -> bool
     ensures { result ≡ is_layout_two_meta (map meta_pair rows.now) }
 {

@@ -1,4 +1,4 @@
-//! The places of the versions: which ids each was tested against.
+//! The rows of `against`: the ids that each version was tested against, by position.
 
 ghost use Rattle.std.specs.Prelude.{◌≡◌, ◌↔◌, Any, IsSorted, IsTrue, map};
 ghost use Rattle.std.specs.List.{AllByRecursion};
@@ -6,7 +6,7 @@ ghost use Rattle.std.specs.declared.cmp.Ordering.{Ordering};
 ghost use Rattle.reg_rows.specs.Positions.{HaveEvidence, AreContiguous, version_view, position_view};
 ghost use Rattle.reg_rows.specs.Inside.Search.{AreSortedVersions, AreSortedPositions, HasVersion, HasPredecessorIn};
 
-/// Whether the key is among the sorted ones.
+/// Whether the sorted keys contain the key.
 fn is_among<K: Ord>(sorted: &[K], key: &K) -> bool
     requires { IsSorted K.cmp sorted.now }
     ensures { IsTrue result ↔ Any (λ other. K.cmp other key.now ≡ Ordering.Equal) sorted.now }
@@ -14,7 +14,7 @@ fn is_among<K: Ord>(sorted: &[K], key: &K) -> bool
     sorted.binary_search(key).is_ok()
 }
 
-/// Whether the version of the place is among the sorted ones.
+/// Whether the sorted versions contain the version of this position.
 fn has_version<'a>(sorted: &[(&'a str, u32)], place: &(&'a str, u32, u32)) -> bool
     requires { AreSortedVersions sorted.now }
     ensures { IsTrue result ↔ HasVersion sorted.now place.now }
@@ -22,7 +22,7 @@ fn has_version<'a>(sorted: &[(&'a str, u32)], place: &(&'a str, u32, u32)) -> bo
     is_among(sorted, &(place.0, place.1))
 }
 
-/// Whether the version of each place is among the sorted ones.
+/// Whether the sorted versions contain the version of each position.
 fn have_versions<'a>(sorted: &[(&'a str, u32)], positions: &[(&'a str, u32, u32)]) -> bool
     requires { AreSortedVersions sorted.now }
     ensures { IsTrue result ↔ AllByRecursion (HasVersion sorted.now) positions.now }
@@ -35,7 +35,7 @@ fn have_versions<'a>(sorted: &[(&'a str, u32)], positions: &[(&'a str, u32, u32)
     true
 }
 
-/// Whether each version that has a place has evidence, whose versions may come in any order.
+/// Whether each version with a position has a row of evidence. Both lists may be in any order.
 pub fn have_evidence<'a>(evidence: Vec<(&'a str, u32)>, positions: &[(&'a str, u32, u32)]) -> bool
     ensures { IsTrue result
         ↔ HaveEvidence (map version_view evidence.entry.items) (map position_view positions.now) }
@@ -45,7 +45,7 @@ pub fn have_evidence<'a>(evidence: Vec<(&'a str, u32)>, positions: &[(&'a str, u
     have_versions(&versions, positions)
 }
 
-/// Whether the place is the first of its version, or the one before it is among the sorted ones.
+/// Whether the position is 1, or the sorted positions contain its predecessor.
 fn has_predecessor(sorted: &[(&str, u32, u32)], place: &(&str, u32, u32)) -> bool
     requires { AreSortedPositions sorted.now }
     ensures { IsTrue result ↔ HasPredecessorIn sorted.now place.now }
@@ -57,7 +57,7 @@ fn has_predecessor(sorted: &[(&str, u32, u32)], place: &(&str, u32, u32)) -> boo
     }
 }
 
-/// Whether each of the sorted places is reached from the first of its version.
+/// Whether each of the sorted positions is 1 or has its predecessor.
 fn have_predecessors(sorted: &[(&str, u32, u32)]) -> bool
     requires { AreSortedPositions sorted.now }
     ensures { IsTrue result ↔ AllByRecursion (HasPredecessorIn sorted.now) sorted.now }
@@ -70,8 +70,8 @@ fn have_predecessors(sorted: &[(&str, u32, u32)]) -> bool
     true
 }
 
-/// Whether the positions of each version are 1 to their count, in any order. That none comes twice
-/// isn't tested.
+/// Whether the positions of each version are 1, 2, .. up to their number, in any order. Duplicates
+/// aren't detected.
 pub fn are_contiguous(positions: Vec<(&str, u32, u32)>) -> bool
     ensures { IsTrue result ↔ AreContiguous (map position_view positions.entry.items) }
 {

@@ -7,7 +7,7 @@ ghost use Rattle.reg_rows.specs.Spelling.{FitsVersions, FitsLevels, FitsKept, Fi
 
 use reg_core::{Key, Level, MAX_NUMBER, Mode, is_subject};
 
-/// Whether a row of `versions` may be known by these two: a subject, and a number from 1 to
+/// Whether a row of `versions` may have these values: a valid subject, and a number from 1 to
 /// 2,147,483,647.
 pub fn fits_versions(subject: &str, number: u32) -> bool
     ensures { IsTrue result ↔ FitsVersions subject.now number }
@@ -21,7 +21,7 @@ fn is_version_row(row: &(String, u32, u32, bool)) -> bool
     fits_versions(row.0.as_str(), row.1)
 }
 
-/// Whether each row of `versions` has a subject and a number.
+/// Whether each row of `versions` has a valid subject and number.
 pub(crate) fn are_version_rows(rows: &[(String, u32, u32, bool)]) -> bool
     ensures { IsTrue result ↔ AllByRecursion IsVersionRow rows.now }
 {
@@ -33,7 +33,8 @@ pub(crate) fn are_version_rows(rows: &[(String, u32, u32, bool)]) -> bool
     true
 }
 
-/// Whether a row of `levels` may be these two: a subject, and the text of one of the seven levels.
+/// Whether a row of `levels` may have these values: a valid subject, and the name of one of the
+/// seven levels.
 pub fn fits_levels(subject: &str, level: &str) -> bool
     ensures { IsTrue result ↔ FitsLevels subject.now level.now }
 {
@@ -46,7 +47,7 @@ fn is_level_row(row: &(String, String)) -> bool
     fits_levels(row.0.as_str(), row.1.as_str())
 }
 
-/// Whether each row of `levels` has a subject and a level.
+/// Whether each row of `levels` has a valid subject and level.
 pub(crate) fn are_level_rows(rows: &[(String, String)]) -> bool
     ensures { IsTrue result ↔ AllByRecursion IsLevelRow rows.now }
 {
@@ -58,7 +59,7 @@ pub(crate) fn are_level_rows(rows: &[(String, String)]) -> bool
     true
 }
 
-/// Whether a reply of this status is ever kept.
+/// Whether replies with this status are kept.
 fn is_kept_status(status: u32) -> bool
     ensures { IsTrue result ↔ IsKeptStatus status }
 {
@@ -68,8 +69,8 @@ fn is_kept_status(status: u32) -> bool
     }
 }
 
-/// Whether a row of `kept` may have this key and this status: a retry key, and the status of a reply
-/// that is kept.
+/// Whether a row of `kept` may have these values: a valid retry key, and a status whose replies are
+/// kept.
 pub fn fits_kept(key: &str, status: u32) -> bool
     ensures { IsTrue result ↔ FitsKept key.now status }
 {
@@ -82,7 +83,7 @@ fn is_kept_row(row: &(String, String, u32, String)) -> bool
     fits_kept(row.0.as_str(), row.2)
 }
 
-/// Whether each row of `kept` is one that is kept.
+/// Whether each row of `kept` has a valid retry key and status.
 pub(crate) fn are_kept_rows(rows: &[(String, String, u32, String)]) -> bool
     ensures { IsTrue result ↔ AllByRecursion IsKeptRow rows.now }
 {
@@ -94,7 +95,8 @@ pub(crate) fn are_kept_rows(rows: &[(String, String, u32, String)]) -> bool
     true
 }
 
-/// Whether a row of `modes` may be these two: a subject, and the text of one of the two modes.
+/// Whether a row of `modes` may have these values: a valid subject, and the name of one of the two
+/// modes.
 pub fn fits_modes(subject: &str, mode: &str) -> bool
     ensures { IsTrue result ↔ FitsModes subject.now mode.now }
 {
@@ -107,7 +109,7 @@ fn is_mode_row(row: &(String, String)) -> bool
     fits_modes(row.0.as_str(), row.1.as_str())
 }
 
-/// Whether each row of `modes` has a subject and a mode.
+/// Whether each row of `modes` has a valid subject and mode.
 pub(crate) fn are_mode_rows(rows: &[(String, String)]) -> bool
     ensures { IsTrue result ↔ AllByRecursion IsModeRow rows.now }
 {
@@ -119,7 +121,7 @@ pub(crate) fn are_mode_rows(rows: &[(String, String)]) -> bool
     true
 }
 
-/// Whether a row of `evidence` may have this level: the text of one of the seven.
+/// Whether a row of `evidence` may have this level: the name of one of the seven levels.
 pub fn fits_evidence(level: &str) -> bool
     ensures { IsTrue result ↔ FitsEvidence level.now }
 {
@@ -132,7 +134,7 @@ fn is_evidence_row(row: &(String, u32, String)) -> bool
     fits_evidence(row.2.as_str())
 }
 
-/// Whether each row of `evidence` has a level.
+/// Whether each row of `evidence` has a valid level.
 pub(crate) fn are_evidence_rows(rows: &[(String, u32, String)]) -> bool
     ensures { IsTrue result ↔ AllByRecursion IsEvidenceRow rows.now }
 {

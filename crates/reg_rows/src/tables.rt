@@ -13,13 +13,13 @@ use crate::texts::are_texts;
 use reg_core::OutOfMemory;
 use std::alloc::{AllocError, Global};
 
-/// The rows of the tables of layout 2: those of `texts` in the order of their ids, those of each
-/// other in any order. Layout 1 has none in `modes`, `evidence` and `against`.
+/// The rows of the eight tables of layout 2. The rows of `texts` are in the order of their ids, all
+/// others in any order. In layout 1, `modes`, `evidence` and `against` are empty.
 #[derive(Debug, Drop)]
 pub struct Tables {
     /// an id, and its text
     pub texts: Vec<(u32, String)>,
-    /// a subject, a version's number, its id, and whether it is deleted
+    /// a subject, a version's number, its id, and whether it is soft-deleted
     pub versions: Vec<(String, u32, u32, bool)>,
     /// a subject, and its own level
     pub levels: Vec<(String, String)>,
@@ -29,13 +29,14 @@ pub struct Tables {
     pub meta: Vec<(String, String)>,
     /// a subject, and its own mode
     pub modes: Vec<(String, String)>,
-    /// a subject, a version's number, and the level by which it was tested
+    /// a subject, a version's number, and the level that it was tested under
     pub evidence: Vec<(String, u32, String)>,
-    /// a subject, a version's number, a position, and the id there that it was tested against
+    /// a subject, a version's number, a position, and the id at this position, which the version
+    /// was tested against
     pub against: Vec<(String, u32, u32, u32)>,
 }
 
-/// Whether the rows that differ by layout are those of layout 1.
+/// Whether `meta` and the three tables that layout 2 adds fit layout 1.
 fn fits_layout_one(tables: &Tables) -> bool
     ensures { IsTrue result ↔ FitsLayoutOne (rows_in tables.now) }
 {
@@ -71,8 +72,8 @@ fn positions_of(
     Ok(positions)
 }
 
-/// Whether each version that was tested against others has evidence, and its places are numbered
-/// from 1.
+/// Whether each version in `against` has a row of `evidence`, and its positions are 1, 2, .. up to
+/// their number.
 fn fits_against(
     alloc: Global,
     evidence: &[(String, u32, String)],
@@ -87,7 +88,7 @@ fn fits_against(
     Ok(have_evidence(versions, &positions) && are_contiguous(positions))
 }
 
-/// Whether the rows that differ by layout are those of layout 2.
+/// Whether `meta` and the three tables that layout 2 adds fit layout 2.
 fn fits_layout_two(alloc: Global, tables: &Tables) -> Result<bool, AllocError>
     ensures { IfOk result (λ yes. IsTrue yes ↔ FitsLayoutTwo (rows_in tables.now)) }
 {
@@ -100,7 +101,7 @@ fn fits_layout_two(alloc: Global, tables: &Tables) -> Result<bool, AllocError>
     fits_against(alloc, &tables.evidence, &tables.against)
 }
 
-/// Whether the rows that differ by layout are those of the layout that `meta` names.
+/// Whether `meta` and the three tables that layout 2 adds fit layout 1 or layout 2.
 fn fits_layout(alloc: Global, tables: &Tables) -> Result<bool, AllocError>
     ensures { IfOk result (λ yes. IsTrue yes
         ↔ (FitsLayoutOne (rows_in tables.now) ⊎ FitsLayoutTwo (rows_in tables.now))) }
@@ -111,7 +112,7 @@ fn fits_layout(alloc: Global, tables: &Tables) -> Result<bool, AllocError>
     fits_layout_two(alloc, tables)
 }
 
-/// Whether the rows that are the same in both layouts hold a registry and kept replies.
+/// Whether the tables that both layouts share are valid: `texts`, `versions`, `levels` and `kept`.
 fn fits_base(alloc: Global, tables: &Tables) -> Result<bool, OutOfMemory>
     ensures { IfOk result (λ yes. IsTrue yes ↔ FitsBase (rows_in tables.now)) }
 {
@@ -124,13 +125,14 @@ fn fits_base(alloc: Global, tables: &Tables) -> Result<bool, OutOfMemory>
     are_texts(alloc, &tables.texts)
 }
 
-/// Whether the rows hold a registry, of the layout that `meta` names, and what is kept beside it.
-/// That no key of a table and no text stands twice, that each id is that of a text, and that each
-/// row of `evidence` and `against` has its version, is the tables' own matter, and isn't tested.
+/// Whether the rows spell a registry and its kept replies, in layout 1 or layout 2.
+///
+/// What the tables themselves enforce isn't tested: keys and texts are unique, each id belongs to a
+/// text, and each row of `evidence` and `against` has its version.
 ///
 /// # Errors
 ///
-/// `OutOfMemory` where memory for the test is refused.
+/// `OutOfMemory` if an allocation fails.
 pub fn spells(alloc: Global, tables: &Tables) -> Result<bool, OutOfMemory>
     ensures { IfOk result (λ yes. IsTrue yes ↔ IsSpelling (rows_in tables.now)) }
 {

@@ -13,7 +13,7 @@ use std::alloc::{AllocError, Global};
 ///
 /// # Errors
 ///
-/// `OutOfMemory` where room for the schema is refused.
+/// `OutOfMemory` if an allocation fails.
 pub fn is_identity(alloc: Global, text: &str) -> Result<bool, OutOfMemory>
     ensures { IfOk result (λ yes. IsTrue yes ↔ IsIdentity text.now) }
 {
@@ -38,14 +38,14 @@ fn are_identities(alloc: Global, rows: &[(u32, String)]) -> Result<bool, OutOfMe
     Ok(true)
 }
 
-/// Whether the ids are 1 to their count, in order, and no more than there may be: 2,147,483,647.
+/// Whether the ids are 1, 2, .. in this order, and at most 2,147,483,647.
 pub fn are_ids(ids: &[u32]) -> bool
     ensures { IsTrue result ↔ (AreNumbered 1 ids.now × (length ids.now ≤ max_number)) }
 {
     ids.len() <= MAX_NUMBER as usize && are_numbered(ids)
 }
 
-/// Whether the numbers are 1 to their count, in order.
+/// Whether the numbers are 1, 2, .. in this order.
 fn are_numbered(numbers: &[u32]) -> bool
     ensures { IsTrue result ↔ AreNumbered 1 numbers.now }
 {
@@ -69,12 +69,12 @@ fn ids_of(alloc: Global, rows: &[(u32, String)]) -> Result<Vec<u32>, AllocError>
     Ok(ids)
 }
 
-/// Whether each row of `texts` has the identity text of a schema, and the ids are 1 to their count,
-/// in order.
+/// Whether each row of `texts` has the identity text of a schema, and the ids are 1, 2, .. in this
+/// order.
 ///
 /// # Errors
 ///
-/// `OutOfMemory` where memory for a schema is refused.
+/// `OutOfMemory` if an allocation fails.
 pub fn are_texts(alloc: Global, rows: &[(u32, String)]) -> Result<bool, OutOfMemory>
     ensures { IfOk result (λ yes. IsTrue yes ↔ AreTexts rows.now) }
 {

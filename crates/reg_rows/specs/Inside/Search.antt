@@ -1,4 +1,4 @@
--- Places as a search has them: sorted, with their texts behind references.
+-- Sorted versions and positions with borrowed subjects, for a binary search.
 use Rattle.std.specs.Prelude.{◌≡◌, ◌⊎◌, ℕ, ◌-◌, ◌<◌, List, Contains, map, IsSorted}
 use Rattle.std.specs.Borrow.{Bor}
 use Rattle.std.specs.Cmp.Lexicographic.{slice_cmp}
@@ -19,11 +19,11 @@ AreSortedVersions = IsSorted (on version_view version_order)
 abbrev pub AreSortedPositions : List (Bor (List ℕ) × ℕ × ℕ) → Type 0
 AreSortedPositions = IsSorted (on position_view position_order)
 
--- the version of the place is among these
+-- the list contains the version of the position
 abbrev pub HasVersion : List (Bor (List ℕ) × ℕ) → Bor (List ℕ) × ℕ × ℕ → Type 0
 HasVersion versions place = Contains (map version_view versions) (place.0.now, place.1)
 
--- the place is the first of its version, or the one before it is among these
+-- the position is 1, or the list contains its predecessor
 abbrev pub HasPredecessor : List VersionPosition → VersionPosition → Type 0
 HasPredecessor places place = (0 < place.1) × ((place.1 ≡ 1) ⊎ Contains places (place.0, place.1 - 1))
 

@@ -3,7 +3,7 @@ use Rattle.reg_messages.specs.Responses.{answer_bytes, status_line, length_line}
 use Rattle.reg_messages.proofs.Statuses.{IsStatusCode-from_IsStatus}
 use Rattle.reg_messages.proofs.response.bytes_of.Goals as goal
 
--- one part more
+-- one more part
 then : (old new part text a : List ℕ) → old ≡ a → new ≡ old ++ part → part ≡ text → new ≡ a ++ text
 then old new part text a e p q = p ∙ (λ i. e i ++ q i)
 

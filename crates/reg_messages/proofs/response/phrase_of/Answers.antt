@@ -5,7 +5,7 @@ use Rattle.http.specs.StatusCode.{reason_phrase}
 use Rattle.reg_messages.specs.Responses.{phrase_of}
 use Rattle.reg_messages.proofs.response.phrase_of.Goals as goal
 
--- the text that a default stands in for
+-- the text of an option, or the default
 now_of : (o : Option (Bor (List ℕ))) (d : Bor (List ℕ)) → (unwrap_or o d).now ≡ unwrap_or (option_map (λ (s : Bor (List ℕ)). s.now) o) d.now
 now_of None d = refl
 now_of (Some s) d = refl

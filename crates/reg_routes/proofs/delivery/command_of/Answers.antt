@@ -13,7 +13,7 @@ use Rattle.reg_routes.specs.Commands.{command_from}
 use Rattle.reg_routes.specs.Deliveries.{Rejection, IsRejected, requested, by_resource, by_method, without_allow, delivery_from}
 use Rattle.reg_routes.proofs.delivery.command_of.Goals as goal
 
--- what is asked where the path has no resource, where its resource hasn't the method, and else
+-- a path without a resource, a resource without the method, and all other requests
 nowhere : (method target : List ℕ) (fields : List HeaderField) (body : List ℕ) → None ≡ resource_of (path_of target)
     → requested method target fields body ≡ Err (NotFound, None)
 unfolding requested

@@ -3,7 +3,7 @@ use Rattle.std.specs.Prelude.{Some, None, cond, nat_lt}
 use Rattle.std.specs.List.{position, position_or_len}
 use Rattle.std.proofs.lemmas.Bool.{ltb-false}
 
--- the test holds nowhere: all stands before, and nothing behind
+-- if no byte passes the test, all bytes are before it and none after it
 past_the_end : {X : Type 0} (p : X → Bool) (xs : List X) → None ≡ position p xs → length xs ≤ position_or_len p xs
 past_the_end p xs e = by (nat_lt (position_or_len p xs) (length xs)) refl e
   where

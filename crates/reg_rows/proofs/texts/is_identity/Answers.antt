@@ -8,7 +8,7 @@ use Rattle.avro_schema.proofs.RoundText.{identity_text_denotes}
 use Rattle.reg_rows.specs.Spelling.{IsIdentity}
 use Rattle.reg_rows.proofs.texts.is_identity.Goals as goal
 
--- an identity text denotes its schema
+-- an identity text denotes the schema that it belongs to
 denotes_itself : (text : List ℕ) (it : IsIdentity text) → TextDenotes text it.nodes
 denotes_itself text it = subst (λ t. TextDenotes t it.nodes) (sym it.is) (identity_text_denotes it.nodes it.schema)
 

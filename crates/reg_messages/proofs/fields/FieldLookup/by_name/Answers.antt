@@ -15,7 +15,7 @@ blank = record { name = record { start = 0; end = 0 }; value = record { start = 
 pub loop-field-init : goal.loop-field-init
 loop-field-init c = values_named-none c.args.name.now
 
--- the look goes on to the next field
+-- the lookup continues with the next field
 more : (name : List ℕ) (view : HeaderSpan → HeaderField) (fields : List HeaderSpan) (i : ℕ) (found : FieldLookup) → i < length fields
     → FindsField (values_named name (map view (take i fields)) ++ values_named name (view (get_or fields i blank) ∷ [])) found
     → FindsField (values_named name (map view (take (i + 1) fields))) found
