@@ -12,11 +12,11 @@ use Rattle.reg_tables.specs.Changes.{marked_layout_two}
 use Rattle.reg_tables.specs.FailedCalls.{IsWriteFault, IsInsertFault}
 use Rattle.reg_migrate.specs.Inside.{CanMigrate, HasLayoutOne, HoldsMigrated, MigratesFrom, TreesHoldMigrated}
 
--- what is held under one schema of layout 1 is held under the one that the database has
+-- contents under some schema of layout 1 are contents under the database's own schema
 pub holds_under : (schema : Schema) (db : Database) → db.schema ≡ schema → (it : HasLayoutOne db) → HoldsContents schema db it.contents
 holds_under schema db is it = subst (λ x. HoldsContents x db it.contents) (sym it.holds.declared ∙ is) it.holds
 
--- layout 1 without the index missing has it
+-- a database of layout 1 that doesn't lack the index has it
 pub is_indexed : (db : Database) → db.schema ≢ layout_one_unindexed → HasLayoutOne db → db.schema ≡ layout_one
 is_indexed db other it = elim it.known [
   | inl has ↦ it.holds.declared ∙ has
@@ -28,18 +28,18 @@ pub one_of_two : (schema : Schema) → IsLayoutOne schema → (schema ≢ layout
 one_of_two schema (inl has) other = has
 one_of_two schema (inr lacks) other = absurd (other lacks)
 
--- what was moved from the schema that the database has was moved from either
-pub moves_both : (schema : Schema) (before now : Database) → ((other : Schema) → IsLayoutOne other → before.schema ≡ other → other ≡ schema) → MigratesFrom schema before now → HoldsMigrated before now
-moves_both schema before now one moves other known contents holds = moves contents (subst (λ x. HoldsContents x before contents) (one other known holds.declared) holds)
+-- a migration from the database's own schema is a migration from each schema of layout 1
+pub migrates_both : (schema : Schema) (before now : Database) → ((other : Schema) → IsLayoutOne other → before.schema ≡ other → other ≡ schema) → MigratesFrom schema before now → HoldsMigrated before now
+migrates_both schema before now one moves other known contents holds = moves contents (subst (λ x. HoldsContents x before contents) (one other known holds.declared) holds)
 
--- over a connection that is shut a write fails by a fault, and over an open one as it says
+-- over a closed connection a write fails with a fault; over an open one, as its contract says
 pub fails_either : {X : Type 0} (old new : State) (r : Result X Error) → IfErr r (λ e. IsTrue old.is_open ⊎ IsWriteFault old new e)
     → IfErr r (λ e. HasLayoutOne old.now → IsInsertFault old new e) → IfErr r (λ e. CanMigrate old → IsInsertFault old new e)
 fails_either old new (Ok x) shut fails = tt
 fails_either old new (Err e) (inl is_open) fails = λ can. fails (can is_open)
 fails_either old new (Err e) (inr fault) fails = λ can. inl (inl fault)
 
--- trees that hold what layout 1 held do so after a crash
+-- the trees of the migrated tables have the migrated contents after a crash
 pub taken_if_held : (before now : Database) (db : Trees) → db ≡ now.trees → HoldsMigrated before now → TreesHoldMigrated before db
 taken_if_held before now db is moves schema known contents holds =
     let it = moves schema known contents holds in

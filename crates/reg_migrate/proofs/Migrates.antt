@@ -16,7 +16,7 @@ use Rattle.reg_migrate.specs.Migrations.{RecoversToMigrated, CrashKeepsStored, M
 use Rattle.reg_migrate.specs.Inside.{CanMigrate, HasLayoutOne, HoldsMigrated, IsMigratedOver, TreesHoldMigrated}
 use Rattle.reg_migrate.proofs.Layouts.{taken_if_held}
 use Rattle.reg_migrate.proofs.NoEvidence.{no_evidence_left}
-use Rattle.reg_migrate.proofs.Spelled.{leaves_moved, spells_moved}
+use Rattle.reg_migrate.proofs.Spelled.{recovers_migrated, spells_migrated}
 
 -- the test removes the limit on steps, which these facts don't depend on
 pub unlimited_reads : {S : Type 0} (g : Ghosts S) (conn : Held S) (mid : State) → OnlyReads (state g (record conn { step_limit = None })) mid → OnlyReads (state g conn) mid
@@ -50,39 +50,39 @@ module _ (old mid : State) (reads : OnlyReads old mid) (settled : IsTrue old.is_
       let was_open = reads.commit_stays.was_open is_open in
       reads.settled is_open ∙ (reads.commit_stays.committed is_open ∙ sym (settled was_open))
 
-  -- tables that passed can be moved
+  -- tables that passed can be migrated
   pub can_migrate : (count : ℕ) → FindsLayoutOne old.now count → CanMigrate mid
   can_migrate count found is_open = subst HasLayoutOne (sym (same_now is_open)) (record { schema = found.spells.schema; known = found.spells.known; contents = found.spells.contents; holds = found.spells.holds })
 
-  -- nothing was written by the test, nor by the move
+  -- neither the test nor the migration committed anything
   pub reads_both : (new : State) → OnlyReads mid new → OnlyReads old new
   reads_both new later = record { commit_stays = keeps_then old mid new reads.commit_stays later.commit_stays; settled = later.settled }
 
-  -- what is left of the tables that were tested
+  -- what a crash leaves of the tested tables
   pub takes_on : (count : ℕ) → FindsLayoutOne old.now count → (db : Trees) → IsTrue mid.is_open → TreesHoldMigrated mid.now db → RecoversToMigrated old.now db
   takes_on count found db is_open takes = record {
     found = spells_some old.now count found;
-    spells = λ was spelled. leaves_moved old.now db was (subst (λ (d : Database). TreesHoldMigrated d db) (same_now is_open) takes) spelled;
+    spells = λ was spelled. recovers_migrated old.now db was (subst (λ (d : Database). TreesHoldMigrated d db) (same_now is_open) takes) spelled;
   }
 
   module _ (new : State) (count : ℕ) (found : FindsLayoutOne old.now count) (over : IsMigratedOver mid new) where
     held : HoldsMigrated old.now new.now
     held = subst (λ (d : Database). HoldsMigrated d new.now) (same_now over.was_open) over.holds
 
-    -- the registry that the tables spelled
+    -- the registry is migrated
     pub moves : Migrates old new count
     moves = record {
       found = spells_some old.now count found;
       counted = found.counted;
-      spells = λ was spelled. record { is_open = over.is_open; settled = over.settled; spells = spells_moved old.now new.now was held spelled };
+      spells = λ was spelled. record { is_open = over.is_open; settled = over.settled; spells = spells_migrated old.now new.now was held spelled };
       evidence = no_evidence_left old.now new.now found.stored found.spells held;
     }
 
-    -- a crash leaves it in layout 2 alone
-    pub crashes_moved : ((db : Trees) → IsTrue new.is_open → new.may_leave db → db ≡ new.committed.trees) → (db : Trees) → new.may_leave db → RecoversToMigrated old.now db
-    crashes_moved only db it = record {
+    -- a crash leaves the registry only in layout 2
+    pub crashes_migrated : ((db : Trees) → IsTrue new.is_open → new.may_leave db → db ≡ new.committed.trees) → (db : Trees) → new.may_leave db → RecoversToMigrated old.now db
+    crashes_migrated only db it = record {
       found = spells_some old.now count found;
-      spells = λ was spelled. leaves_moved old.now db was (taken_if_held old.now new.now db (only db over.is_open it ∙ ap (λ (d : Database). d.trees) over.settled) held) spelled;
+      spells = λ was spelled. recovers_migrated old.now db was (taken_if_held old.now new.now db (only db over.is_open it ∙ ap (λ (d : Database). d.trees) over.settled) held) spelled;
     }
 
 -- a crash never loses the registry

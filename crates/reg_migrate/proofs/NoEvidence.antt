@@ -1,4 +1,4 @@
--- Whatever tables spell that were moved has no evidence.
+-- Migrated tables spell no evidence.
 use Rattle.std.proofs.Common.{◌≡◌, ◌∙◌, List, Option, None, Some, refl, sym, ap, subst}
 use Rattle.std.specs.FinMap.{get, empty, get-empty, same_map}
 use Rattle.sqlite.specs.Order.{Row}
@@ -13,7 +13,7 @@ use Rattle.reg_store.specs.Spells.{Spells, SpellsLayoutOne}
 use Rattle.reg_store.proofs.Evidence.{has_none}
 use Rattle.reg_migrate.specs.Inside.{HoldsMigrated}
 
--- a map that shows the rows of one without entries has none
+-- if an empty map shows some rows, every map that shows them is empty
 shows_none : {K V : Type 0} (form : Form K V) (rows : List Row) (here there : K → Option V) → ShowsMap form rows here → ShowsMap form rows there
     → ((key : K) → here key ≡ None) → (key : K) → there key ≡ None
 shows_none {K} {V} form rows here there a b none key = go (there key) refl

@@ -16,7 +16,7 @@ use Rattle.reg_store.specs.Spells.{IsSpelledEvidence, IsSpelledLayoutOne, IsSpel
 use Rattle.reg_store.proofs.Evidence.{no_evidence}
 use Rattle.reg_migrate.specs.Inside.{HoldsMigrated, TreesHoldMigrated}
 
--- the layout's number alone is another one
+-- only the layout number changes
 module _ (level : List ℕ) where
   -- no other row depends on the number
   elsewhere : (number q : List ℕ) → q ≢ codes "layout" → q ≢ codes "global" → get (meta_of_layout number level) q ≡ get (insert {R = text_cmp} empty (codes "format") (codes "avroreg")) q
@@ -41,9 +41,9 @@ module _ (level : List ℕ) where
         ]
   ])
 
--- what layout 1 spells, its contents spell in layout 2
-pub moved_spelled : (contents : Contents) (was : Stored) → (contents.modes ≡ empty) × (contents.evidence ≡ empty) × (contents.against ≡ empty) → IsSpelledLayoutOne contents was → IsSpelledLayoutTwo (marked_layout_two contents) was
-moved_spelled contents was none s = record {
+-- the contents spell in layout 2 what they spelled in layout 1
+pub contents_spelled : (contents : Contents) (was : Stored) → (contents.modes ≡ empty) × (contents.evidence ≡ empty) × (contents.against ≡ empty) → IsSpelledLayoutOne contents was → IsSpelledLayoutTwo (marked_layout_two contents) was
+contents_spelled contents was none s = record {
   base = record {
     registry = s.base.registry;
     texts = s.base.texts;
@@ -63,16 +63,16 @@ moved_spelled contents was none s = record {
   evidence = subst (IsSpelledEvidence (marked_layout_two contents)) (sym s.evidence) (no_evidence (marked_layout_two contents) none.1 none.2);
 }
 
--- a database to which the tables were moved spells what they spelled
-pub spells_moved : (before now : Database) (was : Stored) → HoldsMigrated before now → SpellsLayoutOne before was → Spells now was
-spells_moved before now was moves s = record {
+-- the migrated database spells what the tables spelled
+pub spells_migrated : (before now : Database) (was : Stored) → HoldsMigrated before now → SpellsLayoutOne before was → Spells now was
+spells_migrated before now was moves s = record {
   schema = layout_two;
   known = inl refl;
   contents = marked_layout_two s.contents;
   holds = moves s.schema s.known s.contents s.holds;
-  spelled = moved_spelled s.contents was (nothing_held s.schema s.known before.trees s.contents s.holds.shows) s.spelled;
+  spelled = contents_spelled s.contents was (nothing_held s.schema s.known before.trees s.contents s.holds.shows) s.spelled;
 }
 
 -- so do trees that a crash leaves
-pub leaves_moved : (before : Database) (db : Trees) (was : Stored) → TreesHoldMigrated before db → SpellsLayoutOne before was → RecoversTo db was
-leaves_moved before db was takes s = record { schema = layout_two; spells = spells_moved before (record { schema = layout_two; trees = db }) was takes s }
+pub recovers_migrated : (before : Database) (db : Trees) (was : Stored) → TreesHoldMigrated before db → SpellsLayoutOne before was → RecoversTo db was
+recovers_migrated before db was takes s = record { schema = layout_two; spells = spells_migrated before (record { schema = layout_two; trees = db }) was takes s }

@@ -13,7 +13,7 @@ use Rattle.reg_store.specs.Stores.{RecoversLastCommit, AddsNoCrashState}
 use Rattle.reg_migrate.specs.declared.error.MigrateError.{MigrateError}
 use Rattle.reg_migrate.specs.declared.error.MigrateError.TheVariants.{Memory, Disk, NotARegistry, AlreadyNew, NewerLayout}
 
--- the error for what `check_first` returns: a layout above 1 is this program's or newer
+-- the error of `migrate` for an error of `check_first`, which reports layout 2 as a newer layout
 abbrev pub migrate_error_of : StoreError → MigrateError
 migrate_error_of store.Memory = Memory
 migrate_error_of store.Disk = Disk
@@ -32,7 +32,7 @@ abbrev pub HasDiskCause : State → State → MigrateError → Type 0
 HasDiskCause old new Disk = HasDiskFault old new
 HasDiskCause old new _ = Unit {0}
 
--- an error with a number, or for layout 2, has the number from the rows of `meta`
+-- `AlreadyNew` and `NewerLayout` have their layout number from the rows of `meta`
 abbrev pub HasMetaNumber : Database → MigrateError → Type 0
 HasMetaNumber db AlreadyNew = ShowsLayout db 2 × (HasFiveTables db.schema → NamesLayout db 2)
 HasMetaNumber db (NewerLayout number) = (2 < number) × ShowsLayout db number × (HasFiveTables db.schema → NamesLayout db number)
@@ -44,19 +44,19 @@ IsErrorForLayout number AlreadyNew = number ≡ 2
 IsErrorForLayout number (NewerLayout told) = told ≡ number
 IsErrorForLayout number _ = ⊥
 
--- If the database begins with the five tables and `meta` can be read and names a layout above 1, the error reports that layout, or memory or the disk failed.
--- The other rows don't matter.
+-- Let the database begin with the five tables, and let `meta` be readable and name a layout above 1. Then the error reports that layout, or it is
+-- `Memory` or `Disk`. The other rows don't matter.
 abbrev pub ReportsNewer : State → MigrateError → Type 0
 ReportsNewer s e = (number : ℕ) → IsTrue s.is_open → 1 < number → HoldsMeta s.now → NamesLayout s.now number → IsErrorForLayout number e ⊎ IsTrue (is_fault e)
 
--- After an error other than `Disk`, a crash leaves only what it left before. If allocation fails, the disk may fail too.
+-- After an error other than `Disk`, a crash leaves only what it left before. If an allocation fails, the disk may fail too.
 abbrev pub KeepsCrashStates : State → State → MigrateError → Type 0
 KeepsCrashStates old new Disk = Unit {0}
 KeepsCrashStates old new Memory = AddsNoCrashState old new ⊎ MoreFaults old.faults new.faults
 KeepsCrashStates old new _ = AddsNoCrashState old new
 
--- What `migrate` leaves of the connection, for every result. After an error nothing has changed; after an error other than `Disk`, nothing has changed after a
--- crash either. Only a disk fault closes the connection.
+-- What `migrate` keeps of the connection, for every result. After an error, nothing has changed. After an error other than `Disk`, a crash changes
+-- nothing either; if an allocation fails, the disk may fail too. Only a disk fault closes the connection.
 pub record KeepsConnection {T : Type 0} (old new : State) (result : Result T MigrateError) : Type 0 where
   pub nothing : HasCleanDisk new → OnErr result (OnlyReads old new)
   pub before : HasCleanDisk new → IfErr result (λ e. IsTrue old.is_open → KeepsCrashStates old new e)

@@ -1,4 +1,4 @@
--- What the statements of a migration make of the contents of layout 1.
+-- What the statements of a migration do to the contents of layout 1.
 use Rattle.std.specs.Prelude.{◌≡◌, IsTrue}
 use Rattle.sqlite.specs.Tree.{Trees}
 use Rattle.sqlite.specs.Schema.{Schema}
@@ -8,7 +8,7 @@ use Rattle.reg_tables.specs.Layout.{IsLayoutOne, layout_two}
 use Rattle.reg_tables.specs.Contents.{Contents, HoldsContents}
 use Rattle.reg_tables.specs.Changes.{marked_layout_two}
 
--- the tables of layout 2 hold, under its number, what the tables held in this schema
+-- the contents of the tables under this schema are now those of layout 2, with the layout number 2
 abbrev pub MigratesFrom : Schema → Database → Database → Type 0
 MigratesFrom schema before db = (contents : Contents) → HoldsContents schema before contents → HoldsContents layout_two db (marked_layout_two contents)
 
@@ -20,7 +20,7 @@ HoldsMigrated before db = (schema : Schema) → IsLayoutOne schema → MigratesF
 abbrev pub TreesHoldMigrated : Database → Trees → Type 0
 TreesHoldMigrated before db = HoldsMigrated before (record { schema = layout_two; trees = db })
 
--- the tables are those of layout 1 and hold some contents
+-- the tables are those of layout 1, with some contents
 pub record HasLayoutOne (db : Database) : Type 0 where
   pub schema : Schema
   pub known : IsLayoutOne schema
@@ -31,7 +31,7 @@ pub record HasLayoutOne (db : Database) : Type 0 where
 abbrev pub CanMigrate : State → Type 0
 CanMigrate s = IsTrue s.is_open → HasLayoutOne s.now
 
--- the connection was open and still is, and its last commit is layout 2
+-- the connection was open and still is, and its last commit has the migrated contents
 pub record IsMigratedOver (old new : State) : Type 0 where
   pub was_open : IsTrue old.is_open
   pub is_open : IsTrue new.is_open

@@ -1,4 +1,4 @@
--- What `migrate` makes of layout 1, and what a crash leaves.
+-- What `migrate` does to layout 1, and what a crash leaves.
 use Rattle.std.specs.Prelude.{◌≡◌, ◌⊎◌, ℕ, length, IsTrue}
 use Rattle.std.specs.FinMap.{empty}
 use Rattle.sqlite.specs.Tree.{Trees}

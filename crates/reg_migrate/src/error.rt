@@ -9,7 +9,7 @@ use thiserror::Error;
 /// Why a migration fails. The database stays as it was.
 #[derive(Clone, Copy, Debug, PartialEq, Eq, Error)]
 pub enum MigrateError {
-    /// Allocation failed.
+    /// An allocation failed.
     #[error("out of memory")]
     Memory,
     /// The disk failed, or a limit of the file was reached.

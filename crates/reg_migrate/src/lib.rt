@@ -1,6 +1,7 @@
 //! The migration of a registry from layout 1 to layout 2, in one transaction.
 //!
-//! Clauses about the tables hold if the disk has returned what was written to it (`HasCleanDisk`).
+//! Clauses about the tables are true if the disk has returned what was written to it
+//! (`HasCleanDisk`).
 
 #![tactic(auto)]
 

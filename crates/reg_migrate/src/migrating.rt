@@ -16,7 +16,7 @@ use reg_tables::AutocommitConnection;
 use sqlite::{Alter, Connection};
 use std::alloc::Global;
 
-/// What was migrated.
+/// The result of a migration.
 #[derive(Clone, Copy, Debug, PartialEq, Eq)]
 pub struct Report {
     /// The number of versions, soft-deleted ones too.
@@ -59,10 +59,12 @@ fn migrate_connection<S: Alter>(
 ///
 /// # Errors
 ///
-/// `AlreadyNew` if `meta` names layout 2, `NewerLayout` if it names a layout above 2, whatever the
-/// other tables hold. `NotARegistry` if the tables spell no registry in layout 1; `Memory` and
-/// `Disk`. The database stays as it was. Only after `Disk`, and only if layout 1 spelled a registry,
-/// may a crash leave layout 2.
+/// `AlreadyNew` if `meta` names layout 2, `NewerLayout` if it names a layout above 2, with any
+/// contents of the other tables. `NotARegistry` if the tables spell no registry in layout 1.
+/// `Memory` if an allocation fails, `Disk` if the disk fails or the file reaches a limit.
+///
+/// The database stays as it was. Only after `Disk`, and only if layout 1 spelled a registry, may a
+/// crash leave layout 2.
 pub fn migrate<S: Alter>(
     alloc: Global,
     connection: Connection<S>,
@@ -75,8 +77,9 @@ pub fn migrate<S: Alter>(
     ensures idle { result.1.in_transaction ≡ false }
     ensures leaves { KeepsConnection (state S.Store connection) (state S.Store result.1) result.0 }
 
-    // After `Ok` a crash leaves layout 2. After an error it leaves that or what it left before; if
-    // layout 1 spelled no registry, only the latter. No result loses anything.
+    // After `Ok`, a crash leaves layout 2. After an error it leaves layout 2 or what it could leave
+    // before; if layout 1 spelled no registry, only the latter. In every case a crash keeps the
+    // registry.
     ensures crash_after { HasCleanDisk (state S.Store result.1) → OnOk result.0 ((db : Trees)
         → (state S.Store result.1).may_leave db → RecoversToMigrated (state S.Store connection).now db) }
     ensures crash { HasCleanDisk (state S.Store result.1) → (db : Trees)

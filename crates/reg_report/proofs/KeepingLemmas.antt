@@ -1,4 +1,4 @@
--- What several calls of lines that are lent keep of the store.
+-- What several reads of lines keep of the store.
 use Rattle.std.proofs.Common.{◌≡◌, inl, inr, Result, IsTrue, refl, ◌∙◌, arith}
 use Rattle.std.specs.Prelude.{Err, OnOk}
 use Rattle.sqlite.specs.State.{State, HasCleanDisk}
@@ -13,7 +13,7 @@ use Rattle.reg_store.proofs.Keeping.{Settles}
 use Rattle.reg_report.specs.declared.error.ReportError.{ReportError}
 use Rattle.reg_report.specs.Keeping.{PreservesListed}
 
--- the same, whatever is answered
+-- the same, for every result
 pub record Keeps {S : Type 0} {g : Ghosts S} (old new : Store S g) : Type 0 where
   pub failed : has_failed new ≡ has_failed old
   pub clean : HasCleanDisk (state_of new) → HasCleanDisk (state_of old)
@@ -44,7 +44,7 @@ module _ {S : Type 0} {g : Ghosts S} where
     crash = λ _ db it. it;
   }
 
-  -- one call after others
+  -- one more call
   pub keeps_then : {T Goes : Type 0} {Tells : Stored → T → Type 0} (a b c : Store S g) (r : Result T StoreError) → Keeps a b → KeepsBorrowed b c r → (HasCleanDisk (state_of c) → AnswersFromStored (state_of b) (state_of c) Goes r Tells) → Keeps a c
   keeps_then a b c r p q tells = record {
     failed = q.failed ∙ p.failed;
@@ -55,11 +55,11 @@ module _ {S : Type 0} {g : Ghosts S} where
     crash = λ clean db it. p.crash (q.clean clean) db ((tells clean).crash db it);
   }
 
-  -- what they answer succeeds over an open connection alone
+  -- a listing succeeds only over an open connection
   pub keeps_listed : {T : Type 0} (old new : Store S g) (r : Result T ReportError) → Keeps old new → (HasCleanDisk (state_of new) → OnOk r (IsTrue (state_of old).is_open)) → PreservesListed old new r
   keeps_listed old new r p was_open = record { failed = p.failed; clean = p.clean; was_open = was_open; connection = p.connection; settled = p.settled }
 
-  -- a fault that the last call tells is one of all
+  -- a fault of the last call is a fault of all calls
   pub fault_on : {T Goes : Type 0} {Tells : Stored → T → Type 0} (a b c : Store S g) (e : StoreError) → Keeps a b → KeepsBorrowed {T = T} b c (Err e) → HasCleanDisk (state_of c) → AnswersFromStored {T = T} (state_of b) (state_of c) Goes (Err e) Tells → Goes
       → IsFaultOver (state_of a) (state_of c) e
   fault_on a b c e p q clean tells going was over =

@@ -1,4 +1,4 @@
--- What a listing came to, by where it ended.
+-- The result of a listing, by how it ended.
 use Rattle.std.proofs.Common.{◌≡◌, ◌≢◌, inl, inr, ℕ, suc, List, [], ◌∷◌, length, refl, sym, ap, subst}
 use Rattle.std.proofs.Math.Seq.{take-length}
 use Rattle.std.specs.Prelude.{false, IsTrue, Option, Result, Ok, Err, IsErrAnd, IfErr}
@@ -36,7 +36,7 @@ unfolding csv_text
 begun_none lines w = (0, appends-none w)
 
 module _ {S : Type 0} {g : Ghosts S} where
-  -- the header and the lines that were handed out
+  -- the header and the lines read so far were written
   pub begun_handed : (kind : Listing) (lines : Lines S Cursor g) (registry : Registry) (w w' : Option (List ℕ)) → (done : List Fields) × HasYielded lines kind registry done × Appends w w' (csv_text (header kind ∷ done))
       → WritesPrefix (header kind ∷ listing_lines kind registry) w w'
   begun_handed kind lines registry w w' it = (suc it.1.count, subst (λ rest. Appends w w' (csv_text (header kind ∷ rest))) it.1.begins it.2)
@@ -58,7 +58,7 @@ module _ {S : Type 0} {g : Ghosts S} where
         crash = keeps.crash;
       })
 
-  -- memory was refused, or a write failed, as bytes were put behind so many lines
+  -- an allocation or a write failed while a line was appended
   pub lists_cut : (kind : Listing) (a b : Store S g) (w mid w' : Option (List ℕ)) (bytes : List ℕ) (r : Result (Unit {0}) ReportError) (e : ReportError) → has_failed a ≡ false → Keeps a b
       → IsErrAnd r (λ failure. failure ≡ e) → Buffers (Err e) mid w' bytes
       → (HasCleanDisk (state_of b) → (was : Stored) → SpellsWhileOpen (state_of a) was → WritesPrefix (header kind ∷ listing_lines kind was.registry) w mid) → PrintsListing kind a b w w' r
@@ -66,7 +66,7 @@ module _ {S : Type 0} {g : Ghosts S} where
       lists_early kind a b w w' r e unfailed keeps is (λ clean unless was over. Buffers-begun _ w mid w' bytes e put unless (begun clean was over))
       (λ _. Buffers-no_fault mid w' bytes e _ put)
 
-  -- all lines were put
+  -- all lines were appended
   pub lists_whole : (kind : Listing) (a b : Store S g) (w w' : Option (List ℕ)) → has_failed a ≡ false → Keeps a b → (HasCleanDisk (state_of b) → IsTrue (state_of a).is_open)
       → (HasCleanDisk (state_of b) → (was : Stored) → SpellsWhileOpen (state_of a) was → Appends w w' (listing kind was.registry)) → PrintsListing kind a b w w' (Ok tt)
   lists_whole kind a b w w' unfailed keeps was_open whole = record {
@@ -81,7 +81,7 @@ module _ {S : Type 0} {g : Ghosts S} where
     crash = keeps.crash;
   }
 
-  -- the store had answered a fault of the disk before
+  -- the store had failed before
   pub lists_refused : (kind : Listing) (a : Store S g) (w : Option (List ℕ)) (r : Result (Unit {0}) ReportError) (e : StoreError) → Settles g → IsTrue (has_failed a) → e ≡ Disk
       → IsErrAnd r (λ failure. failure ≡ Stops e) → PrintsListing kind a a w w r
   lists_refused kind a w (Ok x) e settles failed disk is = absurd is
@@ -96,7 +96,7 @@ module _ {S : Type 0} {g : Ghosts S} where
         crash = (keeps_still settles a).crash;
       }))
 
-  -- what was held is written too, or a write failed
+  -- the buffer is written at the end, or a write fails
   pub lists_ended : (kind : Listing) (a b : Store S g) (w mid w' : Option (List ℕ)) (put r : Result (Unit {0}) ReportError) → has_failed a ≡ false
       → PrintsListing kind a b (append_known w []) mid put → FlushesBuffer put mid w' r → PrintsListing kind a b w w' r
   lists_ended kind a b w mid w' put r unfailed lists (inl failed) =

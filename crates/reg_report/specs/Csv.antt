@@ -7,12 +7,12 @@ use Rattle.reg_store.specs.declared.listing.Listing.{Listing}
 use Rattle.reg_store.specs.declared.listing.Listing.TheVariants.{Subjects, Versions, Schemas}
 use Rattle.reg_store.specs.Listings.{Fields, listing_lines}
 
--- CSV: each line is a record, with commas between its fields, quotes around those that call for them, and a line feed
+-- lines as CSV, each ended by a line feed: commas between the fields, and quotes around those that need them
 unfoldable pub csv_text : List Fields → List ℕ
 csv_text [] = []
 csv_text (line ∷ rest) = row_text default_writer line ++ csv_text rest
 
--- this project's choice: what the fields of a listing's lines are called
+-- this project's choice: the header of a listing
 abbrev pub header : Listing → Fields
 header Subjects = codes "subject" ∷ codes "level" ∷ codes "live" ∷ codes "deleted" ∷ []
 header Versions = codes "subject" ∷ codes "version" ∷ codes "id" ∷ codes "deleted" ∷ []
@@ -22,6 +22,6 @@ header Schemas = codes "id" ∷ codes "text" ∷ []
 abbrev pub listing : Listing → Registry → List ℕ
 listing kind g = csv_text (header kind ∷ listing_lines kind g)
 
--- so many of these lines were written, from the first on, each of them whole
+-- a number of these lines was written, from the first on, each in full
 abbrev pub WritesPrefix : List Fields → Option (List ℕ) → Option (List ℕ) → Type 0
 WritesPrefix lines writer writer' = (count : ℕ) × Appends writer writer' (csv_text (take count lines))

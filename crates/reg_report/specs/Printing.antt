@@ -1,4 +1,4 @@
--- What a listing writes of what a store has, and what it keeps of the store.
+-- What a listing writes, and what it keeps of its store.
 use Rattle.std.specs.Prelude.{◌≡◌, ◌≢◌, ℕ, List, [], ◌∷◌, false, IsTrue, Option, None, Result, Err, OnOk, IfErr}
 use Rattle.std.specs.Io.KnownBytes.{Appends}
 use Rattle.sqlite.specs.State.{HasCleanDisk}
@@ -21,23 +21,23 @@ use Rattle.reg_report.specs.StoreResults.{store_result}
 use Rattle.reg_report.specs.declared.error.ReportError.{ReportError}
 use Rattle.reg_report.specs.declared.error.ReportError.TheVariants.{Write}
 
--- lines of the listing that a store has lent which has answered no fault of the disk, and of which none was handed out
+-- the lines of a listing, before the first one was read, of a store that hasn't failed
 pub record IsAtStart {S : Type 0} {g : Ghosts S} (kind : Listing) (lines : Lines S Cursor g) : Type 0 where
   pub going : failure_in lines ≡ None
   pub unfailed : has_failed (store_of lines) ≡ false
   pub starts : (registry : Registry) → HasYielded lines kind registry []
 
--- this project's choice: a listing of what a store has is written, whatever is answered
+-- this project's choice: what a listing writes, for every result
 pub record PrintsListing {S : Type 0} {g : Ghosts S} (kind : Listing) (old new : Store S g) (writer writer' : Option (List ℕ)) (result : Result (Unit {0}) ReportError) : Type 0 where
   pub frame : PreservesListed old new result
-  -- after a fault of the disk the store gives no line, and nothing is written
+  -- a store that has failed yields no line, and nothing is written
   pub refused : IsTrue (has_failed old) → (store_result result ≡ Err Disk) × (new ≡ old) × (writer' ≡ writer)
-  -- all of it is written
+  -- after `Ok`, the whole listing is written
   pub ok : HasCleanDisk (state_of new) → OnOk result ((was : Stored) → SpellsWhileOpen (state_of old) was → Appends writer writer' (listing kind was.registry))
-  -- so many whole lines are, from the header on, unless a write failed
+  -- unless a write failed, a number of whole lines is written, from the header on
   pub begun : HasCleanDisk (state_of new) → result ≢ Err Write → (was : Stored) → SpellsWhileOpen (state_of old) was
       → WritesPrefix (header kind ∷ listing_lines kind was.registry) writer writer'
-  -- over tables that spell a registry the store's error comes for want of memory or a fault of the disk alone
+  -- over tables that spell a registry, the store fails only because of memory or the disk
   pub fault : HasCleanDisk (state_of new) → has_failed old ≡ false → IfErr (store_result result) (IsFaultOver (state_of old) (state_of new))
   pub same : HasCleanDisk (state_of new) → StillSpells (state_of old) (state_of new)
   pub crash : HasCleanDisk (state_of new) → AddsNoCrashState (state_of old) (state_of new)

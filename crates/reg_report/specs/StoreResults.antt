@@ -1,10 +1,10 @@
--- What the store answered while a listing was written.
+-- What the store returned while a listing was written.
 use Rattle.std.specs.Prelude.{Result, Ok, Err}
 use Rattle.reg_store.specs.declared.error.StoreError.{StoreError}
 use Rattle.reg_report.specs.declared.error.ReportError.{ReportError}
 use Rattle.reg_report.specs.declared.error.ReportError.TheVariants.{Store, OutOfMemory, Write}
 
--- this project's choice: where memory or a write fails, the store has given its lines
+-- this project's choice: if an allocation or a write fails, the store hasn't
 abbrev pub store_result : {T : Type 0} → Result T ReportError → Result (Unit {0}) StoreError
 store_result (Ok x) = Ok tt
 store_result (Err (Store e)) = Err e

@@ -1,4 +1,4 @@
-//! Bytes that are held until there are enough of them for a write.
+//! An output buffer.
 
 ghost use Rattle.std.specs.Prelude.{◌≡◌, [], IfErr, OnOk};
 ghost use Rattle.std.specs.Io.KnownBytes.{Appends};
@@ -9,16 +9,16 @@ use crate::error::ReportError;
 use std::alloc::Global;
 use std::io::Write;
 
-/// Bytes that are held, behind those that a writer has taken.
+/// Bytes that wait to be written to a writer.
 #[derive(Drop)]
 pub(crate) struct OutputBuffer {
     bytes: Vec<u8>,
-    /// How many are held at most.
+    /// The length in bytes above which the buffer is written.
     capacity: usize,
 }
 
 impl OutputBuffer {
-    /// None yet.
+    /// An empty buffer.
     pub fn new(alloc: Global, capacity: usize) -> OutputBuffer
         ensures { result.bytes.items ≡ [] }
     {
@@ -28,8 +28,8 @@ impl OutputBuffer {
         }
     }
 
-    /// Puts bytes behind those that are held, and writes them all where they are too many. Where memory
-    /// is refused nothing changes.
+    /// Appends bytes, and writes the whole buffer if it is then longer than `capacity`. If the
+    /// allocation fails, nothing changes.
     pub fn put<W: Write>(&mut self, writer: &mut W, bytes: &[u8]) -> Result<(), ReportError>
         ensures { Buffers result (buffered_contents W.contents writer.old self.old)
             (buffered_contents W.contents writer.new self.new) bytes.now }
@@ -43,7 +43,7 @@ impl OutputBuffer {
         Ok(())
     }
 
-    /// Writes all that are held.
+    /// Writes the whole buffer and empties it.
     fn flush_to<W: Write>(&mut self, writer: &mut W) -> Result<(), ReportError>
         ensures none { OnOk result (self.new.bytes.items ≡ []) }
         ensures text { OnOk result (Appends (W.contents writer.old) (W.contents writer.new) self.old.bytes.items) }
@@ -54,8 +54,8 @@ impl OutputBuffer {
         Ok(())
     }
 
-    /// What is answered for what was put, once all that are held are written too. After a write that
-    /// failed there is no other.
+    /// Writes the rest of the buffer, and returns `put`, the result so far. After a failed write,
+    /// writes nothing more.
     pub fn finish<W: Write>(
         mut self,
         writer: &mut W,

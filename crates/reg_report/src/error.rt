@@ -1,17 +1,17 @@
-//! Why a listing isn't written.
+//! Why a listing fails.
 
 use reg_core::OutOfMemory;
 use reg_store::StoreError;
 use std::io;
 use thiserror::Error;
 
-/// Why a listing isn't written, or only a beginning of it.
+/// Why a listing fails. A part of it may have been written.
 #[derive(Debug, Drop, Error)]
 pub enum ReportError {
-    /// The registry couldn't be read.
+    /// The store failed.
     #[error(transparent)]
     Store(StoreError),
-    /// Memory was refused.
+    /// An allocation failed.
     #[error("out of memory")]
     OutOfMemory,
     /// A write failed.

@@ -1,4 +1,4 @@
-//! Lines of CSV.
+//! Writes the lines of a listing as CSV.
 
 ghost use Rattle.std.specs.Prelude.{◌≡◌, ◌<◌, ◌-◌, ◌^◌, [], IfOk, length, map};
 ghost use Rattle.csv.specs.Writing.{default_writer, row_text};
@@ -17,8 +17,8 @@ use std::alloc::Global;
 use std::convert::AsSlice;
 use std::io::Write;
 
-/// Puts the header line of the listing, and the lines that the store lends, each before it asks for the
-/// next.
+/// Writes the header line of the listing and its lines. Each line is written before the next one is
+/// read from the store.
 pub(crate) fn put_lines<W: Write, S: Alter>(
     alloc: Global,
     writer: &mut W,
@@ -38,11 +38,11 @@ pub(crate) fn put_lines<W: Write, S: Alter>(
         };
         put_line(alloc, writer, buffer, line.as_slice())?;
     }
-    // No memory holds so many lines.
+    // A listing has fewer lines than 2^64 - 1, since no memory is so large.
     Err(ReportError::OutOfMemory)
 }
 
-/// Puts the header line of the listing.
+/// Writes the header line of the listing.
 fn put_header<W: Write>(
     alloc: Global,
     writer: &mut W,
@@ -73,7 +73,7 @@ fn put_header<W: Write>(
     }
 }
 
-/// Puts the line that has these fields.
+/// Writes a line with these fields.
 fn put_line<W: Write, T: AsSlice<u8>>(
     alloc: Global,
     writer: &mut W,
@@ -88,13 +88,13 @@ fn put_line<W: Write, T: AsSlice<u8>>(
     buffer.put(writer, text.as_slice())
 }
 
-/// The text of the line that has these fields.
+/// The CSV text of a line with these fields.
 fn line_text<T: AsSlice<u8>>(alloc: Global, fields: &[T]) -> Result<Vec<u8>, OutOfMemory>
     requires { length fields.now < 2 ^ 64 - 1 }
     ensures { IfOk result (λ text. text.items ≡ row_text default_writer (map T.items fields.now)) }
 {
     let mut csv = WriterBuilder::new().from_writer(Vec::new(alloc));
-    // A single record fits whatever came before, so that it wants memory alone.
+    // The first record can have any number of fields, so only an allocation can fail.
     let Ok(()) = csv.write_record(fields.iter()) else {
         return Err(OutOfMemory);
     };

@@ -1,4 +1,4 @@
-//! Listings, written to a writer.
+//! Writes listings as CSV.
 
 ghost use Rattle.std.specs.Prelude.{◌≡◌};
 ghost use Rattle.reg_store.specs.NextLines.{store_of};
@@ -13,18 +13,18 @@ use sqlite::Alter;
 use std::alloc::Global;
 use std::io::Write;
 
-/// How many bytes are collected for a write where a listing is written in pieces: so many that the
-/// writes cost little beside the reads of the lines.
+/// The buffer size of `list_in_pieces` in bytes: so large that the writes cost little compared with
+/// reading the lines.
 const BUFFER_SIZE: usize = 65_536;
 
-/// Writes as CSV the subjects that have versions, each with its own level, and how many of its
-/// versions are live and how many are soft-deleted.
+/// Writes as CSV the subjects that have versions, each with its own level and its numbers of live
+/// and soft-deleted versions.
 ///
 /// # Errors
 ///
-/// `Store` where the registry couldn't be read, and `OutOfMemory` where memory for a line is refused: so
-/// many whole lines were written, from the first on. `Write` where a write fails: what
-/// was written then isn't said. Whatever is answered, the registry stays as it was.
+/// `Store` if the store fails, `OutOfMemory` if an allocation fails: then a number of whole lines
+/// was written, from the header on. `Write` if a write fails: then part of a line may have been
+/// written. The registry stays the same in every case.
 pub fn list_subjects<W: Write, S: Alter>(
     alloc: Global,
     store: &mut Store<S>,
@@ -39,9 +39,9 @@ pub fn list_subjects<W: Write, S: Alter>(
 ///
 /// # Errors
 ///
-/// `Store` where the registry couldn't be read, and `OutOfMemory` where memory for a line is refused: so
-/// many whole lines were written, from the first on. `Write` where a write fails: what
-/// was written then isn't said. Whatever is answered, the registry stays as it was.
+/// `Store` if the store fails, `OutOfMemory` if an allocation fails: then a number of whole lines
+/// was written, from the header on. `Write` if a write fails: then part of a line may have been
+/// written. The registry stays the same in every case.
 pub fn list_versions<W: Write, S: Alter>(
     alloc: Global,
     store: &mut Store<S>,
@@ -52,13 +52,13 @@ pub fn list_versions<W: Write, S: Alter>(
     list(alloc, store, Listing::Versions, writer)
 }
 
-/// Writes as CSV the schemas, by their ids.
+/// Writes as CSV the schemas, in the order of their ids.
 ///
 /// # Errors
 ///
-/// `Store` where the registry couldn't be read, and `OutOfMemory` where memory for a line is refused: so
-/// many whole lines were written, from the first on. `Write` where a write fails: what
-/// was written then isn't said. Whatever is answered, the registry stays as it was.
+/// `Store` if the store fails, `OutOfMemory` if an allocation fails: then a number of whole lines
+/// was written, from the header on. `Write` if a write fails: then part of a line may have been
+/// written. The registry stays the same in every case.
 pub fn list_schemas<W: Write, S: Alter>(
     alloc: Global,
     store: &mut Store<S>,
@@ -69,13 +69,13 @@ pub fn list_schemas<W: Write, S: Alter>(
     list(alloc, store, Listing::Schemas, writer)
 }
 
-/// Writes the listing as CSV, with a header line: each line by itself.
+/// Writes the listing as CSV, with a header line. Each line is a write of its own.
 ///
 /// # Errors
 ///
-/// `Store` where the registry couldn't be read, and `OutOfMemory` where memory for a line is refused: so
-/// many whole lines were written, from the first on. `Write` where a write fails: what
-/// was written then isn't said. Whatever is answered, the registry stays as it was.
+/// `Store` if the store fails, `OutOfMemory` if an allocation fails: then a number of whole lines
+/// was written, from the header on. `Write` if a write fails: then part of a line may have been
+/// written. The registry stays the same in every case.
 pub fn list<W: Write, S: Alter>(
     alloc: Global,
     store: &mut Store<S>,
@@ -87,14 +87,14 @@ pub fn list<W: Write, S: Alter>(
     list_buffered(alloc, store, kind, writer, 0)
 }
 
-/// Writes the listing as CSV, with a header line: in pieces of 64 KiB and more, of which the last one
-/// has what is left.
+/// Writes the listing as CSV, with a header line, in pieces of more than 64 KiB. The last piece may
+/// be shorter.
 ///
 /// # Errors
 ///
-/// `Store` where the registry couldn't be read, and `OutOfMemory` where memory for a line is refused: so
-/// many whole lines were written, from the first on. `Write` where a write fails: what
-/// was written then isn't said. Whatever is answered, the registry stays as it was.
+/// `Store` if the store fails, `OutOfMemory` if an allocation fails: then a number of whole lines
+/// was written, from the header on. `Write` if a write fails: then part of a line may have been
+/// written. The registry stays the same in every case.
 pub fn list_in_pieces<W: Write, S: Alter>(
     alloc: Global,
     store: &mut Store<S>,
@@ -106,7 +106,7 @@ pub fn list_in_pieces<W: Write, S: Alter>(
     list_buffered(alloc, store, kind, writer, BUFFER_SIZE)
 }
 
-/// Writes the listing, and holds at most so many bytes before a write.
+/// Writes the listing through a buffer of this capacity.
 fn list_buffered<W: Write, S: Alter>(
     alloc: Global,
     store: &mut Store<S>,
@@ -120,7 +120,7 @@ fn list_buffered<W: Write, S: Alter>(
     put_listing(alloc, writer, capacity, kind, &mut lines)
 }
 
-/// Writes the header line of the listing, and the lines that the store lends.
+/// Writes the header line and the lines of the listing through a buffer of this capacity.
 fn put_listing<W: Write, S: Alter>(
     alloc: Global,
     writer: &mut W,

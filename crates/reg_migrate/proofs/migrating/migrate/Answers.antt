@@ -8,7 +8,7 @@ use Rattle.reg_migrate.specs.declared.migrating.Report.{Report}
 use Rattle.reg_migrate.specs.Migrations.{IsReasonOver, RecoversToMigrated, Migrates}
 use Rattle.reg_store.proofs.Committing.{on_err_same}
 use Rattle.reg_store.proofs.Writing.{if_err_both}
-use Rattle.reg_migrate.proofs.Migrates.{can_migrate, closes_both, crashes_moved, crash_keeps_stored, moves, no_more, reads_both, reported, spells_some, takes_on, unlimited_reads}
+use Rattle.reg_migrate.proofs.Migrates.{can_migrate, closes_both, crashes_migrated, crash_keeps_stored, moves, no_more, reads_both, reported, spells_some, takes_on, unlimited_reads}
 use Rattle.reg_migrate.proofs.ErrorLemmas.{before_if_faulted, before_then, fault_over, leaves_before, reason_if_fault, told_cause, told_newer, told_refused}
 use Rattle.reg_migrate.proofs.migrating.migrate.Goals as goal
 
@@ -71,7 +71,7 @@ returns-in-Ok-clause-crash_after g c clean =
     let early : HasCleanDisk mid = omega (arith, c.migrate_connection.ensures.survives.clean) in
     let reads = unlimited_reads g.S.Store c.args.connection mid (c.check_first-counted.ensures.frame.only_reads early) in
     let found = rw c.in-Ok.is at c.check_first-counted.ensures.found early in
-    on_ok c.migrate_connection.result.0 (λ over. crashes_moved old mid reads (c.is_autocommit-idle.ensures.settled idle) new c.in-Ok.versions found over
+    on_ok c.migrate_connection.result.0 (λ over. crashes_migrated old mid reads (c.is_autocommit-idle.ensures.settled idle) new c.in-Ok.versions found over
     (λ db is_open it. g.met.S.Store.settled c.migrate_connection.result.1.store db is_open it)) (c.migrate_connection.ensures.done clean)
 
 pub returns-in-Ok-clause-crash : goal.returns-in-Ok-clause-crash
