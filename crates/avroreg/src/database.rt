@@ -11,16 +11,16 @@ use std::io::Read;
 use std::rt::Files;
 use std::{fs, io};
 
-/// A database in a file and its log. No sum or torn write is trusted.
+/// A database in a file and its log. A torn write may leave any bytes, so each commit syncs twice.
 pub type FileDatabase = FileStore<FileFrom<Wary>>;
 
 /// The first bytes of a database file (SQLite, Database File Format).
 const DATABASE_FRONT: &[u8; 16] = b"SQLite format 3\0";
 
-/// What is found at the name of a database file, before anything is opened.
+/// The state of a database file, before anything is opened.
 #[derive(Clone, Copy)]
 enum FileState {
-    /// No file.
+    /// There is no file.
     Missing,
     /// A file without a byte.
     Empty,
@@ -28,8 +28,8 @@ enum FileState {
     Unfinished,
     /// A file that begins as a database, or has a log next to it.
     Database,
-    /// A log with frames whose database is missing or has no byte. An open would make a new database there,
-    /// and empty the log.
+    /// A log with frames whose database file is missing or has no byte. An open would create a new
+    /// database, and empty the log.
     OrphanedLog,
     /// Anything else. An open would overwrite the file.
     Other,
@@ -43,7 +43,7 @@ fn begins_as_database(rt: &HostRuntime, file: &str) -> io::Result<bool> {
     Ok(front.as_slice() == DATABASE_FRONT.as_slice())
 }
 
-/// What a file with bytes is.
+/// The state of a file with bytes.
 fn state_with_bytes(rt: &HostRuntime, file: &str) -> io::Result<FileState> {
     if is_unfinished(rt, file)? {
         return Ok(FileState::Unfinished);
@@ -55,8 +55,9 @@ fn state_with_bytes(rt: &HostRuntime, file: &str) -> io::Result<FileState> {
     }
 }
 
-/// What a file is that is missing or has no byte, `found` if no log with frames lies next to it. A new database
-/// has its first page before its log has a frame, so next to such a log a database was lost.
+/// The state of a file that is missing or has no byte: `found`, unless a log with frames lies next
+/// to it. A new database has its first page before its log has a frame, so next to such a log a
+/// database was lost.
 fn state_without_bytes(rt: &HostRuntime, file: &str, found: FileState) -> io::Result<FileState> {
     if has_frames(rt, file)? {
         Ok(FileState::OrphanedLog)
@@ -65,7 +66,7 @@ fn state_without_bytes(rt: &HostRuntime, file: &str, found: FileState) -> io::Re
     }
 }
 
-/// What is found at the name of a database file.
+/// The state of a database file.
 fn state_of_file(rt: &HostRuntime, file: &str) -> io::Result<FileState> {
     match fs::metadata(rt, file) {
         Ok(found) if !found.is_file() => Ok(FileState::Other),
@@ -78,7 +79,7 @@ fn state_of_file(rt: &HostRuntime, file: &str) -> io::Result<FileState> {
     }
 }
 
-/// Whether a database lists nothing.
+/// Whether a database has no table and no index.
 fn has_empty_schema(connection: &mut Connection<FileDatabase>) -> Result<bool, Error> {
     let count: i64 = connection
         .query_row("SELECT count(*) FROM sqlite_schema", &[])?
@@ -86,8 +87,8 @@ fn has_empty_schema(connection: &mut Connection<FileDatabase>) -> Result<bool, E
     Ok(count == 0)
 }
 
-/// Whether a database has no registry yet: the database is new, or the run that made it ended before it had made
-/// the tables.
+/// Whether a database has no registry yet: the database is new, or the run that created it ended
+/// before it had created the tables.
 fn has_no_registry(
     rt: &HostRuntime,
     file: &str,
@@ -106,7 +107,7 @@ fn has_no_registry(
     }
 }
 
-/// What a job gets for a database that can't be opened.
+/// The result for a database that can't be opened.
 fn failed(error: Error) -> Result<Opened<FileDatabase>, OutOfMemory>
     ensures { IfOk result OpensToRun }
 {
@@ -116,7 +117,7 @@ fn failed(error: Error) -> Result<Opened<FileDatabase>, OutOfMemory>
     }
 }
 
-/// What a job gets for a file that can't be examined.
+/// The result for a file that can't be examined.
 fn unexamined(error: io::Error) -> Result<Opened<FileDatabase>, OutOfMemory>
     ensures run { IfOk result OpensToRun }
     ensures list { IfOk result OpensToList }
@@ -127,7 +128,8 @@ fn unexamined(error: io::Error) -> Result<Opened<FileDatabase>, OutOfMemory>
     }
 }
 
-/// Opens the database in a file. If the file is missing, empty or unfinished, it makes the database.
+/// Opens the database in a file. If the file is missing, empty or unfinished, it creates the
+/// database.
 fn open_or_create(
     rt: &HostRuntime,
     file: &str,
@@ -146,12 +148,13 @@ fn open_or_create(
     }
 }
 
-/// Opens the database in a file for a job that may make a registry. If there is no database, it makes one, which
-/// has no registry yet. If only a log with frames is left, it opens and makes nothing.
+/// Opens the database in a file for a job that may create a registry. If there is no database, it
+/// creates one, which has no registry yet. If only a log with frames is left, it opens and creates
+/// nothing.
 ///
 /// # Errors
 ///
-/// `OutOfMemory` if memory is refused. Every other failure is `Opened::Failed`.
+/// `OutOfMemory` if an allocation fails. Every other failure is `Opened::Failed`.
 pub fn open_database_to_run(
     rt: &HostRuntime,
     file: &str,
@@ -169,7 +172,7 @@ pub fn open_database_to_run(
     }
 }
 
-/// Opens an existing database for a job that makes no registry.
+/// Opens an existing database for a job that creates no registry.
 fn open_to_list(rt: &HostRuntime, file: &str) -> Result<Opened<FileDatabase>, OutOfMemory>
     ensures { IfOk result OpensToList }
 {
@@ -179,12 +182,12 @@ fn open_to_list(rt: &HostRuntime, file: &str) -> Result<Opened<FileDatabase>, Ou
     }
 }
 
-/// Opens the database in a file for a job that makes no registry. It makes no file, and doesn't open one that is
-/// empty, unfinished, or lost next to its log.
+/// Opens the database in a file for a job that creates no registry. It creates no file, and doesn't
+/// open one that is empty, unfinished, or lost next to its log.
 ///
 /// # Errors
 ///
-/// `OutOfMemory` if memory is refused. Every other failure is `Opened::Failed`.
+/// `OutOfMemory` if an allocation fails. Every other failure is `Opened::Failed`.
 pub fn open_database_to_list(
     rt: &HostRuntime,
     file: &str,
@@ -200,8 +203,9 @@ pub fn open_database_to_list(
     }
 }
 
-/// Closes a database F: copies its log into F, and removes the log. If the copy fails, F and F-wal together hold
-/// the committed state. If there is no registry yet, both files stay, so that the next start can tell.
+/// Closes a database F: copies its log into F, and removes the log. If the copy fails, F and F-wal
+/// together have the committed state. If there is no registry yet, both files stay, so that the
+/// next start can create the registry.
 pub fn close(rt: &HostRuntime, file: &str, mut connection: Connection<FileDatabase>) {
     if let Ok(false) = has_no_registry(rt, file, false, &mut connection)
         && let Ok(files) = connection.close_files()

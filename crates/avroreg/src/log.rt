@@ -4,18 +4,19 @@ use std::io::Read;
 use std::rt::Files;
 use std::{fs, io};
 
-/// The bytes of a new database.
+/// The size of a new database in bytes.
 const PAGE: u64 = 4096;
 
-/// The bytes of a log's header and of one frame's header. A shorter log has no frame (SQLite, WAL File Format).
+/// The size of a log's header and one frame's header in bytes. A shorter log has no frame (SQLite,
+/// WAL File Format).
 const FRAMELESS: u64 = 56;
 
 /// The number of checkpoints in the header of a log, at bytes 12 to 15, if `sqlite` made the log together with its
 /// database. A checkpoint writes another number, and so does an open that finds no log.
 const UNCHECKPOINTED: &[u8; 4] = b"\xff\xff\xff\xff";
 
-/// The name of the log of a file. `sqlite` keeps the log next to the file that a symbolic link leads to. If the
-/// file is missing, there is nothing to follow.
+/// The name of the log of a file. `sqlite` keeps the log next to the file that a symbolic link
+/// leads to. If the file is missing, there is no link to follow.
 fn log_of(rt: &HostRuntime, file: &str) -> io::Result<String> {
     match fs::canonicalize(rt, file) {
         Ok(real) => Ok(format!(in rt.alloc(); "{}-wal", real.as_str())?),
@@ -26,7 +27,7 @@ fn log_of(rt: &HostRuntime, file: &str) -> io::Result<String> {
     }
 }
 
-/// The length of the log next to a file, 0 if there is none.
+/// The length of the log next to a file, or 0 without a log.
 fn length_of_log(rt: &HostRuntime, file: &str) -> io::Result<u64> {
     match fs::metadata(rt, log_of(rt, file)?.as_str()) {
         Ok(found) => Ok(found.len()),
@@ -40,8 +41,8 @@ pub fn has_log(rt: &HostRuntime, file: &str) -> io::Result<bool> {
     Ok(length_of_log(rt, file)? > 0)
 }
 
-/// Whether a log that is long enough for a frame lies next to a file. Such a log may hold commits. `sqlite` wrote
-/// it after the first page of its database.
+/// Whether the log next to a file is long enough for a frame. Such a log may have commits. `sqlite`
+/// wrote it after the first page of its database.
 pub fn has_frames(rt: &HostRuntime, file: &str) -> io::Result<bool> {
     Ok(length_of_log(rt, file)? >= FRAMELESS)
 }
@@ -54,7 +55,7 @@ fn is_first(rt: &HostRuntime, log: &str) -> io::Result<bool> {
     Ok(read == 16 && front[12..] == UNCHECKPOINTED[..])
 }
 
-/// The length of the log next to a file, if it was made together with its database.
+/// The length of the log next to a file, or `None` if it wasn't made together with its database.
 fn length_of_first_log(rt: &HostRuntime, file: &str) -> io::Result<Option<u64>> {
     let log = log_of(rt, file)?;
     let found = fs::metadata(rt, log.as_str())?;
@@ -65,7 +66,7 @@ fn length_of_first_log(rt: &HostRuntime, file: &str) -> io::Result<Option<u64>> 
     }
 }
 
-/// The same, and `None` also if there is no log.
+/// The same, and `None` also without a log.
 fn first_log(rt: &HostRuntime, file: &str) -> io::Result<Option<u64>> {
     match length_of_first_log(rt, file) {
         Err(error) if error.kind() == io::ErrorKind::NotFound => Ok(None),
@@ -88,7 +89,7 @@ pub fn is_unfinished(rt: &HostRuntime, file: &str) -> io::Result<bool> {
     }
 }
 
-/// Removes the log of a database file. The caller holds the locks of the database, and the log is empty.
+/// Removes the log of a database file. The caller has locked the database, and the log is empty.
 pub fn remove_log(rt: &HostRuntime, file: &str) -> io::Result<()> {
     fs::remove_file(rt, log_of(rt, file)?.as_str())
 }

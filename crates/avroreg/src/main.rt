@@ -1,4 +1,4 @@
-//! avroreg, a registry of Avro schemas.
+//! avroreg, a schema registry for Apache Avro.
 
 #![tactic(auto)]
 
@@ -17,12 +17,12 @@ use std::io;
 use std::process::ExitCode;
 use std::rt::Env;
 
-/// Why nothing is begun.
+/// Why the program does nothing.
 #[derive(Drop)]
 pub enum StartError {
-    /// The words ask for nothing that the program does, or for help. The text says so.
+    /// The arguments are wrong, or request help. The text is the message.
     Usage(String),
-    /// Memory for the words or for the files was refused.
+    /// An allocation for the arguments or for opening the files failed.
     OutOfMemory,
 }
 
@@ -53,13 +53,13 @@ impl<T: Drop> From<AllocFailed<T>> for StartError {
     }
 }
 
-/// What is printed where a word isn't UTF-8.
+/// The message for an argument that isn't UTF-8.
 const NOT_UTF8: &str = "error: a word is not UTF-8\n\nFor more information, try '--help'.\n";
 
-/// The words after the program's name. One that isn't UTF-8 asks for nothing.
+/// The arguments after the program's name. Each must be UTF-8.
 fn arguments_of<R: Env + AllocGlobal>(rt: &R) -> Result<Vec<String>, StartError> {
     match std::env::args(rt) {
-        Ok(words) => Ok(words.skip(1).collect(rt.alloc())?),
+        Ok(arguments) => Ok(arguments.skip(1).collect(rt.alloc())?),
         Err(error) => match error.kind() {
             io::ErrorKind::OutOfMemory => Err(StartError::OutOfMemory),
             _ => Err(StartError::Usage(String::from_str(rt.alloc(), NOT_UTF8)?)),
@@ -67,7 +67,7 @@ fn arguments_of<R: Env + AllocGlobal>(rt: &R) -> Result<Vec<String>, StartError>
     }
 }
 
-/// The database file that a job names, if it names one.
+/// The database file that a job names, or `None`.
 fn database_of(job: &Job) -> Option<&str> {
     match job {
         Job::Run {
@@ -80,7 +80,7 @@ fn database_of(job: &Job) -> Option<&str> {
     }
 }
 
-/// Does a job with what was opened for it, and closes that.
+/// Does a job with what was opened for it, and closes the database.
 fn do_and_close(rt: &HostRuntime, job: &Job, opened: Opened<FileDatabase>) -> u8 {
     let (status, connection) = do_job(
         rt.alloc(),
@@ -96,10 +96,10 @@ fn do_and_close(rt: &HostRuntime, job: &Job, opened: Opened<FileDatabase>) -> u8
     status
 }
 
-/// Does what the words ask for, and answers the program's status.
+/// Does what the arguments request, and returns the program's status.
 fn run_arguments(rt: &HostRuntime) -> Result<u8, StartError> {
-    let words = arguments_of(rt)?;
-    match task_of(rt.alloc(), words.as_slice())? {
+    let arguments = arguments_of(rt)?;
+    match task_of(rt.alloc(), arguments.as_slice())? {
         Task::Job(job) => {
             let opened = open_for(rt.alloc(), &HostFiles { rt }, &job)?;
             Ok(do_and_close(rt, &job, opened))
@@ -108,11 +108,11 @@ fn run_arguments(rt: &HostRuntime) -> Result<u8, StartError> {
     }
 }
 
-/// The bytes of a block that is given back at the start.
+/// The size in bytes of a block that is freed at the start.
 const BLOCK: usize = 8 << 20;
 
-/// Has memory kept that requests give back, so that the next one needn't ask the system for it: the C library keeps up to
-/// twice the largest block that was given back so far.
+/// Makes the C library keep the memory that requests free, so that the next request needn't get it
+/// from the system. The library keeps up to twice the largest block that was freed so far.
 fn keep_memory(alloc: Global) {
     let _block: Result<Vec<u8>, AllocError> = Vec::with_capacity(alloc, BLOCK);
 }

@@ -1,4 +1,4 @@
-//! The files that jobs name, opened.
+//! Opens the files that jobs name.
 
 use crate::database::{FileDatabase, open_database_to_list, open_database_to_run};
 use avro_nodes::{MAX_TEXT, OutOfMemory};
@@ -7,7 +7,7 @@ use std::io::Read;
 use std::rt::Files;
 use std::{fs, io};
 
-/// How much of a file is read: one byte more than a schema's text may have.
+/// How many bytes of a file are read: one more than a schema's text may have.
 const READ_AT_MOST: u64 = MAX_TEXT as u64 + 1;
 
 /// The files of the host.
@@ -25,8 +25,8 @@ impl Opener<FileDatabase> for HostFiles<'_> {
         open_database_to_list(self.rt, file)
     }
 
-    /// The bytes of a file, if it can be read. More than a schema may have are cut behind the byte by
-    /// which they are too many.
+    /// The bytes of a file, or `None` if it can't be read. A file that is too long is cut after the
+    /// first byte past the limit.
     fn read(&self, file: &str) -> Result<Option<Vec<u8>>, OutOfMemory> {
         match read_front(self.rt, file) {
             Ok(bytes) => Ok(Some(bytes)),
@@ -36,7 +36,7 @@ impl Opener<FileDatabase> for HostFiles<'_> {
     }
 }
 
-/// What is read of a file.
+/// The first bytes of a file, up to the limit.
 fn read_front(rt: &HostRuntime, file: &str) -> io::Result<Vec<u8>> {
     let mut bytes = Vec::new(rt.alloc());
     fs::File::open(rt, file)?

@@ -1,4 +1,4 @@
-//! A registry on a port of 127.0.0.1.
+//! Serves a registry on a port of 127.0.0.1.
 
 use crate::StartError;
 use crate::database::{FileDatabase, close, open_database_to_run};
@@ -9,8 +9,8 @@ use sqlite::Connection;
 use std::io::Stderr;
 use std::net::{Ipv4Addr, TcpListener};
 
-/// Serves the connections to the server's port over a store, and gives its connection back, with the
-/// fault where no connection can come to the port.
+/// Serves the connections to the server's port over a store. Returns the store's connection, and
+/// `NotListening` if no connection can come to the port.
 fn listen(
     rt: &HostRuntime,
     server: &Server,
@@ -35,11 +35,12 @@ fn listen(
     (fault, service.into_store().into_connection())
 }
 
-/// Opens the server's database, serves its connections, closes it, and answers the program's status.
+/// Opens the server's database, serves its connections, closes it, and returns the program's
+/// status.
 ///
 /// # Errors
 ///
-/// `OutOfMemory` where memory to open the file is refused. Nothing was served then.
+/// `OutOfMemory` if an allocation for opening the file fails. Nothing was served then.
 pub fn serve(rt: &HostRuntime, server: &Server) -> Result<u8, StartError> {
     let file = server.database.as_str();
     let opened = open_database_to_run(rt, file)?;

@@ -1,4 +1,4 @@
-//! How long an audit takes, and how long the same pairs take in memory.
+//! The times of an audit, and of resolving the same pairs in memory.
 
 use crate::measure::print_memory;
 use crate::request::{Size, schema_text};
@@ -27,15 +27,15 @@ fn texts_of(alloc: Global, size: Size) -> Result<Vec<String>, AllocError> {
     Ok(texts)
 }
 
-/// Whether a reader reads what a writer writes.
+/// Whether a reader's schema can read what a writer's writes.
 fn reads(alloc: Global, writer: &str, reader: &str) -> Result<bool> {
     let writer = Schema::read(alloc, writer)?;
     let reader = Schema::read(alloc, reader)?;
     Ok(resolves(alloc, &writer, &reader)?.yes)
 }
 
-/// Reads and resolves the pairs of a registry whose level is BACKWARD, from texts in memory, and prints
-/// how long that took.
+/// Parses and resolves the pairs of a registry whose level is BACKWARD, from texts in memory, and
+/// prints how long that took.
 pub fn resolve_pairs(rt: &HostRuntime, size: Size) -> Result<()> {
     let texts = texts_of(rt.alloc(), size)?;
     let later = texts.get(size.subjects..).unwrap_or(&[]);

@@ -1,41 +1,41 @@
-//! What is asked of a registry.
+//! The requests that are measured.
 
-/// Which version a request is about, by its place in a measurement.
+/// The version that a request is about, by the request's position in a measurement.
 #[derive(Clone, Copy)]
-pub enum Which {
-    /// one behind those that there are
+pub enum VersionChoice {
+    /// a new version after all existing ones
     Next,
-    /// one of those that there are; those of neighbours lie apart
+    /// an existing version; neighbouring requests use versions that are far apart
     Apart,
-    /// the one of the same place
+    /// the version at the same position
     Same,
 }
 
 /// A kind of requests. In the texts `#` is the number of the version's subject, `>` the version's
-/// id, `<` the request's place, and `@` the version's schema.
+/// id, `<` the request's position, and `@` the version's schema.
 #[derive(Clone, Copy)]
 pub struct Kind {
-    /// what it is called in a line of the output
+    /// its name in a line of the output
     pub name: &'static str,
-    pub which: Which,
-    /// the retry key, if it has one
+    pub version: VersionChoice,
+    /// the retry key, or an empty text
     pub key: &'static str,
     /// the method and the target
-    pub asked: &'static str,
+    pub request_line: &'static str,
     pub body: &'static str,
 }
 
-/// What is measured together. A kind that makes the registry larger or smaller stands behind the others.
+/// Kinds that are measured together. A kind that adds or removes versions comes last.
 #[derive(Clone, Copy)]
 pub struct Series {
-    /// what is asked before the registry is made, if something is
+    /// the kind of the requests before the registry is filled, or `None`
     pub before: Option<Kind>,
-    /// what makes the registry
+    /// the kind of the requests that fill the registry
     pub fill: Kind,
     pub kinds: &'static [Kind],
     /// whether the kinds are measured as bytes on a connection
     pub by_bytes: bool,
-    /// whether the registry is one of versions
+    /// whether the registry has versions
     pub has_schemas: bool,
 }
 
@@ -45,57 +45,57 @@ const SCHEMA: &str = r#"{"schema":"@"}"#;
 
 const FILL: Kind = Kind {
     name: "fill",
-    which: Which::Next,
+    version: VersionChoice::Next,
     key: "key-#",
-    asked: "PUT /config/subject-#",
+    request_line: "PUT /config/subject-#",
     body: LEVEL,
 };
 
 const REGISTER: Kind = Kind {
     name: "register",
-    which: Which::Next,
+    version: VersionChoice::Next,
     key: "",
-    asked: "POST /subjects/subject-#/versions",
+    request_line: "POST /subjects/subject-#/versions",
     body: SCHEMA,
 };
 
 const REGISTER_AGAIN: Kind = Kind {
     name: "register again",
-    which: Which::Apart,
+    version: VersionChoice::Apart,
     key: "",
-    asked: "POST /subjects/subject-#/versions",
+    request_line: "POST /subjects/subject-#/versions",
     body: SCHEMA,
 };
 
 const LOOK_UP: Kind = Kind {
     name: "look up",
-    which: Which::Apart,
+    version: VersionChoice::Apart,
     key: "",
-    asked: "POST /subjects/subject-#",
+    request_line: "POST /subjects/subject-#",
     body: SCHEMA,
 };
 
 const BY_ID: Kind = Kind {
     name: "by id",
-    which: Which::Apart,
+    version: VersionChoice::Apart,
     key: "",
-    asked: "GET /schemas/ids/>",
+    request_line: "GET /schemas/ids/>",
     body: "",
 };
 
 const LATEST: Kind = Kind {
     name: "latest",
-    which: Which::Apart,
+    version: VersionChoice::Apart,
     key: "",
-    asked: "GET /subjects/subject-#/versions/latest",
+    request_line: "GET /subjects/subject-#/versions/latest",
     body: "",
 };
 
 const GLOBAL: Kind = Kind {
     name: "global",
-    which: Which::Apart,
+    version: VersionChoice::Apart,
     key: "",
-    asked: "GET /config",
+    request_line: "GET /config",
     body: "",
 };
 
@@ -107,30 +107,30 @@ static LEVELS: Series = Series {
         GLOBAL,
         Kind {
             name: "level of",
-            which: Which::Apart,
+            version: VersionChoice::Apart,
             key: "",
-            asked: "GET /config/subject-#",
+            request_line: "GET /config/subject-#",
             body: "",
         },
         Kind {
             name: "set level, repeat",
-            which: Which::Apart,
+            version: VersionChoice::Apart,
             key: "key-#",
-            asked: "PUT /config/subject-#",
+            request_line: "PUT /config/subject-#",
             body: LEVEL,
         },
         Kind {
             name: "set level, no key",
-            which: Which::Apart,
+            version: VersionChoice::Apart,
             key: "",
-            asked: "PUT /config/subject-#",
+            request_line: "PUT /config/subject-#",
             body: LEVEL,
         },
         Kind {
             name: "set level, new key",
-            which: Which::Apart,
+            version: VersionChoice::Apart,
             key: "new-<",
-            asked: "PUT /config/subject-#",
+            request_line: "PUT /config/subject-#",
             body: LEVEL,
         },
     ],
@@ -148,17 +148,17 @@ static VERSIONS: Series = Series {
         BY_ID,
         Kind {
             name: "versions",
-            which: Which::Apart,
+            version: VersionChoice::Apart,
             key: "",
-            asked: "GET /subjects/subject-#/versions",
+            request_line: "GET /subjects/subject-#/versions",
             body: "",
         },
         LATEST,
         Kind {
             name: "check",
-            which: Which::Apart,
+            version: VersionChoice::Apart,
             key: "",
-            asked: "POST /compatibility/subjects/subject-#/versions",
+            request_line: "POST /compatibility/subjects/subject-#/versions",
             body: SCHEMA,
         },
         REGISTER,
@@ -169,21 +169,21 @@ static VERSIONS: Series = Series {
 
 const DELETE: Kind = Kind {
     name: "delete",
-    which: Which::Same,
+    version: VersionChoice::Same,
     key: "",
-    asked: "DELETE /subjects/subject-#",
+    request_line: "DELETE /subjects/subject-#",
     body: "",
 };
 
 const DELETE_FOR_GOOD: Kind = Kind {
     name: "delete for good",
-    which: Which::Same,
+    version: VersionChoice::Same,
     key: "",
-    asked: "DELETE /subjects/subject-#?permanent=true",
+    request_line: "DELETE /subjects/subject-#?permanent=true",
     body: "",
 };
 
-/// Subjects that go.
+/// Subjects that are deleted.
 static DELETIONS: Series = Series {
     before: None,
     fill: REGISTER,
@@ -192,13 +192,14 @@ static DELETIONS: Series = Series {
     has_schemas: true,
 };
 
-/// Versions that are compared with all before them in their subject, and whose subjects go then.
+/// Versions that are checked against all earlier ones of their subject, which is deleted
+/// afterwards.
 static TRANSITIVE: Series = Series {
     before: Some(Kind {
         name: "set level",
-        which: Which::Same,
+        version: VersionChoice::Same,
         key: "",
-        asked: "PUT /config",
+        request_line: "PUT /config",
         body: r#"{"compatibility":"BACKWARD_TRANSITIVE"}"#,
     }),
     fill: REGISTER,
@@ -207,16 +208,16 @@ static TRANSITIVE: Series = Series {
     has_schemas: true,
 };
 
-/// Some of each, as bytes on a connection.
+/// Some of each kind, as bytes on a connection.
 static REQUESTS: Series = Series {
     before: None,
     fill: REGISTER,
     kinds: &[
         Kind {
             name: "types",
-            which: Which::Apart,
+            version: VersionChoice::Apart,
             key: "",
-            asked: "GET /schemas/types",
+            request_line: "GET /schemas/types",
             body: "",
         },
         GLOBAL,
@@ -226,9 +227,9 @@ static REQUESTS: Series = Series {
         REGISTER_AGAIN,
         Kind {
             name: "register anew",
-            which: Which::Apart,
+            version: VersionChoice::Apart,
             key: "",
-            asked: "POST /subjects/new-</versions",
+            request_line: "POST /subjects/new-</versions",
             body: SCHEMA,
         },
     ],

@@ -1,4 +1,4 @@
-//! Registries of layout 1: how they are made, and how long they take to be moved.
+//! Registries of layout 1: how to create them, and how long their migration takes.
 
 use crate::measure::print_memory;
 use crate::request::{Size, schema_text};
@@ -9,10 +9,10 @@ use sqlite::{Alter, Connection, Transaction, params};
 use std::alloc::Global;
 use std::time::Instant;
 
-/// How many versions are made in a transaction.
+/// The number of versions that one transaction adds.
 const PART: usize = 1000;
 
-/// What is kept under each key.
+/// The command and the reply that are kept under each key.
 const COMMAND: &str = "[\"set-global\",\"FULL\"]";
 
 const BODY: &str = "{\"compatibility\":\"FULL\"}";
@@ -63,7 +63,7 @@ fn add_part<S: Alter>(
     Ok(())
 }
 
-/// Makes a registry of layout 1 in an empty database, which keeps as many replies as it has versions.
+/// Creates a registry of layout 1 in an empty database, with a kept reply for each version.
 pub fn create_layout1<S: Alter + Drop>(
     alloc: Global,
     connection: Connection<S>,
@@ -78,8 +78,8 @@ pub fn create_layout1<S: Alter + Drop>(
     Ok(connection)
 }
 
-/// Tests the tables as those of layout 1, as a start tested them before there was layout 2, moves
-/// the registry, and prints how long each took.
+/// Validates the tables as layout 1, as programs did before there was layout 2, migrates the
+/// registry, and prints how long each took.
 pub fn migrate_on<S: Alter + Drop>(
     rt: &HostRuntime,
     connection: Connection<S>,

@@ -1,6 +1,6 @@
 //! Measures the registry's service over a file.
 //!
-//! Without words it does nothing. What is delivered is made before the time of it begins.
+//! Without arguments it does nothing. Deliveries are built before their time is measured.
 
 #![tactic(auto)]
 
@@ -26,7 +26,7 @@ use std::time::Instant;
 /// A database in a file and its log.
 type FileDatabase = FileStore<FileFrom<Wary>>;
 
-/// What is printed where the words are no measurement's.
+/// The output for arguments that name no measurement.
 const USAGE: &str = "Usage: bench_registry SERIES fill F SIZE
        bench_registry SERIES file F SIZE D
        bench_registry SERIES open F
@@ -64,7 +64,7 @@ fn connected(rt: &HostRuntime, file: &str) -> Result<Connection<FileDatabase>> {
     }
 }
 
-/// The service over a new registry.
+/// A service over a new registry.
 fn created<S: Alter + Drop>(alloc: Global, connection: Connection<S>) -> Result<Service<S>> {
     ensure!(connection.is_autocommit(), "a transaction is open");
     match Store::create(alloc, connection) {
@@ -73,7 +73,7 @@ fn created<S: Alter + Drop>(alloc: Global, connection: Connection<S>) -> Result<
     }
 }
 
-/// The service over the registry of a database. Prints how long the registry took to open.
+/// A service over the registry of a database. Prints how long the registry took to open.
 fn opened<S: Alter + Drop>(rt: &HostRuntime, connection: Connection<S>) -> Result<Service<S>> {
     ensure!(connection.is_autocommit(), "a transaction is open");
     let start = Instant::now(rt)?;
@@ -87,7 +87,8 @@ fn opened<S: Alter + Drop>(rt: &HostRuntime, connection: Connection<S>) -> Resul
     }
 }
 
-/// Measures over the registry of a database, which is made, or was, and gives the database back.
+/// Measures over the registry of a database, which is created or opened, and returns the
+/// connection.
 fn measured<S: Alter + Drop>(
     rt: &HostRuntime,
     connection: Connection<S>,
@@ -102,7 +103,7 @@ fn measured<S: Alter + Drop>(
     Ok(service.into_store().into_connection())
 }
 
-/// Audits the registry of a database, resolves its pairs in memory, and gives the database back.
+/// Audits the registry of a database, resolves its pairs in memory, and returns the connection.
 fn audited<S: Alter + Drop>(
     rt: &HostRuntime,
     connection: Connection<S>,
@@ -114,87 +115,117 @@ fn audited<S: Alter + Drop>(
     Ok(store.into_connection())
 }
 
-/// What is done with a database.
+/// A measurement of a database.
 #[derive(Clone, Copy)]
-enum Doing {
+enum Measurement {
     Measure,
-    MakeFirst,
-    Move,
+    CreateLayout1,
+    Migrate,
     Audit,
 }
 
-/// Does it, and gives the database back.
+/// Runs the measurement, and returns the connection.
 fn done<S: Alter + Drop>(
     rt: &HostRuntime,
     connection: Connection<S>,
-    doing: Doing,
+    doing: Measurement,
     task: &Task,
 ) -> Result<Connection<S>> {
     match doing {
-        Doing::Measure => measured(rt, connection, task),
-        Doing::MakeFirst => create_layout1(rt.alloc(), connection, task.size),
-        Doing::Move => migrate_on(rt, connection),
-        Doing::Audit => audited(rt, connection, task),
+        Measurement::Measure => measured(rt, connection, task),
+        Measurement::CreateLayout1 => create_layout1(rt.alloc(), connection, task.size),
+        Measurement::Migrate => migrate_on(rt, connection),
+        Measurement::Audit => audited(rt, connection, task),
     }
 }
 
-/// Does it with the database in a file, and closes the file.
-fn over_file(rt: &HostRuntime, file: &str, doing: Doing, task: &Task) -> Result<()> {
+/// Runs a measurement over the database in a file, and closes the file.
+fn over_file(rt: &HostRuntime, file: &str, doing: Measurement, task: &Task) -> Result<()> {
     let connection = connected(rt, file)?;
     done(rt, connection, doing, task)?.close()?;
     Ok(())
 }
 
-/// A word, or an empty one where there are fewer.
-fn word_at(words: &[String], at: usize) -> &str {
-    match words.get(at) {
+/// The argument at a position, or an empty one if there are fewer.
+fn argument_at(arguments: &[String], at: usize) -> &str {
+    match arguments.get(at) {
         Some(word) => word.as_str(),
         None => "",
     }
 }
 
-/// The number that a word tells, or 0 where there are fewer words.
-fn number_at(words: &[String], at: usize) -> Result<usize> {
-    match words.get(at) {
+/// The number in the argument at a position, or 0 if there are fewer.
+fn number_at(arguments: &[String], at: usize) -> Result<usize> {
+    match arguments.get(at) {
         Some(word) => Ok(word.parse()?),
         None => Ok(0),
     }
 }
 
 /// The task of a series.
-fn task_of(words: &[String], fills: bool, measures: bool) -> Result<Task> {
-    let series = series_of(word_at(words, 0)).context("no series has this name")?;
-    let versions = number_at(words, 3)?;
+fn task_of(arguments: &[String], fills: bool, measures: bool) -> Result<Task> {
+    let series = series_of(argument_at(arguments, 0)).context("no series has this name")?;
+    let versions = number_at(arguments, 3)?;
     let mut size = Size {
         versions,
         subjects: versions,
         bytes: 0,
     };
-    let mut behind = 4;
+    let mut count_at = 4;
     if series.has_schemas {
-        size.subjects = number_at(words, 4)?;
-        size.bytes = number_at(words, 5)?;
-        behind = 6;
+        size.subjects = number_at(arguments, 4)?;
+        size.bytes = number_at(arguments, 5)?;
+        count_at = 6;
     }
     Ok(Task {
         series,
         size,
-        count: number_at(words, behind)?,
+        count: number_at(arguments, count_at)?,
         fills,
         measures,
     })
 }
 
-/// Does what the words ask for.
-fn work(rt: &HostRuntime, words: &[String]) -> Result<()> {
-    let file = word_at(words, 2);
-    match word_at(words, 1) {
-        "fill" => over_file(rt, file, Doing::Measure, &task_of(words, true, false)?),
-        "file" => over_file(rt, file, Doing::Measure, &task_of(words, false, true)?),
-        "open" => over_file(rt, file, Doing::Measure, &task_of(words, false, false)?),
-        "first" => over_file(rt, file, Doing::MakeFirst, &task_of(words, false, false)?),
-        "migrate" => over_file(rt, file, Doing::Move, &task_of(words, false, false)?),
-        "audit" => over_file(rt, file, Doing::Audit, &task_of(words, false, false)?),
+/// Runs the measurement that the arguments name.
+fn work(rt: &HostRuntime, arguments: &[String]) -> Result<()> {
+    let file = argument_at(arguments, 2);
+    match argument_at(arguments, 1) {
+        "fill" => over_file(
+            rt,
+            file,
+            Measurement::Measure,
+            &task_of(arguments, true, false)?,
+        ),
+        "file" => over_file(
+            rt,
+            file,
+            Measurement::Measure,
+            &task_of(arguments, false, true)?,
+        ),
+        "open" => over_file(
+            rt,
+            file,
+            Measurement::Measure,
+            &task_of(arguments, false, false)?,
+        ),
+        "first" => over_file(
+            rt,
+            file,
+            Measurement::CreateLayout1,
+            &task_of(arguments, false, false)?,
+        ),
+        "migrate" => over_file(
+            rt,
+            file,
+            Measurement::Migrate,
+            &task_of(arguments, false, false)?,
+        ),
+        "audit" => over_file(
+            rt,
+            file,
+            Measurement::Audit,
+            &task_of(arguments, false, false)?,
+        ),
         _ => {
             eprint!(rt; "{USAGE}")?;
             bail!("other words are wanted");
@@ -202,19 +233,19 @@ fn work(rt: &HostRuntime, words: &[String]) -> Result<()> {
     }
 }
 
-/// The bytes of a block that is given back at the start.
+/// The size in bytes of a block that is freed at the start.
 const BLOCK: usize = 8 << 20;
 
-/// Has memory kept that requests give back, as the program does.
+/// Makes the C library keep the memory that requests free, as the program does.
 fn keep_memory(alloc: Global) {
     let _block: Result<Vec<u8>, AllocError> = Vec::with_capacity(alloc, BLOCK);
 }
 
 fn main(rt: HostRuntime) -> Result<()> {
-    let words: Vec<String> = env::args(&rt)?.skip(1).collect(rt.alloc())?;
-    if words.is_empty() {
+    let arguments: Vec<String> = env::args(&rt)?.skip(1).collect(rt.alloc())?;
+    if arguments.is_empty() {
         return Ok(());
     }
     keep_memory(rt.alloc());
-    work(&rt, words.as_slice())
+    work(&rt, arguments.as_slice())
 }

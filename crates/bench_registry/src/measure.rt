@@ -10,24 +10,24 @@ use std::fs;
 use std::rt::Clock;
 use std::time::{Duration, Instant};
 
-/// How many requests are made before they are measured, where many are.
+/// The number of requests that are built before they are measured, if there are more.
 const PART: usize = 1000;
 
-/// What is to be measured.
+/// A measurement.
 #[derive(Clone, Copy)]
 pub struct Task {
     pub series: &'static Series,
     /// the size of the registry
     pub size: Size,
-    /// how many requests of each kind
+    /// the number of requests of each kind
     pub count: usize,
-    /// whether the registry is made
+    /// whether the registry is created
     pub fills: bool,
     /// whether the kinds are measured
     pub measures: bool,
 }
 
-/// Prints the most memory that the process held so far.
+/// Prints the most memory that the process used so far.
 pub fn print_memory(rt: &HostRuntime) -> Result<()> {
     let status = fs::read_to_string(rt, "/proc/self/status")?;
     for line in status.lines() {
@@ -38,7 +38,7 @@ pub fn print_memory(rt: &HostRuntime) -> Result<()> {
     Ok(())
 }
 
-/// How long the service takes for the deliveries, each of which it has to carry out.
+/// How long the service takes for the deliveries. It has to execute each of them.
 fn time_of<S: Alter>(
     rt: &impl Clock,
     service: &mut Service<S>,
@@ -54,7 +54,7 @@ fn time_of<S: Alter>(
     Ok(took)
 }
 
-/// How long the bytes take on a connection on which they are all there at once.
+/// How long a session takes for bytes that are all there at once.
 fn time_of_bytes<S: Alter>(
     rt: &(impl Clock + AllocGlobal),
     service: &mut Service<S>,
@@ -69,7 +69,7 @@ fn time_of_bytes<S: Alter>(
     Ok(took)
 }
 
-/// Measures so many requests of a kind, over a registry of this size, and prints their line.
+/// Measures a number of requests of a kind, over a registry of this size, and prints their line.
 fn measure<S: Alter>(
     rt: &(impl Clock + Print + AllocGlobal),
     service: &mut Service<S>,
@@ -93,7 +93,7 @@ fn measure<S: Alter>(
     Ok(())
 }
 
-/// Makes the registry, a part at a time, and measures the kinds, as the task asks.
+/// Creates the registry, a part at a time, and measures the kinds, as the task says.
 pub fn measure_all<S: Alter>(
     rt: &(impl Clock + Print + AllocGlobal),
     service: &mut Service<S>,

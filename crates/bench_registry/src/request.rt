@@ -1,6 +1,6 @@
 //! Requests, as bytes and as deliveries.
 
-use crate::kind::{Kind, Which};
+use crate::kind::{Kind, VersionChoice};
 use anyhow::{Result, bail};
 use httparse::spans::EMPTY_HEADER_SPAN;
 use reg_core::{Command, Delivery, Key};
@@ -8,37 +8,37 @@ use reg_messages::{ParseOutcome, Request, parse_front};
 use reg_routes::{Routes, command_of};
 use std::alloc::{AllocError, Global};
 
-/// How many bytes a field of a schema takes.
+/// The number of bytes that a schema's field takes.
 const FIELD: usize = 56;
 
-/// The most fields of a request's head.
+/// The maximum number of fields in a request's head.
 const FIELDS: usize = 4;
 
-/// A registry of so many versions in so many subjects, with schemas of so many bytes.
+/// The size of a registry: versions, subjects, and bytes of a schema.
 #[derive(Clone, Copy)]
 pub struct Size {
-    /// the number of versions, each of which has a schema of its own
+    /// the number of versions; each has its own schema
     pub versions: usize,
     /// the number of subjects
     pub subjects: usize,
-    /// the length of a schema's text, about
+    /// the approximate length of a schema's text
     pub bytes: usize,
 }
 
 /// The number of the version that a request is about.
-fn number_of(which: Which, size: Size, at: usize) -> usize {
-    match which {
-        Which::Next => size.versions.saturating_add(at),
-        Which::Same => at,
-        Which::Apart => at
+fn number_of(version: VersionChoice, size: Size, at: usize) -> usize {
+    match version {
+        VersionChoice::Next => size.versions.saturating_add(at),
+        VersionChoice::Same => at,
+        VersionChoice::Apart => at
             .wrapping_mul(7919)
             .checked_rem(size.versions)
             .unwrap_or(0),
     }
 }
 
-/// The identity text of the schema with this number: a record of fields that may be null. All are
-/// compatible.
+/// The identity text of the schema with this number: a record of fields that may be null. All of
+/// them are compatible.
 pub fn schema_text(alloc: Global, number: usize, bytes: usize) -> Result<String, AllocError> {
     let mut text = format!(in alloc; "{{\"doc\":\"{number}\",\"fields\":[")?;
     for at in 0..bytes / FIELD {
@@ -52,7 +52,7 @@ pub fn schema_text(alloc: Global, number: usize, bytes: usize) -> Result<String,
     Ok(text)
 }
 
-/// Adds a text as it stands in a string of JSON.
+/// Adds a text as it is written in a JSON string.
 fn push_escaped(text: &mut String, added: &str) -> Result<(), AllocError> {
     for mark in added.chars() {
         if mark == '"' {
@@ -63,7 +63,7 @@ fn push_escaped(text: &mut String, added: &str) -> Result<(), AllocError> {
     Ok(())
 }
 
-/// A kind's text, with what its marks stand for.
+/// A kind's text, with its placeholders filled in.
 fn filled(
     alloc: Global,
     kind: &Kind,
@@ -71,7 +71,7 @@ fn filled(
     size: Size,
     at: usize,
 ) -> Result<String, AllocError> {
-    let number = number_of(kind.which, size, at);
+    let number = number_of(kind.version, size, at);
     let mut text = String::new(alloc);
     for mark in template.chars() {
         match mark {
@@ -85,20 +85,20 @@ fn filled(
     Ok(text)
 }
 
-/// The bytes of a request, by its place in a measurement.
+/// The bytes of a request, by its position in a measurement.
 fn request_of(alloc: Global, kind: &Kind, size: Size, at: usize) -> Result<String, AllocError> {
-    let asked = filled(alloc, kind, kind.asked, size, at)?;
+    let request_line = filled(alloc, kind, kind.request_line, size, at)?;
     let body = filled(alloc, kind, kind.body, size, at)?;
     let length = body.len();
     if length == 0 {
-        return format!(in alloc; "{asked} HTTP/1.1\r\nHost: localhost\r\n\r\n");
+        return format!(in alloc; "{request_line} HTTP/1.1\r\nHost: localhost\r\n\r\n");
     }
     format!(in alloc;
-        "{asked} HTTP/1.1\r\nHost: localhost\r\nContent-Length: {length}\r\n\r\n{body}"
+        "{request_line} HTTP/1.1\r\nHost: localhost\r\nContent-Length: {length}\r\n\r\n{body}"
     )
 }
 
-/// So many requests of a kind, one after the other.
+/// A number of requests of a kind, in order.
 pub fn requests(
     alloc: Global,
     kind: &Kind,
@@ -112,7 +112,7 @@ pub fn requests(
     Ok(text)
 }
 
-/// The retry keys of so many requests; those that have none have an empty one.
+/// The retry keys of a number of requests; an empty text for a request without a key.
 pub fn keys(
     alloc: Global,
     kind: &Kind,
@@ -126,7 +126,7 @@ pub fn keys(
     Ok(keys)
 }
 
-/// What the bytes of a request ask for.
+/// The command of a request's bytes.
 fn command(alloc: Global, routes: &Routes, bytes: &[u8]) -> Result<Command> {
     let mut headers = vec![in alloc; EMPTY_HEADER_SPAN; FIELDS]?;
     let ParseOutcome::Whole(whole) = parse_front(bytes, headers.as_mut_slice()) else {

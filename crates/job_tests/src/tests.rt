@@ -1,4 +1,4 @@
-//! What no clause says of jobs: how they come out, and what is printed of them.
+//! What no clause says of jobs: their outcomes, and what is printed for them.
 
 mod doing;
 mod jobs;

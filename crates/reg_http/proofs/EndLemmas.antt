@@ -1,4 +1,4 @@
--- From the stop of the answers to the end of the session.
+-- From the stop of the responses to the end of the session.
 use Rattle.std.proofs.Common.{◌≡◌, ◌⊎◌, ◌<◌, ℕ, List, [], ◌∷◌, ◌++◌, length, inl, inr, refl, sym, ap, subst, append-nil, append_assoc, arith}
 use Rattle.std.specs.Prelude.{Option}
 use Rattle.std.specs.Io.KnownBytes.{Consumes, IsAtEnd}
@@ -16,13 +16,13 @@ use Rattle.reg_http.specs.Sessions.{ProcessesMessages, EndsAs, Session}
 use Rattle.reg_http.specs.Inside.SessionSteps.{AnswersAs, Waits, AnsweredSoFar}
 use Rattle.reg_http.proofs.SessionLemmas.{Joins, ProcessesMessages-nil, AnsweredSoFar-more, AnswersAs-after}
 
--- what is held, where less than a whole message is
+-- the buffer, if it has less than a whole message
 held : (bytes : List ℕ) (needs : ℕ) → Waits bytes needs → (bytes ≡ []) ⊎ Follows bytes Part
 held bytes needs w =
     let e : bytes ++ [] ≡ bytes = append-nil bytes in
     subst (λ (b : List ℕ). (b ≡ []) ⊎ Follows b Part) e (w.part [] (omega (arith, w.short, ap length e)))
 
--- nothing is held
+-- the buffer is empty
 pub Waits-nothing : (bytes : List ℕ) → bytes ≡ [] → Waits bytes 1
 Waits-nothing bytes none = record {
   short = omega (arith, ap length none);
@@ -34,7 +34,7 @@ Waits-nothing bytes none = record {
     no_bytes [] few = refl
     no_bytes (x ∷ xs) few = absurd (omega arith)
 
--- a part of a message is held
+-- the buffer has a part of a message
 pub Waits-part : (bytes : List ℕ) (needs : ℕ) → IsPartialUntil bytes needs → Waits bytes needs
 Waits-part bytes needs p = record {
   short = p.short;
@@ -42,7 +42,7 @@ Waits-part bytes needs p = record {
   part = λ more few. inr (p.part more few);
 }
 
--- more bytes, which are still too few
+-- more bytes, but still too few
 pub Waits-more : (bytes more : List ℕ) (needs : ℕ) → Waits bytes needs → length (bytes ++ more) < needs → Waits (bytes ++ more) needs
 Waits-more bytes more needs w short = record {
   short = short;
@@ -88,12 +88,12 @@ module _ (P : List Exchange → Type 0) (r r' w w' : Option (List ℕ)) (input r
       by (inl none) = so_far ReadFailed (s.stay, inl none, refl)
       by (inr part) = so_far ReadFailed (s.stay, inr part, refl)
 
--- room was refused before anything was read
+-- an allocation failed before anything was read
 pub Session-unread : (P : List Exchange → Type 0) (r w : Option (List ℕ)) → P [] → Session P r r w w Memory
 Session-unread P r w none =
     record { input = []; reads = Consumes-nil r; answered = []; rest = []; out = []; processes = ProcessesMessages-nil P w [] none; ends = inl (tt, refl) }
 
--- a session up to a stop of its answers
+-- a session up to a stop of its responses
 pub Session-stopped : (P : List Exchange → Type 0) (r r' w w' : Option (List ℕ)) (input bytes : List ℕ) (stop : Stop) (ended : Ended) → Consumes r r' input
     → (a : AnswersAs P w w' input bytes stop) → EndsAs r' a.answered a.rest a.out ended → Session P r r' w w' ended
 Session-stopped P r r' w w' input bytes stop ended reads a e = record {
@@ -106,13 +106,13 @@ Session-stopped P r r' w w' input bytes stop ended reads a e = record {
   ends = e;
 }
 
--- and one that waits for more bytes
+-- and a session that waits for more bytes
 pub AnsweredSoFar-waiting : (P : List Exchange → Type 0) (w w' : Option (List ℕ)) (input bytes : List ℕ) (needs : ℕ) → AnswersAs P w w' input bytes (Waiting needs) → AnsweredSoFar P w w' input bytes
 AnsweredSoFar-waiting P w w' input bytes needs a =
     let All : List ℕ × List ℕ → Type 0 = λ s. ProcessesMessages P w w' input a.answered s.0 s.1 in
     record { answered = a.answered; stay = a.stops.0; processes = subst All (λ i. (a.stops.1 i, a.stops.3 i)) a.processes }
 
--- what was answered once more was read
+-- the responses after one more read
 pub AnswersAs-read : (P Q R : List Exchange → Type 0) → Joins P Q R → (w w1 w2 : Option (List ℕ)) (input before bytes more held : List ℕ) (stop : Stop)
     → AnsweredSoFar P w w1 input before → bytes ≡ before ++ more → AnswersAs Q w1 w2 bytes held stop → AnswersAs R w w2 (input ++ more) held stop
 AnswersAs-read P Q R joins w w1 w2 input before bytes more held stop s is a =
@@ -120,7 +120,7 @@ AnswersAs-read P Q R joins w w1 w2 input before bytes more held stop s is a =
     let all = subst Behind (sym is) (AnsweredSoFar-more P w w1 input before more s) in
     AnswersAs-after P Q R joins w w1 w2 (input ++ more) bytes held all.answered stop all.stay all.processes a
 
--- what follows from what holds of the exchanges
+-- a consequence of what is true of the exchanges
 pub Session-map : (P Q : List Exchange → Type 0) → ((xs : List Exchange) → P xs → Q xs) → (r r' w w' : Option (List ℕ)) (ended : Ended) → Session P r r' w w' ended → Session Q r r' w w' ended
 Session-map P Q follows r r' w w' ended s = record {
   input = s.input;
@@ -132,7 +132,7 @@ Session-map P Q follows r r' w w' ended s = record {
   ends = s.ends;
 }
 
--- its exchanges
+-- the exchanges of a session
 pub Session-same : (P : List Exchange → Type 0) (r r' w w' : Option (List ℕ)) (ended : Ended) (s : Session P r r' w w' ended) → Session (λ xs. xs ≡ exchanges s.answered) r r' w w' ended
 Session-same P r r' w w' ended s = record {
   input = s.input;

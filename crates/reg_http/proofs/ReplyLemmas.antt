@@ -1,4 +1,4 @@
--- The reply to what was asked, and what it leads to.
+-- The reply to a message.
 use Rattle.std.proofs.Common.{◌≡◌, [], ◌∷◌, refl, sym, ap, ◌∙◌, inl, inr, subst}
 use Rattle.std.specs.Prelude.{ℕ, List, Option, Result, Ok, Err}
 use Rattle.reg_messages.specs.Messages.{Message}
@@ -13,13 +13,13 @@ use Rattle.reg_service.specs.Deliveries.{Exchange, served}
 use Rattle.reg_service.proofs.SingleDeliveries.{served_fault}
 use Rattle.reg_http.specs.Inside.Replying.{IsReplyTo}
 
--- a delivery that was answered
+-- a message with a delivery
 pub IsReplyTo-delivered : (P : List Exchange → Type 0) (what : Result Delivery Rejection) (d : Delivery) (reply : ReplyView) → what ≡ Ok d → P ((d, reply) ∷ []) → IsReplyTo P what reply
 IsReplyTo-delivered P what d reply e s =
     let All : Result Delivery Rejection → Type 0 = λ w. IsReplyTo P w reply in
     subst All (sym e) (record { rejected = tt; serves = s })
 
--- What was refused isn't served, and so it is for want of memory.
+-- A rejected message isn't served, so its reply is a fault.
 pub IsReplyTo-rejected : (P : List Exchange → Type 0) (what : Result Delivery Rejection) (code : Code) (allow : Option (List ℕ)) (reply : ReplyView)
     → ((xs : List Exchange) → served xs ≡ [] → P xs) → IsRejected what code allow → reply ≡ fault code → IsReplyTo P what reply
 IsReplyTo-rejected P (Ok d) code allow reply unserved (inl b) e = record { rejected = tt; serves = unserved ((d, reply) ∷ []) (served_fault d reply (e ∙ ap fault b.0)) }
@@ -29,7 +29,7 @@ IsReplyTo-rejected P (Err other) code allow reply unserved (inr h) e =
     let same : (code, allow) ≡ other = cc in
     record { rejected = inl (e ∙ ap (λ (rejection : Rejection). fault rejection.0) same); serves = unserved [] refl }
 
--- a borrowed message asks for what the message does, and ends the connection where it does
+-- a borrowed request has the message's delivery, and ends the connection exactly if the message does
 pub requested_of_borrowed : (r : Request) (m : Message) → Borrows r m → requested_by r ≡ delivery_of m
 requested_of_borrowed r m b = λ i. requested (b.method i) (b.target i) (b.fields i) (b.body i)
 

@@ -1,4 +1,4 @@
--- Sessions in parts: one message after the other, and then a stop.
+-- Sessions in parts: one message after another, and then a stop.
 use Rattle.std.proofs.Common.{◌≡◌, ℕ, Bool, true, false, List, [], ◌∷◌, ◌++◌, map, drop, refl, sym, ap, ◌∙◌, inl, inr, subst, append_assoc, append-nil}
 use Rattle.std.specs.Prelude.{Option}
 use Rattle.std.specs.Io.KnownBytes.{Appends}
@@ -22,7 +22,7 @@ use Rattle.reg_http.specs.Inside.Replying.{IsReplyTo}
 use Rattle.reg_http.specs.Sessions.{ProcessesMessages}
 use Rattle.reg_http.specs.Inside.SessionSteps.{StopsAs, AnswersAs, AnswersOne, FaultAs, NextAs, AnsweredSoFar, next_after}
 
--- the message of an answered one
+-- the message of an exchange
 abbrev message_of : AnsweredMessage → Message
 message_of x = x.0
 
@@ -40,7 +40,7 @@ exchanges-append xs ys = flat_map-append (λ (x : AnsweredMessage). exchange_of 
 responses-append : (xs ys : List AnsweredMessage) → responses (xs ++ ys) ≡ responses xs ++ responses ys
 responses-append xs ys = flat_map-append (λ (x : AnsweredMessage). response_to x.0 x.1) xs ys
 
--- what holds of exchanges and of those after them holds of both
+-- what is true of exchanges and of later ones is true of both
 abbrev pub Joins : (P Q R : List Exchange → Type 0) → Type 0
 Joins P Q R = (xs ys : List Exchange) → P xs → Q ys → R (xs ++ ys)
 
@@ -58,7 +58,7 @@ ProcessesMessages-one P w w' bytes rest out m reply p r a = record {
   writes = a;
 }
 
--- messages, and those after them
+-- messages, and more after them
 ProcessesMessages-append : (P Q R : List Exchange → Type 0) → Joins P Q R → (w w1 w2 : Option (List ℕ)) (bytes behind rest out out2 : List ℕ) (xs ys : List AnsweredMessage)
     → ProcessesMessages P w w1 bytes xs behind out → ProcessesMessages Q w1 w2 behind ys rest out2 → ProcessesMessages R w w2 bytes (xs ++ ys) rest (out ++ out2)
 ProcessesMessages-append P Q R joins w w1 w2 bytes behind rest out out2 xs ys p q = record {
@@ -82,7 +82,7 @@ LastCloses-after xs ys p c = record {
   closes_it = c.closes_it;
 }
 
--- what was written for messages and for those before them
+-- the output for messages and for earlier ones
 joined : (xs ys : List AnsweredMessage) (out part : List ℕ) → out ≡ responses ys ++ part → responses xs ++ out ≡ responses (xs ++ ys) ++ part
 joined xs ys out part e =
     ap (λ t. responses xs ++ t) e ∙ (sym (append_assoc (responses xs) (responses ys) part) ∙ ap (λ t. t ++ part) (sym (responses-append xs ys)))
@@ -111,7 +111,7 @@ IsCutShort-after xs ys rest out p (inr c) =
       written = joined xs ys out c.part c.written;
     })
 
--- where the answers stop, with those before
+-- a stop, with the earlier messages
 StopsAs-after : (xs ys : List AnsweredMessage) (rest held out : List ℕ) (stop : Stop) → StayOpen xs → StopsAs ys rest held out stop
     → StopsAs (xs ++ ys) rest held (responses xs ++ out) stop
 StopsAs-after xs ys rest held out (Waiting needs) p s = (StayOpen-append xs ys p s.0, s.1, s.2, all_joined xs ys out s.3)
@@ -121,7 +121,7 @@ StopsAs-after xs ys rest held out NotWritten p s = IsCutShort-after xs ys rest o
 StopsAs-after xs ys rest held out OutOfMemory p (inl s) = inl (StayOpen-append xs ys p s.0, all_joined xs ys out s.1)
 StopsAs-after xs ys rest held out OutOfMemory p (inr s) = inr (IsCutShort-after xs ys rest out p s)
 
--- the answers after messages
+-- the responses after earlier messages
 pub AnswersAs-after : (P Q R : List Exchange → Type 0) → Joins P Q R → (w w1 w2 : Option (List ℕ)) (bytes behind held : List ℕ) (xs : List AnsweredMessage) (stop : Stop)
     → StayOpen xs → ProcessesMessages P w w1 bytes xs behind (responses xs) → AnswersAs Q w1 w2 behind held stop → AnswersAs R w w2 bytes held stop
 AnswersAs-after P Q R joins w w1 w2 bytes behind held xs stop o p a = record {
@@ -132,7 +132,7 @@ AnswersAs-after P Q R joins w w1 w2 bytes behind held xs stop o p a = record {
   stops = StopsAs-after xs a.answered a.rest held a.out stop o a.stops;
 }
 
--- nothing more is answered
+-- no further response
 pub AnswersAs-nil : (P : List Exchange → Type 0) (w : Option (List ℕ)) (bytes : List ℕ) (stop : Stop) → P [] → StopsAs [] bytes bytes [] stop → AnswersAs P w w bytes bytes stop
 AnswersAs-nil P w bytes stop none s = record { answered = []; rest = bytes; out = []; processes = ProcessesMessages-nil P w bytes none; stops = s }
 
@@ -149,7 +149,7 @@ written P w w' bytes out stop none a s = record {
 fault_cut : (bytes part : List ℕ) (code : Code) → Follows bytes (Faulty code) → IsPrefix part (fault_response code) → IsCutShort [] bytes part
 fault_cut bytes part code f front = inr (record { code = code; part = part; stay = tt; follows = f; front = front; written = refl })
 
--- a fault was answered, or a beginning of its answer was written
+-- a fault got its response, or a beginning of it
 pub AnswersAs-fault : (P : List Exchange → Type 0) (w w' : Option (List ℕ)) (bytes : List ℕ) (code : Code) (stop : Stop)
     → P [] → Follows bytes (Faulty code) → FaultAs w w' code stop → AnswersAs P w w' bytes bytes stop
 AnswersAs-fault P w w' bytes code AtFault none f a = written P w w' bytes (fault_response code) AtFault none a (code, tt, f, refl)
@@ -158,7 +158,7 @@ AnswersAs-fault P w w' bytes code OutOfMemory none f a = written P w w' bytes a.
 AnswersAs-fault P w w' bytes code AtClose none f a = absurd a
 AnswersAs-fault P w w' bytes code (Waiting needs) none f a = absurd a
 
--- a whole message was answered, or a beginning of its answer was written
+-- a whole message got its response, or a beginning of it
 pub Next-message : (P : List Exchange → Type 0) (w w' : Option (List ℕ)) (bytes : List ℕ) (size : ℕ) (m : Message) (reply : ReplyView)
     (sent : WriteOutcome) (close : Bool) → IsMessage bytes m (drop size bytes) → IsReplyTo P (delivery_of m) reply → closes m ≡ close
     → (part : List ℕ) → IsPrefix part (response_to m reply) → Appends w w' part → (sent ≡ Whole → Appends w w' (response_to m reply))
@@ -197,7 +197,7 @@ ParsesInto-more : (bytes rest more : List ℕ) (ms : List Message) → ParsesInt
 ParsesInto-more bytes rest more [] e = ap (λ t. t ++ more) e
 ParsesInto-more bytes rest more (m ∷ ms) p = (p.0 ++ more, IsMessage-more bytes p.0 more m p.1, ParsesInto-more p.0 rest more ms p.2)
 
--- more was read behind what is held
+-- more bytes were appended to the buffer
 pub AnsweredSoFar-more : (P : List Exchange → Type 0) (w w' : Option (List ℕ)) (bytes held more : List ℕ) → AnsweredSoFar P w w' bytes held → AnsweredSoFar P w w' (bytes ++ more) (held ++ more)
 AnsweredSoFar-more P w w' bytes held more s = record {
   answered = s.answered;
@@ -210,7 +210,7 @@ AnsweredSoFar-more P w w' bytes held more s = record {
   };
 }
 
--- one more message was answered
+-- one more message got its response
 pub AnsweredSoFar-one : (P Q R : List Exchange → Type 0) → Joins P Q R → (w w1 w2 : Option (List ℕ)) (bytes held : List ℕ) (size : ℕ)
     → AnsweredSoFar P w w1 bytes held → AnswersOne Q w1 w2 held size → AnsweredSoFar R w w2 bytes (drop size held)
 AnsweredSoFar-one P Q R joins w w1 w2 bytes held size s one =

@@ -1,4 +1,4 @@
--- A whole session: what was read, what was carried out, and what was written.
+-- A whole session: the bytes that were read, the messages that were processed, and the bytes that were written.
 use Rattle.std.specs.Prelude.{◌≡◌, ◌⊎◌, ℕ, List, map, Option}
 use Rattle.std.specs.Io.KnownBytes.{Appends, Consumes, IsAtEnd}
 use Rattle.reg_core.specs.declared.code.Code.{Code}
@@ -8,7 +8,7 @@ use Rattle.reg_http.specs.declared.serving.Ended.TheVariants.{Closed, ReadFailed
 use Rattle.reg_messages.specs.Messages.{ParsesInto, Follows, End, Part, Faulty}
 use Rattle.reg_http.specs.Output.{AnsweredMessage, AreRejected, StayOpen, LastCloses, exchanges, responses, output, IsCutShort}
 
--- Messages at the front of bytes were carried out, rest follows them, and out was written. AreServed holds of the exchanges of those messages.
+-- The messages at the front of `bytes` were processed, `rest` follows them, and `out` was written. `AreServed` is true of their exchanges.
 pub record ProcessesMessages (AreServed : List Exchange → Type 0) (old new : Option (List ℕ)) (bytes : List ℕ) (xs : List AnsweredMessage) (rest out : List ℕ) : Type 0 where
   pub leads : ParsesInto bytes (map (λ x. x.0) xs) rest
   pub rejected : AreRejected xs
@@ -23,26 +23,26 @@ EndsBetween reader xs rest out = StayOpen xs × IsAtEnd reader × Follows rest E
 abbrev pub EndsInside : Option (List ℕ) → List AnsweredMessage → List ℕ → List ℕ → Type 0
 EndsInside reader xs rest out = StayOpen xs × IsAtEnd reader × Follows rest Part × (out ≡ output xs Part)
 
--- A fault follows them, and was answered.
+-- A fault follows them, and got its response.
 abbrev pub EndsFaulty : List AnsweredMessage → List ℕ → List ℕ → Type 0
 EndsFaulty xs rest out = (code : Code) × StayOpen xs × Follows rest (Faulty code) × (out ≡ output xs (Faulty code))
 
--- What stands at each end, where the reader is left as it is.
+-- The facts at each end of a session. `reader` is what the reader has left.
 abbrev pub EndsAs : Option (List ℕ) → List AnsweredMessage → List ℕ → List ℕ → Ended → Type 0
--- the last message that was answered ends the connection, or the input ended between messages
+-- the last message ends the connection, or the input ended after a whole message
 EndsAs reader xs rest out Closed = (LastCloses xs × (out ≡ responses xs)) ⊎ EndsBetween reader xs rest out
 -- a fault ended the session, or the input ended inside a message
 EndsAs reader xs rest out Malformed = EndsFaulty xs rest out ⊎ EndsInside reader xs rest out
--- each whole message that was read was answered
+-- each whole message that was read got its response
 EndsAs reader xs rest out ReadFailed = StayOpen xs × (Follows rest End ⊎ Follows rest Part) × (out ≡ responses xs)
--- the last answer, or that to a fault, wasn't written whole
+-- a beginning of the last response, or of the response to a fault, was written
 EndsAs reader xs rest out WriteFailed = IsCutShort xs rest out
 EndsAs reader xs rest out Memory = (StayOpen xs × (out ≡ responses xs)) ⊎ IsCutShort xs rest out
 
--- A session, from and to what the reader has left and what the writer holds. AreServed holds of its exchanges: those whose answers were written.
--- How the reads were cut is no part of it.
+-- A session. `reader` and `writer` are what the reader has left and what the writer contains, before and after it. `AreServed` is true of
+-- the exchanges of the processed messages. How the reads cut the input is no part of it.
 pub record Session (AreServed : List Exchange → Type 0) (reader reader' writer writer' : Option (List ℕ)) (ended : Ended) : Type 0 where
-  -- all that was read
+  -- everything that was read
   pub input : List ℕ
   pub reads : Consumes reader reader' input
   pub answered : List AnsweredMessage

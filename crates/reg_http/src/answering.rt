@@ -1,4 +1,4 @@
-//! Whole messages, carried out and answered in order.
+//! Processes whole messages in order, and writes their responses.
 
 ghost use Rattle.std.specs.Prelude.{◌≡◌, option_map};
 ghost use Rattle.sqlite.specs.State.{HasCleanDisk};
@@ -22,31 +22,31 @@ use sqlite::Alter;
 use std::alloc::Global;
 use std::io::Write;
 
-/// Where the answers stop.
+/// Why no further message is processed.
 #[derive(Clone, Copy)]
 pub enum Stop {
-    /// No whole message is held. One has at least so many bytes.
+    /// The buffer has no whole message. A whole one has at least this many bytes.
     Waiting(usize),
-    /// The message that was answered last ends the connection.
+    /// The last message ends the connection.
     AtClose,
-    /// A fault was answered.
+    /// A fault got its response.
     AtFault,
-    /// An answer wasn't written whole.
+    /// A response wasn't written in full.
     NotWritten,
-    /// Memory for an answer was refused, or there were more fields than slots for them.
+    /// Allocating a response failed, or there were more header fields than slots for them.
     OutOfMemory,
 }
 
-/// One step: a whole message of so many bytes was answered and the connection goes on, or the answers
-/// stop.
+/// One step: a whole message of this many bytes got its response and the connection stays open, or
+/// processing stops.
 #[derive(Clone, Copy)]
 pub enum Next {
     Answered(usize),
     Stopped(Stop),
 }
 
-/// Carries out a request, and says which methods its path has where it used another one. What isn't a
-/// delivery gets the fault of its code.
+/// Executes a request, and returns the reply. A request without a delivery gets the fault of its
+/// code, and for a wrong method also the methods that the path has.
 fn reply_to<S: Alter>(
     alloc: Global,
     routes: &Routes,
@@ -64,7 +64,7 @@ fn reply_to<S: Alter>(
     }
 }
 
-/// Where the answers stop, or go on, once an answer was sent.
+/// The step after a response was sent.
 fn next_after(sent: WriteOutcome, close: bool, size: usize) -> Next
     ensures { result ≡ next_after sent close size }
 {
@@ -76,7 +76,7 @@ fn next_after(sent: WriteOutcome, close: bool, size: usize) -> Next
     }
 }
 
-/// Carries out a whole message at the front of the bytes, and answers it.
+/// Processes a whole message at the front of the bytes, and writes its response.
 fn answer_message<W: Write, S: Alter>(
     alloc: Global,
     routes: &Routes,
@@ -100,7 +100,7 @@ fn answer_message<W: Write, S: Alter>(
     next_after(sent, close, whole.head.len + whole.body)
 }
 
-/// Answers a fault, which ends the connection.
+/// Writes the response to a fault, which ends the connection.
 fn answer_fault<W: Write>(alloc: Global, code: Code, writer: &mut W) -> Stop
     ensures { FaultAs (W.contents writer.old) (W.contents writer.new) code result }
 {
@@ -112,7 +112,7 @@ fn answer_fault<W: Write>(alloc: Global, code: Code, writer: &mut W) -> Stop
     }
 }
 
-/// Answers what stands at the front of the bytes.
+/// Processes the front of the bytes: a message, a part of one, or a fault.
 fn answer_front<W: Write, S: Alter>(
     alloc: Global,
     routes: &Routes,
@@ -138,7 +138,7 @@ fn answer_front<W: Write, S: Alter>(
     }
 }
 
-/// Answers the messages that are held, in order, and lets them go.
+/// Processes the whole messages in the buffer, in order, and removes them from it.
 pub fn answer_buffered<W: Write, S: Alter>(
     alloc: Global,
     routes: &Routes,

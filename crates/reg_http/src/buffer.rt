@@ -1,4 +1,4 @@
-//! The one buffer of a connection, filled by a reader and emptied from the front.
+//! The buffer of a connection: a reader fills it, and messages are removed from its front.
 
 ghost use Rattle.std.specs.Prelude.{◌≡◌, ◌≤◌, ◌<◌, ◌+◌, ◌-◌, ◌++◌, [], ℕ, List, length, take, drop, IfOk, OnErr, slice_range, vec_len};
 ghost use Rattle.std.specs.Io.KnownBytes.{Consumes, IsAtEnd, Keeps};
@@ -9,10 +9,10 @@ use std::io;
 use std::io::Read;
 use std::marker::Model;
 
-/// How many bytes a buffer has room for: a head and a body at their limits.
+/// The capacity of a buffer in bytes: a head and a body at their limits.
 pub const ROOM: usize = 1_064_960;
 
-/// Bytes that were read and not yet let go. Contracts see these bytes.
+/// Bytes that were read and not yet consumed. Contracts see these bytes.
 #[derive(Drop)]
 pub struct Buffer {
     bytes: Vec<u8>,
@@ -33,7 +33,7 @@ impl Model for Buffer {
     ghost invariant = { λ b. (b.first ≤ b.last) × (b.last ≤ 1064960) × (vec_len b.bytes ≡ 1064960) };
 }
 
-/// Reads once, into the bytes from a position on.
+/// Reads once, into the bytes from position `at` on.
 fn read_into<R: Read>(bytes: &mut Vec<u8>, at: usize, reader: &mut R) -> io::Result<usize>
     requires { at ≤ vec_len bytes.old }
     ensures len { vec_len bytes.new ≡ vec_len bytes.old }
@@ -47,7 +47,7 @@ fn read_into<R: Read>(bytes: &mut Vec<u8>, at: usize, reader: &mut R) -> io::Res
     reader.read(room)
 }
 
-/// Moves the bytes between two positions to the front.
+/// Copies the bytes between two positions to the front.
 fn to_front(bytes: &mut Vec<u8>, first: usize, last: usize)
     requires order { first ≤ last }
     requires within { last ≤ vec_len bytes.old }
@@ -57,8 +57,8 @@ fn to_front(bytes: &mut Vec<u8>, first: usize, last: usize)
     bytes.copy_within(first..last, 0);
 }
 
-/// Where the part between two positions stands once there is room behind it. It is moved only where there
-/// was none.
+/// Makes room after the bytes between two positions, and returns their new positions. It copies
+/// them to the front only if there is no room.
 fn make_room(bytes: &mut Vec<u8>, first: usize, last: usize) -> (usize, usize)
     requires order { first ≤ last }
     requires within { last ≤ vec_len bytes.old }
@@ -76,11 +76,11 @@ fn make_room(bytes: &mut Vec<u8>, first: usize, last: usize) -> (usize, usize)
 }
 
 impl Buffer {
-    /// An empty buffer, with all the room that it will have.
+    /// An empty buffer with its full capacity.
     ///
     /// # Errors
     ///
-    /// `OutOfMemory` where memory for that room is refused.
+    /// `OutOfMemory` if the allocation fails.
     pub fn new(alloc: Global) -> Result<Buffer, OutOfMemory>
         ensures { IfOk result (λ buffer. buffer ≡ []) }
     {
@@ -91,14 +91,14 @@ impl Buffer {
         })
     }
 
-    /// What is held.
+    /// The bytes that aren't consumed.
     pub fn held(&self) -> &[u8]
         ensures { result.now ≡ self.now }
     {
         &self.bytes[self.first..self.last]
     }
 
-    /// Lets so many bytes at the front go.
+    /// Removes the first `count` bytes.
     pub fn consume(&mut self, count: usize)
         requires { count ≤ length self.old }
         ensures { self.new ≡ drop count self.old }
@@ -106,11 +106,11 @@ impl Buffer {
         self.first += count;
     }
 
-    /// Reads once, behind what is held. Where it answers 0 the input has ended.
+    /// Reads once, and appends the bytes. Returns their number; 0 means that the input has ended.
     ///
     /// # Errors
     ///
-    /// That of the read. Then nothing has changed.
+    /// The error of the read. Nothing has changed then.
     pub fn fill<R: Read>(&mut self, reader: &mut R) -> io::Result<usize>
         requires { length self.old < 1064960 }
         ensures ok { IfOk result (λ n. (more : List ℕ) × (self.new ≡ self.old ++ more) × (length more ≡ n)

@@ -1,4 +1,5 @@
-//! The registry over HTTP/1.1: requests read from a stream, carried out and answered in order.
+//! The registry over HTTP/1.1: reads requests from a stream, executes them and writes responses, in
+//! order.
 
 #![tactic(auto)]
 

@@ -22,30 +22,29 @@ use std::io::{ErrorKind, Read, Write};
 /// How a connection ended.
 #[derive(Clone, Copy, Debug, PartialEq, Eq)]
 pub enum Ended {
-    /// A message ended it, or the input ended between messages.
+    /// A message ended it, or the input ended after a whole message.
     Closed,
-    /// A read answered an error. Each whole message that was read was answered.
+    /// A read failed. Each whole message that was read got its response.
     ReadFailed,
-    /// A write answered an error, or took no byte. The last command stands as its reply says.
+    /// A write failed, or took no byte. The last command has the effect that its reply reports.
     WriteFailed,
-    /// What came was no message, or the input ended inside one.
+    /// The input is no message, or it ended inside one.
     Malformed,
-    /// Memory for the table of paths, the buffer or an answer was refused.
+    /// Allocating the table of paths, the buffer or a response failed.
     Memory,
 }
 
-/// What a read gave.
+/// The result of a read.
 #[derive(Clone, Copy)]
 enum ReadOutcome {
-    /// Bytes, or none where the read was interrupted.
+    /// Bytes, or none if the read was interrupted.
     Bytes,
     /// The end of the input.
     End,
-    /// An error.
     Failed,
 }
 
-/// Reads once, behind what is held.
+/// Reads once, and appends the bytes to the buffer.
 fn read_more<R: Read>(buffer: &mut Buffer, reader: &mut R) -> ReadOutcome
     requires { length buffer.old < 1064960 }
     ensures { ReadsAs (R.remaining reader.old) (R.remaining reader.new) buffer.old buffer.new result }
@@ -58,7 +57,7 @@ fn read_more<R: Read>(buffer: &mut Buffer, reader: &mut R) -> ReadOutcome
     }
 }
 
-/// How a connection ends with its input, by what is held of a message.
+/// How a connection ends at the end of its input, by the bytes that are left in the buffer.
 fn end_of(held: &[u8]) -> Ended
     ensures { result ≡ end_of held.now }
 {
@@ -69,7 +68,7 @@ fn end_of(held: &[u8]) -> Ended
     }
 }
 
-/// Answers the messages that are held, once there are as many bytes as a whole one has at least.
+/// Processes the messages in the buffer if it has at least `needs` bytes. Fewer are no whole message.
 fn answer_more<W: Write, S: Alter>(
     alloc: Global,
     routes: &Routes,
@@ -92,7 +91,8 @@ fn answer_more<W: Write, S: Alter>(
     answer_buffered(alloc, routes, buffer, headers, writer, service)
 }
 
-/// Reads and answers until the connection ends. It holds less than one whole message while it reads.
+/// Reads messages and writes responses until the connection ends. While it reads, the buffer has
+/// less than one whole message.
 fn serve_with<R: Read, W: Write, S: Alter>(
     alloc: Global,
     routes: &Routes,
@@ -126,8 +126,9 @@ fn serve_with<R: Read, W: Write, S: Alter>(
     Ended::ReadFailed
 }
 
-/// Serves a connection: reads messages, carries them out and answers each as soon as it is whole, in
-/// order. How the reads are cut doesn't matter. All room for reading is taken before the first read.
+/// Serves a connection: processes each message as soon as it is whole, in order, and writes its
+/// response. How the reads cut the input doesn't matter. Everything for reading is allocated before
+/// the first read.
 pub fn serve<R: Read, W: Write, S: Alter>(
     alloc: Global,
     reader: &mut R,

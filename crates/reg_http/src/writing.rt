@@ -1,4 +1,4 @@
-//! Bytes, written whole.
+//! Writes bytes in full.
 
 ghost use Rattle.std.specs.Prelude.{◌≡◌, ◌≤◌, ℕ, List, length, take, IsTrue, option_map};
 ghost use Rattle.std.specs.Io.KnownBytes.{Appends};
@@ -10,19 +10,19 @@ use reg_messages::bytes_of;
 use std::alloc::Global;
 use std::io::{ErrorKind, Write};
 
-/// What became of an answer.
+/// The result of writing a response.
 #[derive(Clone, Copy)]
 pub enum WriteOutcome {
-    /// All of it was written.
+    /// It was written in full.
     Whole,
     /// A beginning of it was written.
     CutShort,
-    /// Memory for it was refused.
+    /// Allocating it failed.
     OutOfMemory,
 }
 
-/// Writes the bytes, and tries again where a write was interrupted. Where it answers false, a beginning
-/// of them went out.
+/// Writes the bytes, and retries interrupted writes. Returns whether all were written; if not, a
+/// beginning of them was.
 pub fn write_whole<W: Write>(writer: &mut W, bytes: &[u8]) -> bool
     ensures front { (n : ℕ) × (n ≤ length bytes.now)
         × Appends (W.contents writer.old) (W.contents writer.new) (take n bytes.now) }
@@ -43,7 +43,7 @@ pub fn write_whole<W: Write>(writer: &mut W, bytes: &[u8]) -> bool
     false
 }
 
-/// Writes an answer, in one write where the writer takes it whole.
+/// Writes a response, with one write if the writer takes it in full.
 pub fn send<W: Write>(
     alloc: Global,
     writer: &mut W,

@@ -1,4 +1,4 @@
--- An audit, by what the store answered and what was printed for it.
+-- An audit, by the store's result and the output for it.
 use Rattle.std.proofs.Common.{ℕ, Bool, List, subst, sym}
 use Rattle.std.specs.Prelude.{IsTrue, Option, Result, Ok, Err, MatchResult}
 use Rattle.sqlite.specs.State.{State}
@@ -10,7 +10,7 @@ use Rattle.reg_jobs.specs.declared.auditing.AuditOutcome.TheVariants.{Verdict, U
 use Rattle.reg_jobs.specs.Auditing.{AuditsAs, IsVerdictOn, PrintsEvidence}
 use Rattle.reg_jobs.proofs.JobLemmas.{is_fault-by}
 
--- what was printed is the verdict, or for an error nothing
+-- the output is the verdict, and nothing for an error
 pub AuditsAs-told : (was : Stored) (old new : State) (writer writer' : Option (List ℕ)) (audited : Result Bool StoreError) (outcome : AuditOutcome) {Goes : Type 0} → Goes
     → MatchResult audited (IsVerdictOn was) (λ e. Goes → IsFaultBy old new e) → PrintsEvidence audited writer writer' outcome → AuditsAs was writer writer' outcome
 AuditsAs-told was old new writer writer' (Ok holds) (Verdict told) goes tells told_is = (subst (IsVerdictOn was) (sym told_is.0) tells, told_is.1)

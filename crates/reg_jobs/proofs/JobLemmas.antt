@@ -1,4 +1,4 @@
--- Sessions over what was opened, listings and audits of it.
+-- Sessions over what was opened, and its listings and audits.
 use Rattle.std.proofs.Common.{ℕ, List, refl, sym, ap, subst}
 use Rattle.std.specs.Prelude.{IsTrue, Option, Some}
 use Rattle.sqlite.specs.Held.{Held, state}
@@ -25,7 +25,7 @@ use Rattle.reg_jobs.specs.Listings.{IfUnread, ListsAs, table_of}
 use Rattle.reg_jobs.specs.Databases.{ServesStore}
 use Rattle.reg_jobs.specs.Jobs.{AuditsOver, BeginsWith, HasRegistry, ListsOver, OverDatabase, SessionOver}
 
--- what is stored as a session over the registry of what was opened begins
+-- the stored state when a session over the registry of what was opened begins
 record BeginsOver {S : Type 0} (g : Ghosts S) (opened : Opened S) (begun : State) : Type 0 where
   was : Stored
   begins : BeginsWith g opened was
@@ -54,7 +54,7 @@ SessionOver-has {S} g opened store back reader reader' writer writer' ended has 
       record { was = b.was; begins = b.begins; is_open = over; leads = s.leads clean b.was (λ _. over) };
 }
 
--- an error that stands for memory or the disk
+-- an error whose cause is memory or the disk
 pub is_fault-by : (old new : State) (error : StoreError) → IsFaultBy old new error → IsTrue (is_fault error)
 is_fault-by old new Memory by = refl
 is_fault-by old new Disk by = refl
@@ -62,7 +62,7 @@ is_fault-by old new NotARegistry by = absurd by
 is_fault-by old new (OldLayout number) by = absurd by
 is_fault-by old new (NewerLayout number) by = absurd by
 
--- over tables that spell a registry, memory and the disk alone fail
+-- over tables that spell a registry, only memory and the disk can fail
 IfUnread-fault : (listed : ListOutcome) (begun new : State) (was : Stored)
     → IfUnread listed (IsFaultOver begun new) → SpellsWhileOpen begun was → IfUnread listed (λ error. IsTrue (is_fault error))
 IfUnread-fault Whole begun new was fault spells = tt
@@ -70,7 +70,7 @@ IfUnread-fault (Unread error) begun new was fault spells = is_fault-by begun new
 IfUnread-fault NotWritten begun new was fault spells = tt
 IfUnread-fault OutOfMemory begun new was fault spells = tt
 
--- what holds of the database that was opened
+-- a consequence of what is true of the database that was opened
 pub OverDatabase-map : {S : Type 0} (g : Ghosts S) (opened : Opened S) (P Q : State → Type 0) → ((old : State) → P old → Q old) → OverDatabase g opened P → OverDatabase g opened Q
 OverDatabase-map g Nothing P Q follows over = over
 OverDatabase-map g (Texts texts) P Q follows over = over
@@ -93,7 +93,7 @@ ListsOver-found old begun new kind writer writer' listed has lists fault same = 
   spells = same has.stored (λ _. has.spells);
 }
 
--- an audit of what a database has stored
+-- an audit of the stored state of a database
 pub AuditsOver-found : (old begun new : State) (writer writer' : Option (List ℕ)) (audited : AuditOutcome)
     → OpensOver old begun → ((was : Stored) → SpellsWhileOpen begun was → AuditsAs was writer writer' audited)
     → StillSpells begun new → AuditsOver old writer writer' audited new

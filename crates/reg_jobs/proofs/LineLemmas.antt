@@ -1,4 +1,4 @@
--- Lines on standard error, put in parts.
+-- Lines on standard error, written in parts.
 use Rattle.std.proofs.Common.{◌≡◌, ℕ, ◌+◌, ◌<◌, ◌≤◌, Bool, true, false, not, List, [], ◌∷◌, ◌++◌, take, drop, length, get_or, refl, sym, ap, ◌∙◌, subst, append_assoc, append-nil}
 use Rattle.std.specs.Prelude.{IsTrue, Option}
 use Rattle.std.specs.List.{flat_map}
@@ -10,17 +10,17 @@ use Rattle.reg_http.specs.Output.{AppendsPrefix}
 use Rattle.reg_jobs.specs.declared.errors.Errors.{Errors}
 use Rattle.reg_jobs.specs.Errors.{Puts, WritesUnlessLost}
 
--- after what was written whole
+-- after bytes that were written in full
 AppendsPrefix-after : (old mid new : Option (List ℕ)) (xs ys : List ℕ) → Appends old mid xs → AppendsPrefix mid new ys → AppendsPrefix old new (xs ++ ys)
 AppendsPrefix-after old mid new xs ys a b =
     (xs ++ b.0, (b.1.0, append_assoc xs b.0 b.1.0 ∙ ap (λ t. xs ++ t) b.1.1), Appends-trans old mid new xs b.0 a b.2)
 
--- more would have followed, of which nothing was written
+-- more bytes, but none of them was written
 AppendsPrefix-more : (old mid new : Option (List ℕ)) (xs ys : List ℕ) → AppendsPrefix old mid xs → Appends mid new [] → AppendsPrefix old new (xs ++ ys)
 AppendsPrefix-more old mid new xs ys b none =
     (b.0, (b.1.0 ++ ys, sym (append_assoc b.0 b.1.0 ys) ∙ ap (λ t. t ++ ys) b.1.1), subst (Appends old new) (append-nil b.0) (Appends-trans old mid new b.0 [] b.2 none))
 
--- what a writer took of bytes, where nothing was lost before
+-- the bytes that a writer took, if nothing was lost before
 pub WritesUnlessLost-taken : (written : Bool) (old new : Option (List ℕ)) (bytes : List ℕ) → (n : ℕ) × (n ≤ length bytes) × Appends old new (take n bytes)
     → (IsTrue written → Appends old new bytes) → WritesUnlessLost false (not written) old new bytes
 WritesUnlessLost-taken true old new bytes front whole = whole refl
@@ -40,7 +40,7 @@ WritesUnlessLost-none : (lost : Bool) (old : Option (List ℕ)) → WritesUnless
 WritesUnlessLost-none false old = Appends-nil old
 WritesUnlessLost-none true old = Appends-nil old
 
--- nothing was put yet
+-- nothing was written yet
 pub Puts-none : {E : Type 0} (contents : E → Option (List ℕ)) (a : Errors E) → Puts contents a a []
 Puts-none contents a = WritesUnlessLost-none a.has_lost (contents a.writer)
 
@@ -50,17 +50,17 @@ pub Puts-append : {E : Type 0} (contents : E → Option (List ℕ)) (a b c : Err
 Puts-append contents a b c xs ys p q =
     WritesUnlessLost-append a.has_lost b.has_lost c.has_lost (contents a.writer) (contents b.writer) (contents c.writer) xs ys p q
 
--- more would have followed
+-- a beginning is a beginning of more bytes
 AppendsPrefix-longer : (old new : Option (List ℕ)) (xs ys : List ℕ) → AppendsPrefix old new xs → AppendsPrefix old new (xs ++ ys)
 AppendsPrefix-longer old new xs ys b = (b.0, (b.1.0 ++ ys, sym (append_assoc b.0 b.1.0 ys) ∙ ap (λ t. t ++ ys) b.1.1), b.2)
 
--- what a list's first items are written as, and one more
+-- the text of a list's first items and one more
 flat_map-more : {A : Type 0} (text : A → List ℕ) (items : List A) (i : ℕ) (d : A) → i < length items
     → flat_map text (take (i + 1) items) ≡ flat_map text (take i items) ++ text (get_or items i d)
 flat_map-more text items i d lt =
     ap (flat_map text) (take_more items i d lt) ∙ (flat_map-append text (take i items) (get_or items i d ∷ []) ∙ ap (λ t. flat_map text (take i items) ++ t) (append-nil (text (get_or items i d))))
 
--- the items before one were written, and a beginning of that one
+-- the items before one were written, and a beginning of this one
 pub AppendsPrefix-item : {A : Type 0} (text : A → List ℕ) (old mid new : Option (List ℕ)) (items : List A) (i : ℕ) (d : A) → i < length items
     → Appends old mid (flat_map text (take i items)) → AppendsPrefix mid new (text (get_or items i d)) → AppendsPrefix old new (flat_map text items)
 AppendsPrefix-item text old mid new items i d lt before part =
@@ -69,13 +69,13 @@ AppendsPrefix-item text old mid new items i d lt before part =
     subst (AppendsPrefix old new) (ap (λ t. t ++ flat_map text (drop (i + 1) items)) (sym (flat_map-more text items i d lt))
     ∙ sym (flat_map-append text (take (i + 1) items) (drop (i + 1) items)) ∙ ap (flat_map text) (take-append-drop (i + 1) items)) longer
 
--- the items before one were written, and then that one
+-- the items before one were written, and then this one
 pub Appends-item : {A : Type 0} (text : A → List ℕ) (old mid new : Option (List ℕ)) (items : List A) (i : ℕ) (d : A) → i < length items
     → Appends old mid (flat_map text (take i items)) → Appends mid new (text (get_or items i d)) → Appends old new (flat_map text (take (i + 1) items))
 Appends-item text old mid new items i d lt before one =
     subst (Appends old new) (sym (flat_map-more text items i d lt)) (Appends-trans old mid new (flat_map text (take i items)) (text (get_or items i d)) before one)
 
--- the items before one, and then that one
+-- the items before one, and then this one
 pub Puts-item : {A E : Type 0} (contents : E → Option (List ℕ)) (text : A → List ℕ) (a b c : Errors E) (items : List A) (i : ℕ) (d : A) → i < length items
     → Puts contents a b (flat_map text (take i items)) → Puts contents b c (text (get_or items i d)) → Puts contents a c (flat_map text (take (i + 1) items))
 Puts-item contents text a b c items i d lt p q =

@@ -1,4 +1,4 @@
--- Connections, one after the other.
+-- Connections, one after another.
 use Rattle.std.proofs.Common.{◌≡◌, ◌∙◌, ◌+◌, ◌≤◌, ℕ, zero, suc, List, [], ◌++◌, refl, sym, ap, subst, append_assoc, append-nil, inl, inr, arith}
 use Rattle.std.specs.Prelude.{Option}
 use Rattle.sqlite.specs.State.{HasCleanDisk}
@@ -6,7 +6,7 @@ use Rattle.sqlite_trees.specs.declared.store.Store.{Ghosts}
 use Rattle.reg_service.specs.declared.service.Service.{Service}
 use Rattle.reg_service.specs.Services.{state_in}
 use Rattle.reg_service.specs.Crashes.{RecoversSpelled, ServesDurably}
-use Rattle.reg_service.proofs.FoundLists.{durable_none, durable_both}
+use Rattle.reg_service.proofs.RecoveredLists.{durable_none, durable_both}
 use Rattle.reg_http.specs.declared.serving.Ended.{Ended}
 use Rattle.reg_http.specs.Transitions.{StoredTransition}
 use Rattle.reg_http.specs.Output.{exchanges}
@@ -20,11 +20,11 @@ use Rattle.reg_jobs.specs.Outcomes.{line_of}
 use Rattle.reg_jobs.proofs.LineLemmas.{Puts-append, Puts-none}
 
 module _ {S : Type 0} {g : Ghosts S} where
-  -- no connection came yet
+  -- no connection yet
   pub StoredTransition-none : (s : Service S g) → RecoversSpelled (state_in s) → StoredTransition (state_in s) (state_in s) (ServesUpTo 0 s s)
   StoredTransition-none s spelled was spells = record { stored = was; spells = spells; holds = record { exchanges = []; are = refl; serves = durable_none s was [] refl spelled } }
 
-  -- none was accepted
+  -- no connection was accepted
   pub StoredTransition-unaccepted : (s : Service S g) → RecoversSpelled (state_in s) → StoredTransition (state_in s) (state_in s) (ServesNext s s)
   StoredTransition-unaccepted s spelled was spells = record { stored = was; spells = spells; holds = record { exchanges = []; are = inl refl; serves = durable_none s was [] refl spelled } }
 
@@ -61,7 +61,7 @@ module _ {S : Type 0} {g : Ghosts S} where
         });
       }
 
--- so many lines, and then so many more
+-- two numbers of lines
 accept_failure_lines-add : (a b : ℕ) → accept_failure_lines a ++ accept_failure_lines b ≡ accept_failure_lines (a + b)
 accept_failure_lines-add a zero =
     let e : a + 0 ≡ a = omega arith in
@@ -71,11 +71,11 @@ accept_failure_lines-add a (suc b) =
     sym (append_assoc (accept_failure_lines a) (accept_failure_lines b) (line_of CannotAccept []))
     ∙ (ap (λ lines. lines ++ line_of CannotAccept []) (accept_failure_lines-add a b) ∙ ap accept_failure_lines e)
 
--- nothing was put
+-- nothing was written
 pub ReportsAcceptFailures-none : {E : Type 0} (contents : E → Option (List ℕ)) (most : ℕ) (errors : Errors E) → ReportsAcceptFailures contents most errors errors
 ReportsAcceptFailures-none contents most errors = record { times = 0; within = omega arith; puts = Puts-none contents errors }
 
--- the line was put once
+-- the line was written once
 pub ReportsAcceptFailures-once : {E : Type 0} (contents : E → Option (List ℕ)) (old new : Errors E) → Puts contents old new (line_of CannotAccept []) → ReportsAcceptFailures contents 1 old new
 ReportsAcceptFailures-once contents old new puts = record { times = 1; within = omega arith; puts = puts }
 

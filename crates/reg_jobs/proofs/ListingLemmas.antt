@@ -1,4 +1,4 @@
--- A listing that was printed, by what the printing answered.
+-- The output of a listing, by the result of printing it.
 use Rattle.std.proofs.Common.{◌≡◌, ◌≢◌, ◌⊎◌, inl, inr, ◌∷◌, ℕ, List, sym, subst}
 use Rattle.std.specs.Prelude.{Option, Result, Ok, Err, OnOk, IfErr}
 use Rattle.std.specs.Io.KnownBytes.{Appends, Keeps}
@@ -15,7 +15,7 @@ use Rattle.reg_jobs.specs.declared.listings.ListOutcome.{ListOutcome}
 use Rattle.reg_jobs.specs.declared.listings.ListOutcome.TheVariants as listed
 use Rattle.reg_jobs.specs.Listings.{IfUnread, ListsAs, listed_as}
 
--- all of it was written, or so many lines, unless a write failed
+-- all of it was written, or some lines, unless a write failed
 pub ListsAs-printed : (kind : Listing) (g : Registry) (writer writer' : Option (List ℕ)) (printed : Result (Unit {0}) ReportError)
     → OnOk printed (Appends writer writer' (listing kind g)) → (printed ≢ Err Write → WritesPrefix (header kind ∷ listing_lines kind g) writer writer')
     → ListsAs kind g writer writer' (listed_as printed)
@@ -24,7 +24,7 @@ ListsAs-printed kind g writer writer' (Err (Store error)) whole begun = begun (�
 ListsAs-printed kind g writer writer' (Err Write) whole begun = tt
 ListsAs-printed kind g writer writer' (Err OutOfMemory) whole begun = begun (λ same. cc)
 
--- what was flushed is as it was written
+-- flushing changes nothing of the output
 ListsAs-kept : (kind : Listing) (g : Registry) (old mid new : Option (List ℕ)) (outcome : ListOutcome) → Keeps mid new → ListsAs kind g old mid outcome → ListsAs kind g old new outcome
 ListsAs-kept kind g old mid new listed.Whole kept lists = Appends-kept old mid new _ lists kept
 ListsAs-kept kind g old mid new (listed.Unread error) kept lists = (lists.0, Appends-kept old mid new _ lists.1 kept)
@@ -36,7 +36,7 @@ pub ListsAs-flushed : (kind : Listing) (g : Registry) (old mid new : Option (Lis
 ListsAs-flushed kind g old mid new outcome flushed kept (inl same) lists = subst (ListsAs kind g old new) (sym same) (ListsAs-kept kind g old mid new outcome kept lists)
 ListsAs-flushed kind g old mid new outcome flushed kept (inr failed) lists = subst (ListsAs kind g old new) (sym failed) tt
 
--- what holds of the error that the store answered, where the registry couldn't be read
+-- what is true of the store's error, if the registry couldn't be read
 IfUnread-printed : (P : StoreError → Type 0) (printed : Result (Unit {0}) ReportError) → IfErr (store_result printed) P → IfUnread (listed_as printed) P
 IfUnread-printed P (Ok done) holds = tt
 IfUnread-printed P (Err (Store error)) holds = holds

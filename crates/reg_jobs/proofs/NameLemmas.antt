@@ -1,4 +1,4 @@
--- Names of files, as a line on standard error shows them.
+-- The names of files, as standard error shows them.
 use Rattle.std.proofs.Common.{◌≡◌, ℕ, ◌≤◌, Bool, true, false, ◌||◌, List, [], ◌∷◌, refl, sym, ap, ◌∙◌, subst, arith, inl, inr, zero-add}
 use Rattle.std.specs.Prelude.{if◌then◌else◌}
 use Rattle.std.specs.List.{list_any, range_with_len}
@@ -12,7 +12,7 @@ use Rattle.reg_jobs.specs.Names.{HasNoControl, escape_of, shown_name, shown_byte
 shows_control : ℕ → Bool
 shows_control byte = list_any is_ascii_control (shown_byte byte)
 
--- none of ASCII is
+-- no ASCII byte is
 ascii_shown : list_any shows_control (range_with_len 0 128) ≡ false
 unfolding shows_control
 ascii_shown = refl
@@ -21,7 +21,7 @@ ascii_shown = refl
 past_ascii : (byte : ℕ) → 128 ≤ byte → is_ascii_control byte ≡ false
 past_ascii byte le = grind arith
 
--- whatever a byte is shown as
+-- every byte
 shown_byte-HasNoControl : (byte : ℕ) → HasNoControl (shown_byte byte)
 unfolding shows_control
 shown_byte-HasNoControl byte =

@@ -1,4 +1,4 @@
--- The registry that a database gives, and why it gives none.
+-- The registry of a database, or why it has none.
 use Rattle.std.specs.Prelude.{◌≡◌, ◌≢◌, ◌⊎◌, ℕ, List, Option, Some, IsTrue}
 use Rattle.sqlite.specs.Held.{Held, state}
 use Rattle.sqlite.specs.State.{State, HasCleanDisk}
@@ -21,13 +21,13 @@ use Rattle.reg_http.specs.declared.serving.Ended.{Ended}
 use Rattle.reg_http.specs.Transitions.{StoredTransition}
 use Rattle.reg_http.specs.Sessions.{Session}
 
--- a connection comes back, and this holds of what it shows
+-- a connection is returned, and if its disk is clean, P is true of its state
 pub record ReturnsConnection {S : Type 0} (g : Ghosts S) (back : Option (Held S)) (P : State → Type 0) : Type 0 where
   pub connection : Held S
   pub given : back ≡ Some connection
   pub holds : HasCleanDisk (state g connection) → P (state g connection)
 
--- a session of a service over the store, whose connection comes back
+-- a session of a service over the store, after which the connection is returned
 pub record ServesStore {S : Type 0} {g : Ghosts S} (store : Store S g) (back : Held S) (reader reader' writer writer' : Option (List ℕ)) (ended : Ended) : Type 0 where
   pub before : Service S g
   pub after : Service S g
@@ -35,31 +35,31 @@ pub record ServesStore {S : Type 0} {g : Ghosts S} (store : Store S g) (back : H
   pub ends : back ≡ connection_of (store_in after)
   pub leads : HasCleanDisk (state_in after) → StoredTransition (state_in before) (state_in after) (λ was now. Session (ServesDurably before after was now) reader reader' writer writer' ended)
 
--- the database was empty, and its tables spell a new registry, which keeps no reply and has no evidence
+-- the database was empty, and its tables now spell a new registry, without kept replies or evidence
 pub record IsCreatedIn (old new : State) : Type 0 where
   pub empty : ¬ (old.now.schema ≢ no_schema)
   pub spells : IsOpenOver new new_stored
 
--- why no registry was made: a database that isn't empty is told so, over an empty one memory was refused or there was a fault of the disk, and nothing is
--- committed, nor left by a crash but after `Disk`
+-- why no registry was created: the database isn't empty (`NotARegistry`), or an allocation or the disk failed. Nothing is committed, and a
+-- crash leaves nothing new unless the error is `Disk`
 pub record FailsToCreate (old new : State) (error : StoreError) : Type 0 where
   pub full : old.now.schema ≢ no_schema → error ≡ NotARegistry
   pub fault : old.now.schema ≡ no_schema → IsFaultBy old new error
   pub leaves : KeepsConnection old new error
 
--- Why a database gave no registry. Where its tables spell one, memory was refused or there was a fault of the disk. Another layout is told,
--- and with its own number; `Disk` is for a fault of the disk, whatever the database holds. Nothing is committed. A crash leaves what it left before, or the
--- tables with their index; and always what they spelled.
+-- Why no registry was opened. If the tables spell one, an allocation or the disk failed. Another layout is reported with its number. `Disk`
+-- always has a disk fault as its cause. Nothing is committed. A crash leaves what it could leave before, or the tables with their index;
+-- either way what they spelled.
 pub record FailsToOpen (old new : State) (error : StoreError) : Type 0 where
   pub fails : IsOpenFailure old new error
   pub leaves : KeepsConnection old new error
   pub found : CrashKeepsStored old new
   pub crash : (db : Trees) → new.may_leave db → old.may_leave db ⊎ IsIndexed old.now db
 
--- a transaction was under way, or no registry was made
+-- a transaction was open, or no registry was created
 abbrev pub CreatesNone : State → State → StoreError → Type 0
 CreatesNone old new error = (IsTrue old.in_transaction × (error ≡ Disk)) ⊎ FailsToCreate old new error
 
--- a transaction was under way, or no registry was found
+-- a transaction was open, or no registry was opened
 abbrev pub OpensNone : State → State → StoreError → Type 0
 OpensNone old new error = (IsTrue old.in_transaction × (error ≡ Disk)) ⊎ FailsToOpen old new error

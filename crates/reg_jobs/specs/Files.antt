@@ -14,18 +14,18 @@ use Rattle.reg_jobs.specs.declared.files.CheckOutcome.TheVariants.{Verdict, Read
 use Rattle.avro_resolve.specs.Resolution.{Resolves}
 use Rattle.reg_http.specs.Output.{IsPrefix}
 
--- the file, if it could be read, holds this schema: its bytes are a text that denotes it
+-- the file could be read, and its bytes are a text that denotes this schema
 abbrev pub FileHolds : Option (List ℕ) → List NodeView → Type 0
 FileHolds None nodes = ⊥
 FileHolds (Some bytes) nodes = IsUtf8 bytes × TextDenotes bytes nodes
 
--- why a file gives no schema
+-- why a file has no schema
 abbrev pub FailsAs : Option (List ℕ) → FileFault → Type 0
 FailsAs file CannotRead = file ≡ None
 FailsAs file NotSchema = IsSome file × ((nodes : List NodeView) → ¬ (FileHolds file nodes))
 FailsAs file OutOfMemory = ⊤
 
--- a schema's identity text, and a line end
+-- a schema's identity text and a line end
 abbrev pub identity_line : List NodeView → List ℕ
 identity_line nodes = identity nodes ++ 10 ∷ []
 
@@ -49,7 +49,7 @@ PrintsVerdict good old new (Writer fault) = ⊥
 PrintsVerdict good old new CheckOutOfMemory = ⊥
 PrintsVerdict good old new VerdictNotWritten = (part : List ℕ) × IsPrefix part (verdict_line good) × Appends old new part
 
--- the schemas in the reader's and the writer's file, and whether the one reads what the other writes
+-- the schemas in the reader's and the writer's file, and whether the reader's can read what the writer's writes
 pub record Judges (reader_file writer_file : Option (List ℕ)) (good : Bool) : Type 0 where
   pub reader : List NodeView
   pub writer : List NodeView
@@ -57,7 +57,7 @@ pub record Judges (reader_file writer_file : Option (List ℕ)) (good : Bool) : 
   pub writer_holds : FileHolds writer_file writer
   pub verdict : IsTrue good ↔ Resolves writer reader
 
--- what a check of two files came to, and what was printed
+-- the outcome of a check of two files, and what was printed
 abbrev pub ChecksAs : Option (List ℕ) → Option (List ℕ) → Option (List ℕ) → Option (List ℕ) → CheckOutcome → Type 0
 ChecksAs reader_file writer_file old new (Verdict good) = Judges reader_file writer_file good × Appends old new (verdict_line good)
 ChecksAs reader_file writer_file old new (Reader fault) = FailsAs reader_file fault × Appends old new []

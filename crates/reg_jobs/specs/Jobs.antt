@@ -39,7 +39,7 @@ use Rattle.reg_jobs.specs.declared.listings.ListOutcome.{ListOutcome}
 use Rattle.reg_jobs.specs.Outcomes.{result_of, status_of, PrintsFault}
 use Rattle.reg_http.specs.Sessions.{Session}
 
--- the file that a job names, the reader's of two, or an empty name
+-- the file that a job names; of two files the reader's; an empty name if there is none
 abbrev pub file_of : Job → List ℕ
 file_of (Run None) = []
 file_of (Run (Some file)) = string_bytes file
@@ -49,7 +49,7 @@ file_of (ListJob database kind) = string_bytes database
 file_of (Migrate database) = string_bytes database
 file_of (Audit database) = string_bytes database
 
--- the writer's file of a job that names two, or the one that it names
+-- the writer's file of a job that names two, otherwise the job's file
 abbrev pub writer_file_of : Job → List ℕ
 writer_file_of (Run database) = file_of (Run database)
 writer_file_of (TextJob file) = string_bytes file
@@ -58,7 +58,7 @@ writer_file_of (ListJob database kind) = string_bytes database
 writer_file_of (Migrate database) = string_bytes database
 writer_file_of (Audit database) = string_bytes database
 
--- what a job answers: the program's status, or a fault and the file that it is on
+-- the result of a job: the program's status, or a fault and its file
 abbrev pub job_result : Job → Outcome → Result ℕ (Fault × List ℕ)
 job_result job outcome = result_of outcome (file_of job) (writer_file_of job)
 
@@ -78,7 +78,7 @@ text_at OrphanedLog position = None
 text_at (Fresh connection) position = None
 text_at (Database connection) position = None
 
--- the connection that was opened, if there is one
+-- the opened connection, or `None`
 abbrev pub connection_in : {S : Type 0} → Opened S → Option (Held S)
 connection_in Nothing = None
 connection_in (Texts texts) = None
@@ -95,7 +95,7 @@ pub record RunsInMemory (reader reader' writer writer' : Option (List ℕ)) (out
   pub session : Session (λ xs. Serves new_stored (served xs) now) reader reader' writer writer' ended
   pub outcome_is : outcome ≡ SessionEnded ended
 
--- the registry of what was opened: the new one that was made in an empty database, or the one that the tables of a database spelled
+-- the registry of what was opened: it was created in an empty database, or the tables of a database spelled it
 abbrev pub HasRegistry : {S : Type 0} (g : Ghosts S) → Opened S → State → Type 0
 HasRegistry g Nothing new = ⊥
 HasRegistry g (Texts texts) new = ⊥
@@ -105,7 +105,7 @@ HasRegistry g OrphanedLog new = ⊥
 HasRegistry g (Fresh old) new = IsCreatedIn (state g old) new
 HasRegistry g (Database old) new = OpensOver (state g old) new
 
--- why what was opened has no registry, and the connection that comes back
+-- why what was opened has no registry, and the connection that is returned
 abbrev pub LacksRegistry : {S : Type 0} (g : Ghosts S) → Opened S → Option (Held S) → StoreError → Type 0
 LacksRegistry g Nothing back error = (back ≡ None) × (error ≡ Disk)
 LacksRegistry g (Texts texts) back error = (back ≡ None) × (error ≡ Disk)
@@ -115,7 +115,7 @@ LacksRegistry g OrphanedLog back error = (back ≡ None) × (error ≡ NotARegis
 LacksRegistry g (Fresh old) back error = ReturnsConnection g back (λ new. CreatesNone (state g old) new error)
 LacksRegistry g (Database old) back error = ReturnsConnection g back (λ new. OpensNone (state g old) new error)
 
--- what is stored as a session begins, by what was opened
+-- the stored state when a session begins, by what was opened
 abbrev pub BeginsWith : {S : Type 0} (g : Ghosts S) → Opened S → Stored → Type 0
 BeginsWith g Nothing was = ⊥
 BeginsWith g (Texts texts) was = ⊥
@@ -125,14 +125,14 @@ BeginsWith g OrphanedLog was = ⊥
 BeginsWith g (Fresh old) was = ¬ ((state g old).now.schema ≢ no_schema) × (was ≡ new_stored)
 BeginsWith g (Database old) was = SpellsUnopened (state g old).now was
 
--- a session of a service led from that to what the tables spell, and a crash leaves all that was acknowledged
+-- a session of a service led from that state to what the tables spell, and a crash preserves what was acknowledged
 pub record SessionFrom {S : Type 0} (g : Ghosts S) (opened : Opened S) (before after : Service S g) (reader reader' writer writer' : Option (List ℕ)) (ended : Ended) : Type 0 where
   pub was : Stored
   pub begins : BeginsWith g opened was
   pub is_open : IsOpenOver (state_in before) was
   pub leads : StoredSatisfies (state_in after) (λ now. Session (ServesDurably before after was now) reader reader' writer writer' ended)
 
--- so did a session over what was opened, and its connection comes back
+-- such a session over what was opened, after which the connection is returned
 pub record SessionOver {S : Type 0} (g : Ghosts S) (opened : Opened S) (back : Option (Held S)) (reader reader' writer writer' : Option (List ℕ)) (ended : Ended) : Type 0 where
   pub before : Service S g
   pub after : Service S g
@@ -145,7 +145,7 @@ pub record RunsWithoutRegistry {S : Type 0} (g : Ghosts S) (opened : Opened S) (
   pub unwritten : writer' ≡ writer
   pub lacks : LacksRegistry g opened back error
 
--- how a session over what was opened comes out
+-- the outcome of a session over what was opened
 abbrev pub RunsOn : {S : Type 0} (g : Ghosts S) → Opened S → Option (Held S) → Option (List ℕ) → Option (List ℕ) → Option (List ℕ) → Option (List ℕ) → Outcome → Type 0
 RunsOn g opened back reader reader' writer writer' (SessionEnded ended) = SessionOver g opened back reader reader' writer writer' ended
 RunsOn g opened back reader reader' writer writer' (Unopened error) = RunsWithoutRegistry g opened back reader reader' writer writer' error
@@ -156,12 +156,12 @@ RunsOn g opened back reader reader' writer writer' (ListEnded listed) = ⊥
 RunsOn g opened back reader reader' writer writer' (Migrated printed) = ⊥
 RunsOn g opened back reader reader' writer writer' (Audited audited) = ⊥
 
--- how a session comes out that is asked for: over what was opened where the job names a file, and else over a new registry in memory
+-- the outcome of `run`: a session over what was opened if the job names a file, otherwise over a new registry in memory
 abbrev pub RunsJob : {S : Type 0} (g : Ghosts S) → Opened S → Bool → Option (Held S) → Option (List ℕ) → Option (List ℕ) → Option (List ℕ) → Option (List ℕ) → Outcome → Type 0
 RunsJob g opened false back reader reader' writer writer' outcome = (back ≡ connection_in opened) × RunsInMemory reader reader' writer writer' outcome
 RunsJob g opened true back reader reader' writer writer' outcome = RunsOn g opened back reader reader' writer writer' outcome
 
--- what was opened is a database, and this holds of it
+-- a database was opened, and P is true of its state
 abbrev pub OverDatabase : {S : Type 0} (g : Ghosts S) → Opened S → (State → Type 0) → Type 0
 OverDatabase g Nothing P = ⊥
 OverDatabase g (Texts texts) P = ⊥
@@ -171,7 +171,8 @@ OverDatabase g OrphanedLog P = ⊥
 OverDatabase g (Fresh old) P = ⊥
 OverDatabase g (Database old) P = P (state g old)
 
--- why a job that only reads finds no registry in what was opened, and the connection that comes back: it makes none in an empty database, which comes back as it is
+-- why a job that only reads finds no registry in what was opened, and the connection that is returned. It creates none in an empty
+-- database, which is returned unchanged
 abbrev pub FindsNone : {S : Type 0} (g : Ghosts S) → Opened S → Option (Held S) → StoreError → Type 0
 FindsNone g Nothing back error = LacksRegistry g Nothing back error
 FindsNone g (Texts texts) back error = LacksRegistry g (Texts texts) back error
@@ -194,7 +195,7 @@ pub record WritesNothing {S : Type 0} (g : Ghosts S) (opened : Opened S) (back :
   pub unwritten : writer' ≡ writer
   pub lacks : FindsNone g opened back error
 
--- how a listing of what was opened comes out
+-- the outcome of a listing of what was opened
 abbrev pub ListsOn : {S : Type 0} (g : Ghosts S) → Opened S → ListingName → Option (Held S) → Option (List ℕ) → Option (List ℕ) → Outcome → Type 0
 ListsOn g opened kind back writer writer' (SessionEnded ended) = ⊥
 ListsOn g opened kind back writer writer' (Unopened error) = WritesNothing g opened back writer writer' error
@@ -205,14 +206,14 @@ ListsOn g opened kind back writer writer' (ListEnded listed) = OverDatabase g op
 ListsOn g opened kind back writer writer' (Migrated printed) = ⊥
 ListsOn g opened kind back writer writer' (Audited audited) = ⊥
 
--- an audit of what a database has stored, which the tables still spell
+-- an audit of the stored state of a database, which the tables still spell
 pub record AuditsOver (old : State) (writer writer' : Option (List ℕ)) (audited : AuditOutcome) (new : State) : Type 0 where
   pub was : Stored
   pub begins : SpellsUnopened old.now was
   pub audits : AuditsAs was writer writer' audited
   pub spells : SpellsWhileOpen new was
 
--- how an audit of what was opened comes out
+-- the outcome of an audit of what was opened
 abbrev pub AuditsOn : {S : Type 0} (g : Ghosts S) → Opened S → Option (Held S) → Option (List ℕ) → Option (List ℕ) → Outcome → Type 0
 AuditsOn g opened back writer writer' (SessionEnded ended) = ⊥
 AuditsOn g opened back writer writer' (Unopened error) = WritesNothing g opened back writer writer' error
@@ -223,11 +224,12 @@ AuditsOn g opened back writer writer' (ListEnded listed) = ⊥
 AuditsOn g opened back writer writer' (Migrated printed) = ⊥
 AuditsOn g opened back writer writer' (Audited audited) = OverDatabase g opened (λ old. ReturnsConnection g back (AuditsOver old writer writer' audited))
 
--- nothing was opened that could be moved, and nothing was written
+-- nothing was opened that could be migrated, and nothing was written
 abbrev pub MigratesNothing : Option (List ℕ) → Option (List ℕ) → StoreError → Outcome → Type 0
 MigratesNothing writer writer' error outcome = (writer' ≡ writer) × (outcome ≡ Unopened error)
 
--- how a move of what was opened comes out, and the connection that comes back: it makes no registry in an empty database, which comes back as it is
+-- the outcome of a migration of what was opened, and the connection that is returned. It creates no registry in an empty database, which is
+-- returned unchanged
 abbrev pub MigratesOn : {S : Type 0} (g : Ghosts S) → Opened S → Option (Held S) → Option (List ℕ) → Option (List ℕ) → Outcome → Type 0
 MigratesOn g Nothing back writer writer' outcome = (back ≡ None) × MigratesNothing writer writer' Disk outcome
 MigratesOn g (Texts texts) back writer writer' outcome = (back ≡ None) × MigratesNothing writer writer' Disk outcome
@@ -237,19 +239,19 @@ MigratesOn g OrphanedLog back writer writer' outcome = (back ≡ None) × Migrat
 MigratesOn g (Fresh old) back writer writer' outcome = (back ≡ Some old) × MigratesNothing writer writer' NotARegistry outcome
 MigratesOn g (Database old) back writer writer' outcome = ReturnsConnection g back (λ new. MigratesAs (state g old) new writer writer' outcome)
 
--- a schema's text was to be printed
+-- the outcome of `text`, and what was printed
 pub record PrintsText (file writer writer' : Option (List ℕ)) (outcome : Outcome) : Type 0 where
   pub printed : TextOutcome
   pub prints : PrintsAs file writer writer' printed
   pub outcome_is : outcome ≡ TextEnded printed
 
--- two schemas were to be checked
+-- the outcome of `check`, and what was printed
 pub record ChecksFiles (reader_file writer_file writer writer' : Option (List ℕ)) (outcome : Outcome) : Type 0 where
   pub checked : CheckOutcome
   pub checks : ChecksAs reader_file writer_file writer writer' checked
   pub outcome_is : outcome ≡ CheckEnded checked
 
--- how a job comes out, by its kind; one that isn't a session reads nothing
+-- the outcome of a job, by its kind. Only a session reads its input
 abbrev pub HasOutcome : {S : Type 0} (g : Ghosts S) → Job → Opened S → Option (Held S) → Option (List ℕ) → Option (List ℕ) → Option (List ℕ) → Option (List ℕ) → Outcome → Type 0
 HasOutcome g (Run database) opened back reader reader' writer writer' outcome = RunsJob g opened (is_some database) back reader reader' writer writer' outcome
 HasOutcome g (TextJob file) opened back reader reader' writer writer' outcome = (back ≡ connection_in opened) × (reader' ≡ reader) × PrintsText (text_at opened 0) writer writer' outcome
@@ -258,7 +260,7 @@ HasOutcome g (ListJob database kind) opened back reader reader' writer writer' o
 HasOutcome g (Migrate database) opened back reader reader' writer writer' outcome = (reader' ≡ reader) × MigratesOn g opened back writer writer' outcome
 HasOutcome g (Audit database) opened back reader reader' writer writer' outcome = (reader' ≡ reader) × AuditsOn g opened back writer writer' outcome
 
--- a job that was done, with the connection that comes back, its line on standard error and the status
+-- a job that was done: its outcome, the connection that is returned, its line on standard error, and the status
 pub record DoesJob {S E : Type 0} (g : Ghosts S) (contents : E → Option (List ℕ)) (job : Job) (opened : Opened S) (back : Option (Held S))
     (reader reader' writer writer' : Option (List ℕ)) (errors errors' : Errors E) (status : ℕ) : Type 0 where
   pub outcome : Outcome

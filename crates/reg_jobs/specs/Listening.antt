@@ -1,4 +1,4 @@
--- Connections, one after the other.
+-- Connections, one after another.
 use Rattle.std.specs.Prelude.{◌≡◌, ◌⊎◌, ◌≤◌, ℕ, zero, suc, List, [], ◌++◌, Option}
 use Rattle.sqlite_trees.specs.declared.store.Store.{Ghosts}
 use Rattle.reg_core.specs.Stored.{Stored}
@@ -12,7 +12,7 @@ use Rattle.reg_jobs.specs.declared.outcome.Fault.TheVariants.{CannotAccept}
 use Rattle.reg_jobs.specs.Errors.{Puts}
 use Rattle.reg_jobs.specs.Outcomes.{line_of}
 
--- a whole session with these exchanges, whatever was read and written
+-- a whole session with these exchanges, for some input and output
 pub record IsSession (xs : List Exchange) : Type 0 where
   pub reader : Option (List ℕ)
   pub reader' : Option (List ℕ)
@@ -25,31 +25,31 @@ pub record IsSession (xs : List Exchange) : Type 0 where
 abbrev pub IsConnection : List Exchange → Type 0
 IsConnection xs = (xs ≡ []) ⊎ IsSession xs
 
--- the exchanges of so many connections, in order
+-- the exchanges of this number of connections, in order
 abbrev pub AreConnections : ℕ → List Exchange → Type 0
 AreConnections zero xs = xs ≡ []
 AreConnections (suc count) xs = (before : List Exchange) × (last : List Exchange) × (xs ≡ before ++ last) × AreConnections count before × IsConnection last
 
--- such exchanges were carried out in order, from what was stored to what is, and a crash leaves all that was acknowledged
+-- exchanges with the property `Are` lead from `was` to `now`, and a crash preserves every acknowledged one
 pub record ServesSome (Are : List Exchange → Type 0) {S : Type 0} {g : Ghosts S} (old new : Service S g) (was now : Stored) : Type 0 where
   pub exchanges : List Exchange
   pub are : Are exchanges
   pub serves : ServesDurably old new was now exchanges
 
--- a connection
+-- one connection
 abbrev pub ServesNext : {S : Type 0} {g : Ghosts S} → Service S g → Service S g → Stored → Stored → Type 0
 ServesNext old new = ServesSome IsConnection old new
 
--- so many connections, one after the other
+-- this number of connections, one after another
 abbrev pub ServesUpTo : {S : Type 0} {g : Ghosts S} → ℕ → Service S g → Service S g → Stored → Stored → Type 0
 ServesUpTo count old new = ServesSome (AreConnections count) old new
 
--- the line that no connection can be accepted, so many times
+-- the line that no connection can be accepted, this number of times
 abbrev pub accept_failure_lines : ℕ → List ℕ
 accept_failure_lines zero = []
 accept_failure_lines (suc count) = accept_failure_lines count ++ line_of CannotAccept []
 
--- only that line was written, at most so many times
+-- nothing but that line was written, at most `most` times
 pub record ReportsAcceptFailures {E : Type 0} (contents : E → Option (List ℕ)) (most : ℕ) (old new : Errors E) : Type 0 where
   pub times : ℕ
   pub within : times ≤ most

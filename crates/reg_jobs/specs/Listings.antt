@@ -1,4 +1,4 @@
--- A listing of a registry, printed.
+-- The output of a listing.
 use Rattle.std.specs.Prelude.{◌∷◌, ℕ, List, Option, Result, Ok, Err}
 use Rattle.std.specs.Io.KnownBytes.{Appends}
 use Rattle.reg_core.specs.Registry.{Registry}
@@ -14,28 +14,28 @@ use Rattle.reg_cli.specs.declared.task.ListingName.TheVariants.{Subjects as Word
 use Rattle.reg_jobs.specs.declared.listings.ListOutcome.{ListOutcome}
 use Rattle.reg_jobs.specs.declared.listings.ListOutcome.TheVariants.{Whole, Unread, NotWritten, OutOfMemory}
 
--- what a word of the command line lists
+-- the listing that an argument names
 abbrev pub table_of : Word → Listing
 table_of WordSubjects = Subjects
 table_of WordVersions = Versions
 table_of WordSchemas = Schemas
 
--- how a listing ended, by what its printing answered
+-- the outcome of a listing, by the result of printing it
 abbrev pub listed_as : Result (Unit {0}) ReportError → ListOutcome
 listed_as (Ok done) = Whole
 listed_as (Err (Store error)) = Unread error
 listed_as (Err Write) = NotWritten
 listed_as (Err ReportOutOfMemory) = OutOfMemory
 
--- A listing of the registry, by how it ended: so many whole lines, from the header on, where the registry couldn't be read to the end, or memory was
--- refused. What was written before a failed write isn't said.
+-- The output of a listing, by its outcome. If the registry couldn't be read to the end, or an allocation failed, some whole lines were
+-- written, from the header on. After a failed write nothing is said of the output.
 abbrev pub ListsAs : Listing → Registry → Option (List ℕ) → Option (List ℕ) → ListOutcome → Type 0
 ListsAs kind g writer writer' Whole = Appends writer writer' (listing kind g)
 ListsAs kind g writer writer' (Unread error) = WritesPrefix (header kind ∷ listing_lines kind g) writer writer'
 ListsAs kind g writer writer' NotWritten = Unit {0}
 ListsAs kind g writer writer' OutOfMemory = WritesPrefix (header kind ∷ listing_lines kind g) writer writer'
 
--- what holds of the store's error, where the registry couldn't be read
+-- `P` is true of the store's error, if the registry couldn't be read
 abbrev pub IfUnread : ListOutcome → (StoreError → Type 0) → Type 0
 IfUnread Whole P = Unit {0}
 IfUnread (Unread error) P = P error

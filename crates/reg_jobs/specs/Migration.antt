@@ -1,4 +1,4 @@
--- A registry that is moved to layout 2, and what is printed of it.
+-- A migration to layout 2, and its output.
 use Rattle.std.specs.Prelude.{◌≡◌, ◌⊎◌, ℕ, List, ◌++◌, codes, Option, IsTrue}
 use Rattle.std.specs.Fmt.{decimal}
 use Rattle.std.specs.Io.KnownBytes.{Appends}
@@ -16,27 +16,28 @@ use Rattle.reg_jobs.specs.declared.outcome.Outcome.TheVariants.{Unopened, Migrat
 use Rattle.reg_jobs.specs.declared.migration.MigrateOutcome.{MigrateOutcome}
 use Rattle.reg_jobs.specs.declared.migration.MigrateOutcome.TheVariants.{Whole, NotWritten}
 
--- how many versions were kept
+-- the line with the number of versions that were kept
 abbrev pub kept_line : ℕ → List ℕ
 kept_line count = codes "layout 2: " ++ (decimal count ++ codes " versions kept\n")
 
--- layout 2 was there
+-- the line for a database that has layout 2
 abbrev pub nothing_line : List ℕ
 nothing_line = codes "layout 2: nothing to do\n"
 
--- a line was printed, whole or a beginning of it
+-- a line was printed, in full or a beginning of it
 abbrev pub PrintsLine : List ℕ → Option (List ℕ) → Option (List ℕ) → MigrateOutcome → Type 0
 PrintsLine line old new Whole = Appends old new line
 PrintsLine line old new NotWritten = AppendsPrefix old new line
 
--- the tables of layout 1 spelled a registry, those of layout 2 spell it now, and so many versions were told
+-- the tables of layout 1 spelled a registry, those of layout 2 spell it now, and the number of its versions was printed
 pub record MigratesPrinting (old new : State) (writer writer' : Option (List ℕ)) (printed : MigrateOutcome) : Type 0 where
   pub count : ℕ
   pub moves : Migrates old new count
   pub prints : PrintsLine (kept_line count) writer writer' printed
 
--- Why a database wasn't moved: where its tables spell a registry in layout 1, for memory or the disk alone, and a newer layout is told, with its own
--- number. Nothing is committed; a crash leaves what it left before, or perhaps layout 2 where layout 1 spelled a registry, and always what that spelled.
+-- Why a database wasn't migrated. If its tables spell a registry in layout 1, an allocation or the disk failed. A newer layout is reported
+-- with its number. Nothing is committed. A crash leaves what it could leave before, or layout 2 if layout 1 spelled a registry; either way
+-- what it spelled.
 pub record FailsToMigrate (old new : State) (error : MigrateError) : Type 0 where
   pub reason : IsReasonOver old new error
   pub only_reads : OnlyReads old new
@@ -44,7 +45,8 @@ pub record FailsToMigrate (old new : State) (error : MigrateError) : Type 0 wher
   pub found : CrashKeepsStored old new
   pub crash : (db : Trees) → new.may_leave db → old.may_leave db ⊎ RecoversToMigrated old.now db
 
--- how a database comes out that wasn't moved: layout 2 has nothing to do, which is printed, and else nothing is
+-- the outcome for a database that wasn't migrated. If it has layout 2, a line says that there is nothing to do; otherwise nothing is
+-- printed
 abbrev pub PrintsUnmigrated : MigrateError → Option (List ℕ) → Option (List ℕ) → Outcome → Type 0
 PrintsUnmigrated migrating.AlreadyNew writer writer' outcome = (printed : MigrateOutcome) × (outcome ≡ Migrated printed) × PrintsLine nothing_line writer writer' printed
 PrintsUnmigrated migrating.Memory writer writer' outcome = (outcome ≡ Unopened Memory) × (writer' ≡ writer)
@@ -52,7 +54,7 @@ PrintsUnmigrated migrating.Disk writer writer' outcome = (outcome ≡ Unopened D
 PrintsUnmigrated migrating.NotARegistry writer writer' outcome = (outcome ≡ Unopened NotARegistry) × (writer' ≡ writer)
 PrintsUnmigrated (migrating.NewerLayout number) writer writer' outcome = (outcome ≡ Unopened (NewerLayout number)) × (writer' ≡ writer)
 
--- a database was moved, with its line, or wasn't
+-- a database was migrated, and its line was printed
 pub record IsMigrated (old new : State) (writer writer' : Option (List ℕ)) (outcome : Outcome) : Type 0 where
   pub printed : MigrateOutcome
   pub outcome_is : outcome ≡ Migrated printed
@@ -63,13 +65,13 @@ pub record IsNotMigrated (old new : State) (writer writer' : Option (List ℕ)) 
   pub fails : FailsToMigrate old new error
   pub reports : PrintsUnmigrated error writer writer' outcome
 
--- a transaction was under way, and nothing was done
+-- a transaction was open, and nothing was done
 pub record IsBusy (old : State) (writer writer' : Option (List ℕ)) (outcome : Outcome) : Type 0 where
   pub busy : IsTrue old.in_transaction
   pub outcome_is : outcome ≡ Unopened Disk
   pub unwritten : writer' ≡ writer
 
--- what became of a database that was to be moved, and what was printed
+-- the outcome of a migration of a database, and what was printed
 abbrev pub MigratesAs : State → State → Option (List ℕ) → Option (List ℕ) → Outcome → Type 0
 MigratesAs old new writer writer' outcome =
     IsMigrated old new writer writer' outcome ⊎ (IsNotMigrated old new writer writer' outcome ⊎ IsBusy old writer writer' outcome)

@@ -1,13 +1,13 @@
--- The names of files, as a line on standard error shows them.
+-- The names of files, as standard error shows them.
 use Rattle.std.specs.Prelude.{◌≡◌, ℕ, false, List, [], ◌∷◌, ◌++◌, ◌==◌, ◌/◌, ◌%◌, codes, slice_index, if◌then◌else◌}
 use Rattle.std.specs.List.{flat_map, list_any}
 use Rattle.std.specs.Char.{is_ascii_control}
 
--- no byte is a control character of ASCII, U+0000 to U+001F or U+007F
+-- no byte is an ASCII control character, U+0000 to U+001F or U+007F
 abbrev pub HasNoControl : List ℕ → Type 0
 HasNoControl text = list_any is_ascii_control text ≡ false
 
--- the digit of a number below 16
+-- the hexadecimal digit of a number below 16
 abbrev pub hex_digit : ℕ → ℕ
 hex_digit n = slice_index (codes "0123456789abcdef") n
 

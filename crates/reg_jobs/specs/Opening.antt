@@ -5,7 +5,7 @@ use Rattle.reg_cli.specs.declared.task.Job.TheVariants.{Run, Text as TextJob, Ch
 use Rattle.reg_jobs.specs.declared.job.Opened.{Opened}
 use Rattle.reg_jobs.specs.declared.job.Opened.TheVariants.{Nothing, Texts, Failed, Empty, OrphanedLog, Fresh, Database}
 
--- a database for a job that may make its registry: it has one, or is empty, or only its log is left, or it can't be opened
+-- a database for a job that may create its registry. It has a registry or is empty, or only its log is left, or it can't be opened
 abbrev pub OpensToRun : {S : Type 0} → Opened S → Type 0
 OpensToRun Nothing = ⊥
 OpensToRun (Texts texts) = ⊥
@@ -15,7 +15,8 @@ OpensToRun OrphanedLog = ⊤
 OpensToRun (Fresh connection) = ⊤
 OpensToRun (Database connection) = ⊤
 
--- a database for a job that makes no registry: it is one, or its file holds nothing yet, or only its log is left, or it can't be opened
+-- a database for a job that creates no registry. It is opened, or its file has no contents yet, or only its log is left, or it can't be
+-- opened
 abbrev pub OpensToList : {S : Type 0} → Opened S → Type 0
 OpensToList Nothing = ⊥
 OpensToList (Texts texts) = ⊥
@@ -25,7 +26,7 @@ OpensToList OrphanedLog = ⊤
 OpensToList (Fresh connection) = ⊥
 OpensToList (Database connection) = ⊤
 
--- so many files of schemas, which may be read or not
+-- this number of schema files, readable or not
 abbrev pub OpensTexts : {S : Type 0} → ℕ → Opened S → Type 0
 OpensTexts count Nothing = ⊥
 OpensTexts count (Texts texts) = length texts.items ≡ count

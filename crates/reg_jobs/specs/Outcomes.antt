@@ -1,4 +1,4 @@
--- What jobs answer, by how they come out: the program's status, or a fault, its file and its line.
+-- The result of a job, by its outcome: the program's status, or a fault, its file and its line.
 use Rattle.std.specs.Prelude.{◌≡◌, ℕ, true, false, List, ◌++◌, codes, Option, Result, Ok, Err}
 use Rattle.std.specs.Fmt.{decimal}
 use Rattle.std.specs.List.{flat_map}
@@ -28,7 +28,7 @@ fault_of_file CannotRead = FaultCannotRead
 fault_of_file NotSchema = FaultNotSchema
 fault_of_file OutOfMemory = FaultOutOfMemory
 
--- the fault of a database that gave no registry
+-- the fault for a database without a registry
 abbrev pub fault_of_database : StoreError → Fault
 fault_of_database NoMemory = FaultOutOfMemory
 fault_of_database Disk = FaultCannotOpen
@@ -36,12 +36,13 @@ fault_of_database NotARegistry = FaultNotRegistry
 fault_of_database (OldLayout layout) = FaultOldLayout layout
 fault_of_database (NewerLayout layout) = FaultNewerLayout layout
 
--- a trouble's fault and the name of its file
+-- a result, with the fault and the file's name of an error
 abbrev pub result_view : Result ℕ JobError → Result ℕ (Fault × List ℕ)
 result_view (Ok status) = Ok status
 result_view (Err job_error) = Err (job_error.fault, job_error.file.now)
 
--- what a job answers, by how it came out: the program's status, 1 for a verdict of incompatible and for evidence that doesn't hold, or the fault and the file that it is on
+-- the result for an outcome: the program's status, or the fault and its file. The status is 1 for incompatible schemas and for evidence
+-- that isn't true
 abbrev pub result_of : Outcome → List ℕ → List ℕ → Result ℕ (Fault × List ℕ)
 result_of (SessionEnded Closed) file writer = Ok 0
 result_of (SessionEnded ReadFailed) file writer = Err (FaultReadFailed, file)
@@ -70,12 +71,12 @@ result_of (Audited (EvidenceVerdict false)) file writer = Ok 1
 result_of (Audited (EvidenceUnread error)) file writer = Err (fault_of_database error, file)
 result_of (Audited EvidenceNotWritten) file writer = Err (FaultWriteFailed, file)
 
--- the program's status, 2 for each fault
+-- the program's status, 2 for every fault
 abbrev pub status_of : Result ℕ (Fault × List ℕ) → ℕ
 status_of (Ok status) = status
 status_of (Err job_error) = 2
 
--- the line for a fault over a file's name and a number's digits
+-- the line for a fault, with a file's name and a number's digits
 abbrev pub line_with : Fault → List ℕ → List ℕ → List ℕ
 line_with FaultReadFailed file digits = codes "avroreg: read failed\n"
 line_with FaultWriteFailed file digits = codes "avroreg: write failed\n"
@@ -90,26 +91,26 @@ line_with (FaultNewerLayout number) file digits = codes "avroreg: " ++ (file ++ 
 line_with (CannotListen port) file digits = codes "avroreg: cannot listen on port " ++ (digits ++ codes "\n")
 line_with CannotAccept file digits = codes "avroreg: cannot accept connections\n"
 
--- the layout or the port that a fault names, 0 where it names none
+-- the layout or the port that a fault names, otherwise 0
 abbrev pub number_of : Fault → ℕ
 number_of (FaultOldLayout layout) = layout
 number_of (FaultNewerLayout layout) = layout
 number_of (CannotListen port) = port
 number_of _ = 0
 
--- the line for a fault, the file's name as it is shown
+-- the line for a fault, with the file's name as it is shown
 abbrev pub line_of : Fault → List ℕ → List ℕ
 line_of fault file = line_with fault (shown_name file) (decimal (number_of fault))
 
--- parts of a line
+-- the text of the parts of a line
 abbrev pub text_of_parts : List (Bor (List ℕ)) → List ℕ
 text_of_parts parts = flat_map (λ part. part.now) parts
 
--- a line, the file's name as it is shown
+-- the text of a line, with the file's name as it is shown
 abbrev pub text_of_line : ErrorLine → List ℕ
 text_of_line line = line.front.now ++ (shown_name line.name.now ++ text_of_parts line.rest)
 
--- the line of a fault was put, and without a fault nothing was written or lost
+-- the line of a fault was written; without a fault nothing was written or lost
 abbrev pub PrintsFault : {E : Type 0} → (E → Option (List ℕ)) → Result ℕ (Fault × List ℕ) → Errors E → Errors E → Type 0
 PrintsFault contents (Ok status) old new = new ≡ old
 PrintsFault contents (Err job_error) old new = Puts contents old new (line_of job_error.0 job_error.1)

@@ -1,4 +1,4 @@
-//! Audits of the evidence that a database has of its versions.
+//! Audits of the evidence in a database.
 
 ghost use Rattle.std.specs.Prelude.{◌≡◌, false};
 ghost use Rattle.sqlite.specs.Held.{state};
@@ -16,11 +16,11 @@ use std::io::Write;
 /// How an audit ended.
 #[derive(Clone, Copy, Debug, PartialEq, Eq)]
 pub enum AuditOutcome {
-    /// The evidence holds, or doesn't; that was printed.
+    /// The evidence is true, or it isn't; this was printed.
     Verdict(bool),
     /// The registry couldn't be read to its end, and nothing was printed.
     Unread(StoreError),
-    /// A write failed. A beginning of the verdict's line went out.
+    /// A write failed. A beginning of the verdict's line was written.
     NotWritten,
 }
 
@@ -46,7 +46,7 @@ fn print_evidence<W: Write>(holds: bool, writer: &mut W) -> AuditOutcome
     }
 }
 
-/// Prints the line for a verdict, and for an error nothing.
+/// Prints the line for a verdict, and nothing for an error.
 fn print_audit<W: Write>(audited: Result<bool, StoreError>, writer: &mut W) -> AuditOutcome
     ensures { PrintsEvidence audited (W.contents writer.old) (W.contents writer.new) result }
 {
@@ -56,7 +56,7 @@ fn print_audit<W: Write>(audited: Result<bool, StoreError>, writer: &mut W) -> A
     }
 }
 
-/// Prints whether the evidence that a store has of its versions holds, and gives its connection back.
+/// Audits a store, prints the verdict, and returns the connection.
 pub fn audit_store<W: Write, S: Alter>(
     mut store: Store<S>,
     writer: &mut W,

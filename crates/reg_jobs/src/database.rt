@@ -14,7 +14,7 @@ use sqlite::{Alter, Connection};
 use std::alloc::Global;
 use std::io::{Read, Write};
 
-/// Answers the requests of the reader over a store, and gives its connection back.
+/// Runs a session over a store, and returns its connection.
 pub fn run_on_store<R: Read, W: Write, S: Alter>(
     alloc: Global,
     store: Store<S>,
@@ -30,11 +30,12 @@ pub fn run_on_store<R: Read, W: Write, S: Alter>(
     (ended, service.into_store().into_connection())
 }
 
-/// A store over a new registry, which it makes in an empty database.
+/// Creates a registry in an empty database.
 ///
 /// # Errors
 ///
-/// As `Store::create`, and `Disk` for a connection inside a transaction. The connection is given back.
+/// Those of `Store::create`, and `Disk` for a connection inside a transaction. The connection is
+/// returned.
 pub fn create_in<S: Alter>(
     alloc: Global,
     connection: Connection<S>,
@@ -52,11 +53,12 @@ pub fn create_in<S: Alter>(
     }
 }
 
-/// A store over the registry that a database has.
+/// Opens the registry of a database.
 ///
 /// # Errors
 ///
-/// As `Store::open`, and `Disk` for a connection inside a transaction. The connection is given back.
+/// Those of `Store::open`, and `Disk` for a connection inside a transaction. The connection is
+/// returned.
 pub fn open_in<S: Alter>(
     alloc: Global,
     connection: Connection<S>,

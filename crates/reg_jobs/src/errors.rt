@@ -1,4 +1,4 @@
-//! Standard error, and whether something of its lines was lost.
+//! Standard error, and whether part of its lines was lost.
 
 ghost use Rattle.std.specs.Prelude.{◌≡◌, false};
 ghost use Rattle.reg_jobs.specs.Errors.{Puts};
@@ -6,7 +6,7 @@ ghost use Rattle.reg_jobs.specs.Errors.{Puts};
 use reg_http::write_whole;
 use std::io::Write;
 
-/// Where lines go, and whether something of them was lost because a write failed.
+/// A writer of lines, which remembers whether part of them was lost because a write failed.
 #[derive(Drop)]
 pub struct Errors<E: Write + Drop> {
     writer: E,
@@ -14,7 +14,7 @@ pub struct Errors<E: Write + Drop> {
 }
 
 impl<E: Write + Drop> Errors<E> {
-    /// Lines that go to a writer, of which nothing is lost yet.
+    /// Lines that go to a writer. Nothing is lost yet.
     pub fn to(writer: E) -> Errors<E>
         ensures { result ≡ record { writer = writer; has_lost = false } }
     {
@@ -24,7 +24,7 @@ impl<E: Write + Drop> Errors<E> {
         }
     }
 
-    /// Writes bytes. Where a write fails, the rest of them is lost, and so is all that would follow.
+    /// Writes bytes. If a write fails, the rest of them is lost, and so is everything after them.
     pub(crate) fn put(&mut self, bytes: &[u8])
         ensures { Puts E.contents self.old self.new bytes.now }
     {
@@ -40,7 +40,7 @@ impl<E: Write + Drop> Errors<E> {
         self.has_lost
     }
 
-    /// The writer, with what was written.
+    /// Returns the writer.
     pub fn into_writer(self) -> E
         ensures { result ≡ self.writer }
     {

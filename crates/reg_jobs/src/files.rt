@@ -11,29 +11,29 @@ use std::alloc::Global;
 use std::io::Write;
 use std::str;
 
-/// Why a file gives no schema.
+/// Why a file has no schema.
 #[derive(Clone, Copy, Debug, PartialEq, Eq)]
 pub enum FileFault {
     /// It couldn't be read.
     CannotRead,
-    /// Its bytes are no text, or its text denotes no schema.
+    /// Its bytes aren't UTF-8, or its text denotes no schema.
     NotSchema,
-    /// Memory was refused.
+    /// An allocation failed.
     OutOfMemory,
 }
 
-/// How the printing of a schema ended.
+/// How printing a schema ended.
 #[derive(Clone, Copy, Debug, PartialEq, Eq)]
 pub enum TextOutcome {
     /// The identity text was printed, with a line end.
     Whole,
-    /// The file gives no schema, and nothing was printed.
+    /// The file has no schema, and nothing was printed.
     Nothing(FileFault),
-    /// A write failed. A beginning of the line went out.
+    /// A write failed. A beginning of the line was written.
     NotWritten,
 }
 
-/// The schema in a file, given by its bytes if it could be read.
+/// The schema in a file. `file` has its bytes, or is `None` if it couldn't be read.
 fn read_schema_file(alloc: Global, file: Option<&[u8]>) -> Result<Schema, FileFault>
     ensures { MatchResult result
         (λ schema. FileHolds (option_map (λ bytes. bytes.now) file.entry) (nodes_view schema))
@@ -79,15 +79,15 @@ pub fn print_text<W: Write>(alloc: Global, file: Option<&[u8]>, writer: &mut W) 
 /// How a check of two files ended.
 #[derive(Clone, Copy, Debug, PartialEq, Eq)]
 pub enum CheckOutcome {
-    /// The reader's schema reads what the writer's writes, or not; the verdict was printed.
+    /// Whether the reader's schema can read what the writer's writes; this was printed.
     Verdict(bool),
-    /// The reader's file gives no schema, and nothing was printed.
+    /// The reader's file has no schema, and nothing was printed.
     Reader(FileFault),
-    /// The reader's file gives one, but the writer's gives none, and nothing was printed.
+    /// The reader's file has a schema, the writer's has none, and nothing was printed.
     Writer(FileFault),
-    /// Memory was refused, and nothing was printed.
+    /// An allocation failed, and nothing was printed.
     OutOfMemory,
-    /// A write failed. A beginning of the verdict's line went out.
+    /// A write failed. A beginning of the verdict's line was written.
     NotWritten,
 }
 
@@ -113,8 +113,8 @@ fn print_verdict<W: Write>(yes: bool, writer: &mut W) -> CheckOutcome
     }
 }
 
-/// Checks whether the schema in the reader's file reads what the one in the writer's file writes, and prints the
-/// verdict. The reader's file is looked at first.
+/// Checks whether the reader's schema can read what the writer's writes, and prints the verdict. It
+/// parses the reader's file first.
 pub fn check<W: Write>(
     alloc: Global,
     reader_file: Option<&[u8]>,

@@ -27,21 +27,22 @@ use std::io::{Read, Write};
 pub enum Opened<S: Alter> {
     /// Nothing: the registry is in memory.
     Nothing,
-    /// The bytes of the files that the job names, in their order, where they could be read.
+    /// The bytes of the files that the job names, in order; `None` for a file that couldn't be
+    /// read.
     Texts(Vec<Option<Vec<u8>>>),
     /// The database of the job can't be opened.
     Failed,
-    /// A file that holds nothing yet, for a job that makes no registry. It isn't opened.
+    /// A file that has no contents yet, for a job that creates no registry. It isn't opened.
     Empty,
     /// A log whose database is missing or has no byte. It isn't opened.
     OrphanedLog,
-    /// An empty database, in which the job makes its registry.
+    /// An empty database, in which the job creates its registry.
     Fresh(Connection<S>),
     /// A database that has a registry.
     Database(Connection<S>),
 }
 
-/// The file that a job names, the reader's of two, or an empty name.
+/// The file that a job names; of two files the reader's; an empty name if there is none.
 fn file_of(job: &Job) -> &str
     ensures { result.now ≡ file_of job.entry.now }
 {
@@ -58,7 +59,7 @@ fn file_of(job: &Job) -> &str
     }
 }
 
-/// The writer's file of a job that names two, or the one that it names.
+/// The writer's file of a job that names two, otherwise the job's file.
 fn writer_file_of(job: &Job) -> &str
     ensures { result.now ≡ writer_file_of job.entry.now }
 {
@@ -71,7 +72,7 @@ fn writer_file_of(job: &Job) -> &str
 impl<S: Alter> Opened<S> {
     ghost use Rattle.reg_jobs.specs.Jobs.{text_at, connection_in};
 
-    /// The text at a position among the files, if there is one that could be read.
+    /// The text of the file at a position, or `None` if it couldn't be read.
     fn text(&self, position: usize) -> Option<&[u8]>
         ensures { option_map (λ bytes. bytes.now) result ≡ text_at self.entry.now position }
     {
@@ -84,7 +85,7 @@ impl<S: Alter> Opened<S> {
         }
     }
 
-    /// The connection, if there is one.
+    /// The opened connection, or `None`.
     fn into_connection(self) -> Option<Connection<S>>
         ensures { result ≡ connection_in self }
     {
@@ -96,7 +97,7 @@ impl<S: Alter> Opened<S> {
     }
 }
 
-/// Answers the requests of the reader over a new registry in memory.
+/// Runs a session over a new registry in memory.
 fn run_in_memory<R: Read, W: Write>(alloc: Global, reader: &mut R, writer: &mut W) -> Outcome
     ensures { RunsInMemory (R.remaining reader.old) (R.remaining reader.new)
         (W.contents writer.old) (W.contents writer.new) result }
@@ -111,13 +112,13 @@ fn run_in_memory<R: Read, W: Write>(alloc: Global, reader: &mut R, writer: &mut 
     Outcome::Session(serve(alloc, reader, writer, &mut service))
 }
 
-/// The registry of what was opened, for a job that only reads: that of a database. It makes none.
+/// Opens a store over what was opened, for a job that only reads. It creates no registry.
 ///
 /// # Errors
 ///
-/// `Disk` if no database was opened. `NotARegistry` for a file that holds nothing yet, for a log without its
-/// database, and for an empty database, which comes back unchanged. Otherwise why the database has no registry,
-/// with the connection.
+/// `Disk` if no database was opened. `NotARegistry` for a file that has no contents yet, for a log
+/// without its database, and for an empty database, which is returned unchanged. Otherwise why the
+/// database has no registry, with the connection.
 fn open_existing_store<S: Alter + Drop>(
     alloc: Global,
     opened: Opened<S>,
@@ -136,12 +137,12 @@ fn open_existing_store<S: Alter + Drop>(
     }
 }
 
-/// The registry of what was opened: a new one in an empty database, or that of a database.
+/// Opens a store over what was opened, and creates the registry in an empty database.
 ///
 /// # Errors
 ///
-/// `Disk` if no database was opened. `NotARegistry` for a file that holds nothing yet, and for a log without its
-/// database. Otherwise why the database has no registry, with the connection.
+/// `Disk` if no database was opened. `NotARegistry` for a file that has no contents yet, and for a
+/// log without its database. Otherwise why the database has no registry, with the connection.
 pub fn open_store<S: Alter + Drop>(
     alloc: Global,
     opened: Opened<S>,
@@ -156,8 +157,8 @@ pub fn open_store<S: Alter + Drop>(
     }
 }
 
-/// Answers the requests of the reader over the registry of what was opened, and gives the connection
-/// back. Without a registry nothing is read or written.
+/// Runs a session over what was opened, and returns the connection. Without a registry nothing is
+/// read or written.
 fn run_on<S: Alter + Drop, R: Read, W: Write>(
     alloc: Global,
     opened: Opened<S>,
@@ -176,8 +177,8 @@ fn run_on<S: Alter + Drop, R: Read, W: Write>(
     }
 }
 
-/// Answers the requests of the reader over the registry of what was opened, or over a new one in
-/// memory where the job names no file. A connection is given back.
+/// Runs a session over what was opened, or over a new registry in memory if the job names no file.
+/// Returns the opened connection, or `None`.
 fn run<S: Alter + Drop, R: Read, W: Write>(
     alloc: Global,
     names_file: bool,
@@ -195,8 +196,8 @@ fn run<S: Alter + Drop, R: Read, W: Write>(
     (outcome, opened.into_connection())
 }
 
-/// Prints a listing of the registry of what was opened, and gives the connection back. Without a
-/// registry nothing is written.
+/// Prints a listing of what was opened, and returns the connection. Without a registry nothing is
+/// written.
 fn list_on<S: Alter + Drop, W: Write>(
     alloc: Global,
     opened: Opened<S>,
@@ -214,8 +215,8 @@ fn list_on<S: Alter + Drop, W: Write>(
     }
 }
 
-/// Moves the registry of what was opened to this program's layout, and gives the connection back. Where
-/// it isn't moved nothing is written.
+/// Migrates what was opened to this program's layout, and returns the connection. If no database
+/// was opened, nothing is written.
 fn migrate_on<S: Alter + Drop, W: Write>(
     alloc: Global,
     opened: Opened<S>,
@@ -240,8 +241,8 @@ fn migrate_on<S: Alter + Drop, W: Write>(
     }
 }
 
-/// Prints whether the evidence that what was opened has of its versions holds, and gives the connection
-/// back. Without a registry nothing is written.
+/// Audits what was opened, prints the verdict, and returns the connection. Without a registry
+/// nothing is written.
 fn audit_on<S: Alter + Drop, W: Write>(
     alloc: Global,
     opened: Opened<S>,
@@ -258,8 +259,9 @@ fn audit_on<S: Alter + Drop, W: Write>(
     }
 }
 
-/// Does a job with what was opened for it, and answers the program's status: 0, 1 for a verdict of
-/// incompatible or for evidence that doesn't hold, or 2 after a fault, whose line goes to `errors`. A connection is given back.
+/// Does a job with what was opened for it. Returns the program's status, and the opened connection
+/// or `None`. The status is 0, or 1 for incompatible schemas and for evidence that isn't true, or 2
+/// after a fault, whose line goes to `errors`.
 pub fn do_job<S: Alter + Drop, R: Read, W: Write, E: Write + Drop>(
     alloc: Global,
     job: &Job,

@@ -1,6 +1,5 @@
-//! The jobs of the program: a session of messages over a registry, connections to a listener, a listing
-//! of a registry, its move to this program's layout, an audit of the evidence that it has of its
-//! versions, the identity text of a schema in a file, and the verdict on two.
+//! The jobs of the program: sessions over a registry, connections to a listener, listings,
+//! migrations and audits. Also the identity text of a schema in a file, and checks of two schemas.
 
 #![tactic(auto)]
 

@@ -11,8 +11,7 @@ use crate::outcome::{Fault, JobError, Outcome, result_of, status_of};
 use itoa::Buffer;
 use std::io::Write;
 
-/// A line on standard error: a text, the name of a file that it may name, and what follows, in three
-/// parts at most.
+/// A line on standard error: a text, the name of a file or nothing, and up to three more parts.
 #[derive(Clone, Copy)]
 struct ErrorLine<'a> {
     front: &'a str,
@@ -20,7 +19,7 @@ struct ErrorLine<'a> {
     rest: [&'a str; 3],
 }
 
-/// A line that names nothing.
+/// A line without a name.
 fn bare_line<'a>(front: &'a str) -> ErrorLine<'a>
     ensures { text_of_line result ≡ front.entry.now }
 {
@@ -31,14 +30,14 @@ fn bare_line<'a>(front: &'a str) -> ErrorLine<'a>
     }
 }
 
-/// A line that names a file.
+/// A line with the name of a file.
 fn file_line<'a>(front: &'a str, name: &'a str, rest: [&'a str; 3]) -> ErrorLine<'a>
     ensures { result ≡ record { front = front.entry; name = name.entry; rest = rest.entry } }
 {
     ErrorLine { front, name, rest }
 }
 
-/// The layout or the port that a fault names, 0 where it names none.
+/// The layout or the port that a fault names, otherwise 0.
 fn number_of(fault: Fault) -> u32
     ensures { result ≡ number_of fault }
 {
@@ -91,7 +90,7 @@ fn put_parts<E: Write + Drop>(errors: &mut Errors<E>, parts: &[&str])
     }
 }
 
-/// Writes a line, the file's name as it is shown.
+/// Writes a line, with the file's name as it is shown.
 fn put_line<E: Write + Drop>(errors: &mut Errors<E>, line: ErrorLine)
     ensures { Puts E.contents errors.old errors.new (text_of_line line.entry) }
 {
@@ -100,7 +99,7 @@ fn put_line<E: Write + Drop>(errors: &mut Errors<E>, line: ErrorLine)
     put_parts(errors, &line.rest);
 }
 
-/// Writes the line for trouble.
+/// Writes the line for an error.
 pub fn put_job_error<E: Write + Drop>(errors: &mut Errors<E>, job_error: JobError)
     ensures { Puts E.contents errors.old errors.new (line_of job_error.entry.fault job_error.entry.file.now) }
 {
@@ -109,7 +108,7 @@ pub fn put_job_error<E: Write + Drop>(errors: &mut Errors<E>, job_error: JobErro
     put_line(errors, line_of(job_error.fault, job_error.file, number));
 }
 
-/// Writes the line for what a job answers, where that is trouble, and answers the program's status.
+/// Writes the line for a result if it is an error, and returns the program's status.
 pub fn report_result<E: Write + Drop>(errors: &mut Errors<E>, answer: Result<u8, JobError>) -> u8
     ensures reports { PrintsFault E.contents (result_view answer.entry) errors.old errors.new }
     ensures status { result ≡ status_of (result_view answer.entry) }
@@ -120,8 +119,7 @@ pub fn report_result<E: Write + Drop>(errors: &mut Errors<E>, answer: Result<u8,
     status_of(answer)
 }
 
-/// Writes the line for an outcome on a file, where it is trouble, and answers the program's status for
-/// it.
+/// Writes the line for an outcome on a file if it is an error, and returns the program's status.
 pub fn report<E: Write + Drop>(errors: &mut Errors<E>, outcome: Outcome, file: &str) -> u8
     ensures reports { PrintsFault E.contents (result_of outcome file.now file.now) errors.old errors.new }
     ensures status { result ≡ status_of (result_of outcome file.now file.now) }

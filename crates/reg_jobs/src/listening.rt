@@ -1,4 +1,4 @@
-//! Connections to a listener, one after the other.
+//! Connections to a listener, one after another.
 
 ghost use Rattle.std.specs.Prelude.{◌≤◌, ℕ};
 ghost use Rattle.sqlite.specs.State.{HasCleanDisk};
@@ -28,11 +28,11 @@ use std::thread::sleep;
 use std::time::{Clock, Duration};
 use timing::{NoClock, SLICE, Timing};
 
-/// How many milliseconds pass between two tries to accept a connection, after one has failed.
+/// The milliseconds between two attempts to accept a connection, after one has failed.
 const ACCEPT_PAUSE: u64 = 250;
 
-/// Sends small responses at once, and lets a read or a write wait for a slice. If the system refuses one of
-/// these options, the connection is served without it.
+/// Makes the system send small responses at once, and limits a read or a write to one slice. If the
+/// system rejects one of these options, the connection is served without it.
 fn prepare(stream: &TcpStream) {
     let slice = Some(Duration::from_millis(SLICE));
     let _ = stream.set_nodelay(true);
@@ -40,8 +40,8 @@ fn prepare(stream: &TcpStream) {
     let _ = stream.set_write_timeout(slice);
 }
 
-/// Retries until a connection is accepted, with a pause before each try. The system lacked a file descriptor
-/// or memory, and may have them again.
+/// Retries until a connection is accepted, with a pause before each attempt. The system lacked a
+/// file descriptor or memory, and may have them again.
 fn retry_accept<C: Clock>(clock: &C, queue: &mut Queue<'_>) -> Option<TcpStream> {
     for _ in 0..u64::MAX {
         sleep(clock, Duration::from_millis(ACCEPT_PAUSE));
@@ -67,7 +67,7 @@ fn accept_next<C: Clock, E: Write + Drop>(
     retry_accept(clock, queue)
 }
 
-/// Serves the next connection to its end, however it ends.
+/// Serves the next connection until it ends.
 fn serve_next<C: Clock, S: Alter, E: Write + Drop>(
     alloc: Global,
     clock: &C,
@@ -93,13 +93,13 @@ fn serve_next<C: Clock, S: Alter, E: Write + Drop>(
     end(clock, &stream, ended, reader.has_ended(), reader.has_more());
 }
 
-/// Serves so many connections, one after the other. If none can be accepted, it reports that on `errors`,
-/// once until the next one that can, and retries each quarter of a second.
+/// Serves this number of connections, one after another. If none can be accepted, it reports that
+/// on `errors`, once until the next success, and retries every quarter of a second.
 ///
-/// It closes a connection that sent no byte for ten seconds, or took none for as long. If another connection
-/// waits, it closes this one between two requests: after a quarter of a second without a byte, and after a
-/// second of service even if more requests have arrived. A request has thirty seconds to arrive, and its
-/// response to be taken.
+/// It closes a connection that sent or took no byte for ten seconds. If another connection waits,
+/// it closes this one between two requests. It does so after a quarter of a second without a byte,
+/// and after a second of service even if more requests have arrived. A request has thirty seconds
+/// to arrive, and its response to be taken.
 pub fn serve_with_clock<C: Clock, S: Alter, E: Write + Drop>(
     alloc: Global,
     clock: &C,
@@ -120,8 +120,8 @@ pub fn serve_with_clock<C: Clock, S: Alter, E: Write + Drop>(
     }
 }
 
-/// Does as `serve_with_clock` with a clock that stands still: only silence closes a connection, and there is
-/// no pause before an accept is retried.
+/// Serves like `serve_with_clock` with a clock that doesn't advance: it closes only connections
+/// without traffic, and retries an accept without a pause.
 pub fn serve_on<S: Alter, E: Write + Drop>(
     alloc: Global,
     listener: &TcpListener,

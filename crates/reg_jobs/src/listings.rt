@@ -21,15 +21,15 @@ use std::io::Write;
 pub enum ListOutcome {
     /// All of it was printed.
     Whole,
-    /// The registry couldn't be read to its end. So many whole lines were printed, from the header on.
+    /// The registry couldn't be read to its end. Some whole lines were printed, from the header on.
     Unread(StoreError),
     /// A write failed.
     NotWritten,
-    /// Memory for a line was refused. So many whole lines were printed, from the header on.
+    /// An allocation failed. Some whole lines were printed, from the header on.
     OutOfMemory,
 }
 
-/// What a listing shows of the tables.
+/// The listing of the store that an argument names.
 pub fn table_of(kind: reg_cli::ListingName) -> Listing
     ensures { result ≡ table_of kind }
 {
@@ -40,7 +40,7 @@ pub fn table_of(kind: reg_cli::ListingName) -> Listing
     }
 }
 
-/// How a listing ended, by what the printing of it answered.
+/// How a listing ended, by the result of printing it.
 fn listed_as(printed: Result<(), ReportError>) -> ListOutcome
     ensures { result ≡ listed_as printed }
 {
@@ -63,8 +63,8 @@ fn flush<W: Write>(writer: &mut W, listed: ListOutcome) -> ListOutcome
     }
 }
 
-/// Prints a listing of a store's registry in pieces, and gives its connection back. The writer is
-/// flushed, and where that fails a write has failed.
+/// Prints a listing of a store's registry in pieces, flushes the writer, and returns the
+/// connection. A failed flush counts as a failed write.
 pub fn list_store<W: Write, S: Alter>(
     alloc: Global,
     mut store: Store<S>,

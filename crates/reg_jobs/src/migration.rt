@@ -1,4 +1,4 @@
-//! Moves of a registry to this program's layout.
+//! Migrations of a registry to this program's layout.
 
 ghost use Rattle.std.specs.Prelude.{◌≡◌};
 ghost use Rattle.sqlite.specs.Held.{state};
@@ -15,12 +15,12 @@ use sqlite::{Alter, Connection};
 use std::alloc::Global;
 use std::io::Write;
 
-/// How the line of a move was printed.
+/// How the line of a migration was printed.
 #[derive(Clone, Copy, Debug, PartialEq, Eq)]
 pub enum MigrateOutcome {
-    /// All of it was.
+    /// It was printed in full.
     Whole,
-    /// A write failed. A beginning of it went out, and the database is moved all the same.
+    /// A write failed. A beginning of it was written, and the database has layout 2 all the same.
     NotWritten,
 }
 
@@ -36,7 +36,7 @@ fn print_parts<W: Write>(writer: &mut W, parts: &[&str]) -> MigrateOutcome
     MigrateOutcome::Whole
 }
 
-/// Prints how many versions were kept.
+/// Prints the number of versions that were kept.
 fn print_kept<W: Write>(writer: &mut W, versions: u64) -> MigrateOutcome
     ensures { PrintsLine (kept_line versions) (W.contents writer.old) (W.contents writer.new) result }
 {
@@ -45,8 +45,8 @@ fn print_kept<W: Write>(writer: &mut W, versions: u64) -> MigrateOutcome
     print_parts(writer, &["layout 2: ", number, " versions kept\n"])
 }
 
-/// Prints that there is nothing to do where the layout is new already, and else answers why the database
-/// isn't moved.
+/// Prints that there is nothing to do if the database has layout 2 already, and otherwise returns
+/// why it wasn't migrated.
 fn print_unmigrated<W: Write>(error: MigrateError, writer: &mut W) -> Outcome
     ensures { PrintsUnmigrated error (W.contents writer.old) (W.contents writer.new) result }
 {
@@ -61,8 +61,8 @@ fn print_unmigrated<W: Write>(error: MigrateError, writer: &mut W) -> Outcome
     }
 }
 
-/// Moves the registry of a database to layout 2, prints what became of it, and gives the connection
-/// back. Where it isn't moved nothing is written.
+/// Migrates the registry of a database to layout 2, prints the result, and returns the connection.
+/// If it fails, nothing is printed.
 pub fn migrate_in<S: Alter, W: Write>(
     alloc: Global,
     connection: Connection<S>,

@@ -1,4 +1,4 @@
-//! The names of files, as a line on standard error shows them.
+//! The names of files, as standard error shows them.
 
 ghost use Rattle.std.specs.Prelude.{◌≡◌, ◌<◌};
 ghost use Rattle.reg_jobs.specs.Errors.{Puts};
@@ -15,7 +15,7 @@ fn hex_digit(n: u8) -> u8
     b"0123456789abcdef"[usize::from(n)]
 }
 
-/// Writes a byte of a name: a control character's escape, or the byte as it is.
+/// Writes a byte of a name, or the escape of a control character.
 fn put_byte<E: Write + Drop>(errors: &mut Errors<E>, byte: u8)
     ensures { Puts E.contents errors.old errors.new (shown_byte byte) }
 {
@@ -34,7 +34,7 @@ fn put_byte<E: Write + Drop>(errors: &mut Errors<E>, byte: u8)
     }
 }
 
-/// Writes a file's name, each control character as its escape, so that a line stays one line.
+/// Writes a file's name, with each control character as its escape, so that a line stays one line.
 pub fn put_name<E: Write + Drop>(errors: &mut Errors<E>, name: &str)
     ensures puts { Puts E.contents errors.old errors.new (shown_name name.now) }
     ensures no_control { HasNoControl (shown_name name.now) }

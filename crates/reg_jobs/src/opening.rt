@@ -1,4 +1,4 @@
-//! What a job names, opened.
+//! Opens what a job names.
 
 ghost use Rattle.std.specs.Prelude.{IfOk};
 ghost use Rattle.reg_jobs.specs.Opening.{OpensFor, OpensToList, OpensToRun};
@@ -9,40 +9,40 @@ use reg_cli::Job;
 use sqlite::Alter;
 use std::alloc::Global;
 
-/// What opens the files that a job names.
+/// Opens the files that a job names.
 pub trait Opener<S: Alter> {
     ghost use Rattle.std.specs.Prelude.{IfOk};
     ghost use Rattle.reg_jobs.specs.Opening.{OpensToList, OpensToRun};
 
-    /// Opens the database in a file, which is made where it is missing.
+    /// Opens the database in a file, and creates it if it is missing.
     ///
     /// # Errors
     ///
-    /// `OutOfMemory` where memory is refused.
+    /// `OutOfMemory` if an allocation fails.
     fn open_to_run(&self, file: &str) -> Result<Opened<S>, OutOfMemory>
         ensures { IfOk result OpensToRun };
 
-    /// Opens the database in a file for a job that makes no registry.
+    /// Opens the database in a file for a job that creates no registry.
     ///
     /// # Errors
     ///
-    /// `OutOfMemory` where memory is refused.
+    /// `OutOfMemory` if an allocation fails.
     fn open_to_list(&self, file: &str) -> Result<Opened<S>, OutOfMemory>
         ensures { IfOk result OpensToList };
 
-    /// The bytes of a file, if it can be read.
+    /// The bytes of a file, or `None` if it can't be read.
     ///
     /// # Errors
     ///
-    /// `OutOfMemory` where memory is refused.
+    /// `OutOfMemory` if an allocation fails.
     fn read(&self, file: &str) -> Result<Option<Vec<u8>>, OutOfMemory>;
 }
 
-/// Opens what a job names: nothing, one database, or the files of its schemas, in their order.
+/// Opens what a job names: nothing, one database, or the files of its schemas, in order.
 ///
 /// # Errors
 ///
-/// `OutOfMemory` where memory is refused.
+/// `OutOfMemory` if an allocation fails.
 pub fn open_for<S: Alter, O: Opener<S>>(
     alloc: Global,
     opener: &O,

@@ -1,4 +1,4 @@
-//! How a job came out, and what it answers then: a status, or what failed and on which file.
+//! The outcome of a job, and its result: a status, or what failed and on which file.
 
 ghost use Rattle.std.specs.Prelude.{◌≡◌};
 ghost use Rattle.reg_jobs.specs.Outcomes.{result_of, fault_of_database, fault_of_file, result_view, status_of};
@@ -10,24 +10,24 @@ use crate::migration::MigrateOutcome;
 use reg_http::Ended;
 use reg_store::StoreError;
 
-/// How a job came out.
+/// The outcome of a job.
 #[derive(Clone, Copy, Debug, PartialEq, Eq)]
 pub enum Outcome {
     /// A session ended.
     Session(Ended),
-    /// The database of a job gave no registry, and nothing was read.
+    /// The job's database has no registry, and nothing was read.
     Unopened(StoreError),
-    /// No connection can come to the port, which is its number.
+    /// The server can't listen on this port.
     NotListening(u16),
-    /// A schema was to be printed.
+    /// The outcome of `text`.
     Text(TextOutcome),
-    /// Two schemas were to be checked.
+    /// The outcome of `check`.
     Check(CheckOutcome),
-    /// A registry was to be listed.
+    /// The outcome of `list`.
     List(ListOutcome),
-    /// A registry was moved to this program's layout, or had it.
+    /// The registry was migrated to this program's layout, or had it.
     Migrated(MigrateOutcome),
-    /// The evidence of a registry's versions was to be audited.
+    /// The outcome of `audit`.
     Audited(AuditOutcome),
 }
 
@@ -53,7 +53,7 @@ pub enum Fault {
 pub struct JobError<'a> {
     /// What failed.
     pub fault: Fault,
-    /// The name of the file. The lines of some faults leave it out.
+    /// The name of the file. Some faults have lines without it.
     pub file: &'a str,
 }
 
@@ -77,7 +77,7 @@ fn fault_of_file(fault: FileFault) -> Fault
     }
 }
 
-/// The fault of a database that gave no registry.
+/// The fault for a database without a registry.
 fn fault_of_database(error: StoreError) -> Fault
     ensures { result ≡ fault_of_database error }
 {
@@ -90,12 +90,13 @@ fn fault_of_database(error: StoreError) -> Fault
     }
 }
 
-/// What a job answers, by how it came out: the program's status, which is 1 for a verdict of
-/// incompatible and for evidence that doesn't hold, or its trouble. That is on the writer's file where that one gives no schema.
+/// The result for an outcome: the program's status, or an error. The status is 1 for incompatible
+/// schemas and for evidence that isn't true. The error is about the writer's file if that file has
+/// no schema.
 ///
 /// # Errors
 ///
-/// The trouble of each outcome that isn't an end in order: what failed, and on which file.
+/// What failed and on which file, for each outcome that isn't a success.
 pub fn result_of<'a>(outcome: Outcome, file: &'a str, writer: &'a str) -> Result<u8, JobError<'a>>
     ensures { result_view result ≡ result_of outcome file.entry.now writer.entry.now }
 {
@@ -129,7 +130,7 @@ pub fn result_of<'a>(outcome: Outcome, file: &'a str, writer: &'a str) -> Result
     }
 }
 
-/// The program's status for what a job answers: 2 for trouble.
+/// The program's status for a result, 2 for an error.
 pub fn status_of(answer: Result<u8, JobError>) -> u8
     ensures { result ≡ status_of (result_view answer.entry) }
 {

@@ -24,18 +24,18 @@ use Rattle.reg_service.proofs.SingleDeliveries.{is_first-keyless, is_first-keyed
 
 -- ---- lists
 
--- what is stored leaves itself of what leads nowhere
+-- exchanges that lead from `was` to itself leave `was`
 leaves_still : (was : Stored) (xs : List Exchange) (db : Trees) → LeadsTo was xs was → RecoversTo db was → RecoversExchanges was xs db
 leaves_still was xs db leads leaves = record { now = was; leads = leads; stays_true = λ holds. holds; leaves = leaves }
 
 pub leaves_none : (was : Stored) (db : Trees) → RecoversTo db was → RecoversExchanges was [] db
 leaves_none was db leaves = leaves_still was [] db (leads_none was) leaves
 
--- what one command makes is what its exchange leaves
+-- the state after a command is the state after its exchange
 leaves_made : (was : Stored) (d : Delivery) (kept : Kept) (xs : List Exchange) (db : Trees) (after : HoldsAfterCommand was d.command kept (RecoversTo db)) → LeadsTo was xs after.now → RecoversExchanges was xs db
 leaves_made was d kept xs db after leads = record { now = after.now; leads = leads; stays_true = after.stays_true; leaves = after.holds }
 
--- what exchanges leave that follow others is what both leave
+-- exchanges after others: a crash leaves the result of both
 pub leaves_later : (was mid : Stored) (xs ys : List Exchange) (db : Trees) → LeadsTo was xs mid → (HasTrueEvidence was → HasTrueEvidence mid) → RecoversExchanges mid ys db → RecoversExchanges was (xs ++ ys) db
 leaves_later was mid xs ys db leads stays later = record {
   now = later.now;
@@ -50,7 +50,7 @@ leaves_later was mid xs ys db leads stays later = record {
 pub leaves_open : (s : State) → ((db : Trees) → IsTrue s.is_open → s.may_leave db → db ≡ s.committed.trees) → RecoversSpelled s
 leaves_open s settled was over db it = leaves_if_open s was (λ is_open tree there. settled tree is_open there) over db it
 
--- a command that wasn't answered leaves what it may
+-- a failed command: the tables and a crash as its failure permits
 pub carries_failed : {E : Type 0} (r : Result ReplyView E) (old new : State) (command : Command) (under : KeyAndText) → OnOk r ⊥ → StillSpells old new
     → ((was : Stored) → SpellsWhileOpen old was → IsUnused under was.replies → (db : Trees) → new.may_leave db → old.may_leave db ⊎ HoldsAfterCommand was command (kept_under under (step was.registry command).1 was.replies) (RecoversTo db))
     → ExecutesCommand old new command under r
@@ -63,7 +63,7 @@ module _ (was : Stored) (d : Delivery) (may_leave : Trees → Type 0) where
       let P : List Exchange → Type 0 = λ xs. RecoversExchanges was xs db in
       subst P (sym (served_fault d (fault BackendFault) refl)) (leaves_none was db leaves)
 
-  -- a first delivery that wasn't answered, and may stand
+  -- a first delivery that got 50001 and may be preserved
   under_way : (kept : Kept) → is_first was.replies [] d ≡ true → kept ≡ kept_after was.replies ((d, (step was.registry d.command).1) ∷ [])
       → ((db : Trees) → may_leave db → RecoversTo db was ⊎ HoldsAfterCommand was d.command kept (RecoversTo db)) → RecoversOneInFlight was d (fault BackendFault) may_leave
   under_way kept first same leaves = record {
@@ -77,7 +77,7 @@ module _ (was : Stored) (d : Delivery) (may_leave : Trees → Type 0) where
         ];
   }
 
-  -- one that wasn't answered, and did nothing
+  -- a delivery that got 50001 and changed nothing
   pub found_failed : {E : Type 0} (r : Result ReplyView E) → OnOk r ⊥ → ((db : Trees) → may_leave db → RecoversTo db was) → RecoversOne was d (reply_or_fault r) may_leave
   found_failed (Ok reply) none leaves = absurd none
   found_failed (Err e) none leaves = inl (λ db it. unserved db (leaves db it))

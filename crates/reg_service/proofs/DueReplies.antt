@@ -13,7 +13,7 @@ use Rattle.reg_core.specs.Stored.{Stored}
 use Rattle.reg_service.specs.Deliveries.{Exchange, key_of, has_key, exchange_entry, kept_after, is_first, is_new, IsDue, Answers, RepeatsAgree, NoOtherAnswers}
 use Rattle.reg_service.proofs.JoinedExchanges.{kept_after-append, is_none-kept_after}
 
--- two texts are the same, or they aren't
+-- two texts are equal, or they aren't
 same_or_other : (a b : List ℕ) → (a ≡ b) ⊎ (a ≢ b)
 same_or_other a b = by (bytes_eq a b) (bytes_eq-Decides a b)
   where
@@ -21,18 +21,18 @@ same_or_other a b = by (bytes_eq a b) (bytes_eq-Decides a b)
     by true d = inl (d.0 refl)
     by false d = inr (λ e. true≢false (sym (d.1 e)))
 
--- what is kept stays
+-- a kept entry stays
 kept_stays : (k : Kept) (xs : List Exchange) (key : List ℕ) (entry : KeptEntry) → k key ≡ Some entry → kept_after k xs key ≡ Some entry
 kept_stays k xs key entry e = ap (λ o. option_or o (option_map exchange_entry (find (λ x. has_key key x.0) xs))) e
 
--- a write whose key is free leaves its own entry
+-- a write whose key is unused leaves its own entry
 kept_here : (k : Kept) (x : Exchange) (xs : List Exchange) (key : List ℕ) → key_of x.0 ≡ Some key → k key ≡ None
     → kept_after k (x ∷ xs) key ≡ Some (exchange_entry x)
 kept_here k x xs key some none =
     let found : has_key key x.0 ≡ true = ap (λ o. option_map_or (bytes_eq key) o false) some ∙ (bytes_eq-Decides key key).1 refl in
     λ i. option_or (none i) (option_map exchange_entry (cond (found i) (Some x) (find (λ y. has_key key y.0) xs)))
 
--- of two writes with one key and one command the second gets the first's reply, or both get 42290
+-- of two writes with one key and one command, the second gets the first reply, or both get 42290
 pub repeats_agree : (was : Stored) (xs : List Exchange) → Answers was xs → RepeatsAgree xs
 repeats_agree was xs due before x between y after key e some_x some_y text = by (kept_after k before key) refl
   where
@@ -57,7 +57,7 @@ repeats_agree was xs due before x between y after key e some_x some_y text = by 
         (λ (s : command_text x.0.command ≢ entry.command). due_x.other key entry some_x has s ∙ sym (due_y.other key entry some_y later (λ r. s (text ∙ r))))
         (same_or_other (command_text x.0.command) entry.command)
 
--- a write that isn't first has a key under which something is kept
+-- a write that isn't a first delivery has a key with a kept reply
 known : (k : Kept) (before : List Exchange) (d : Delivery) → is_write d.command ≡ true → is_first k before d ≡ false
     → (key : List ℕ) × (entry : KeptEntry) × (key_of d ≡ Some key) × (kept_after k before key ≡ Some entry)
 known k before d write later = by (key_of d) refl
@@ -91,7 +91,7 @@ due_unique was before d p q x y = by (is_write d.command) (is_first was.replies 
     by true true w f = x.first f ∙ sym (y.first f)
     by true false w f = repeat (known was.replies before d w f)
 
--- replies that are due to the rest of a list are the only ones
+-- only these replies are due to the rest of a list
 no_other_after : (was : Stored) (before xs ys : List Exchange) → Answers was (before ++ xs) → Answers was (before ++ ys)
     → map (λ y. y.0) ys ≡ map (λ x. x.0) xs → ys ≡ xs
 no_other_after was before [] [] p q e = refl

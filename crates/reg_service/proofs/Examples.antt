@@ -1,4 +1,4 @@
--- What the definitions say of a few short lists.
+-- The definitions on a few short lists.
 use Rattle.std.proofs.Common.{◌≡◌, inl, inr, ℕ, List, [], ◌∷◌, ◌++◌, refl, ap, ◌∙◌, get_or, arith}
 use Rattle.std.proofs.lemmas.Bool.{eqb-false}
 use Rattle.std.specs.Prelude.{Some, None, unwrap_or, codes}
@@ -40,7 +40,7 @@ keyless command = record { key = None; command = command }
 abbrev done : ReplyView
 done = answer (codes "{\"compatibility\":\"FULL\"}")
 
--- a repeat is_not first
+-- a retry isn't a first delivery
 repeat_is_not_first : firsts nothing_kept ((keyed (codes "k1") full, done) ∷ (keyed (codes "k1") full, done) ∷ []) ≡ full ∷ []
 repeat_is_not_first = refl
 
@@ -48,17 +48,17 @@ repeat_is_not_first = refl
 mismatch_is_not_first : firsts nothing_kept ((keyed (codes "k1") full, done) ∷ (keyed (codes "k1") none, fault KeyReused) ∷ []) ≡ full ∷ []
 mismatch_is_not_first = refl
 
--- and it leaves what is kept
+-- and it leaves the kept reply as it is
 mismatch_is_not_kept : kept_after nothing_kept ((keyed (codes "k1") full, done) ∷ (keyed (codes "k1") none, fault KeyReused) ∷ []) (codes "k1")
     ≡ Some (exchange_entry (keyed (codes "k1") full, done))
 mismatch_is_not_kept = refl
 
--- two keys are apart, however their deliveries mix
+-- two keys are independent, however their deliveries mix
 keys_are_apart : firsts nothing_kept ((keyed (codes "a") full, done) ∷ (keyed (codes "b") none, done) ∷ (keyed (codes "a") full, done)
     ∷ (keyed (codes "b") none, done) ∷ []) ≡ full ∷ none ∷ []
 keys_are_apart = refl
 
--- a write without a key counts anew each time
+-- every write without a key is a first delivery
 keyless_counts_anew : firsts nothing_kept ((keyless full, done) ∷ (keyless full, done) ∷ []) ≡ full ∷ full ∷ []
 keyless_counts_anew = refl
 
@@ -73,7 +73,7 @@ kept_key_is_not_first = refl
 abbrev keeps_nothing : Registry → EvidenceMap → Stored
 keeps_nothing g evidence = record { registry = g; replies = nothing_kept; evidence = evidence }
 
--- a refusal is a first reply too: the repeat gets it, whatever came between
+-- an error is a first reply too: the retry gets it, whichever commands came between
 refusal_is_kept : (g : Registry) (evidence : EvidenceMap) (reply : ReplyView)
     → IsDue (keeps_nothing g evidence) ((keyed (codes "k5") unknown, fault InvalidLevel) ∷ (keyless full, done) ∷ []) (keyed (codes "k5") unknown) reply
     → reply ≡ fault InvalidLevel
@@ -90,7 +90,7 @@ other_texts e =
     let same : full_of_t ≡ full_of_s = command_text-injective full_of_t full_of_s refl refl e in
     eqb-false 116 115 refl (ap (λ (command : Command). get_or (unwrap_or (subject_of command) []) 0 0) same)
 
--- the key of one subject's level with another subject is refused
+-- a key that set one subject's level, with another subject: 42290
 other_subject_is_refused : (g : Registry) (evidence : EvidenceMap) (reply : ReplyView)
     → IsDue (keeps_nothing g evidence) ((keyed (codes "k1") full_of_s, done) ∷ []) (keyed (codes "k1") full_of_t) reply → reply ≡ fault KeyReused
 other_subject_is_refused g evidence reply due = due.other (codes "k1") (exchange_entry (keyed (codes "k1") full_of_s, done)) refl refl other_texts
@@ -101,13 +101,13 @@ addition_is_admitted_by : (g : Registry) (c : Command) (old new : EvidenceMap) (
 addition_is_admitted_by g c old new key version (mid, becomes, same) none there =
     ap (λ (e : EvidenceMap). get e key) same ∙ becomes key ∙ (λ i. kept_or_new (none i) (there i) (get old key) (next_evidence g key.0))
 
--- one that a command leaves has what it had
+-- a version that a command doesn't touch keeps its evidence
 old_one_is_admitted_by : (g : Registry) (c : Command) (old new : EvidenceMap) (key : RowKey) (before after : Version) → IsEvidenceAfterAll g (c ∷ []) old new
     → get g.rows key ≡ Some before → get (step g c).0.rows key ≡ Some after → get new key ≡ get old key
 old_one_is_admitted_by g c old new key before after (mid, becomes, same) was there =
     ap (λ (e : EvidenceMap). get e key) same ∙ becomes key ∙ (λ i. kept_or_new (was i) (there i) (get old key) (next_evidence g key.0))
 
--- what was answered stays: no delivery was under way then
+-- an acknowledged exchange is preserved: no delivery was in progress then
 answered_stays : {S : Type 0} {g : Ghosts S} (old new : Service S g) (was : Stored) (d : Delivery) (body : List ℕ) → RecoversAcknowledged old new was ((d, answer body) ∷ [])
     → (db : Trees) → (state_in new).may_leave db → RecoversExchanges was ((d, answer body) ∷ []) db
 answered_stays old new was d body (inl leaves) db it = leaves db it

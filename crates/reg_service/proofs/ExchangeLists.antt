@@ -1,4 +1,4 @@
--- A list of deliveries beside the list of their replies.
+-- A list of deliveries with the list of their replies.
 use Rattle.std.proofs.Common.{◌≡◌, ℕ, not, List, [], ◌∷◌, ◌++◌, ◌+◌, ◌<◌, refl, sym, ap, ◌∙◌, subst, length, zip, take, get_or, arith}
 use Rattle.std.proofs.lemmas.List.{take_more, length-take}
 use Rattle.std.proofs.lemmas.List.Elements.{filter-append}
@@ -18,7 +18,7 @@ zip-push (a ∷ xs) (b ∷ ys) x y e = let h : length xs ≡ length ys = omega a
 pub served-append : (xs ys : List Exchange) → served (xs ++ ys) ≡ served xs ++ served ys
 served-append xs ys = filter-append (λ (x : Exchange). not (is_backend_fault x.1)) xs ys
 
--- One delivery more, after those that were served before it.
+-- One more delivery, after those that were served before it.
 pub serves-push : (list : List Delivery) (replies : List ReplyView) (d : Delivery) (reply : ReplyView) (was mid now : Stored)
     → length list ≡ length replies
     → Serves was (served (zip list replies)) mid → Serves mid (served ((d, reply) ∷ [])) now
@@ -29,7 +29,7 @@ serves-push list replies d reply was mid now same before one =
     let P : List Exchange → Type 0 = λ xs. Serves was xs now in
     subst P (sym e) (serves-append was mid now (served (zip list replies)) (served ((d, reply) ∷ [])) before one)
 
--- The same, where the delivery is the next of a list.
+-- The same for the next delivery of a list.
 pub serves_next : (list : List Delivery) (i : ℕ) (d : Delivery) (replies replies' : List ReplyView) (reply : ReplyView) (was mid now : Stored)
     → i < length list → d ≡ get_or list i d → length replies ≡ i → replies' ≡ replies ++ reply ∷ []
     → Serves was (served (zip (take i list) replies)) mid → Serves mid (served ((d, reply) ∷ [])) now

@@ -1,4 +1,4 @@
--- Exchanges that follow others are served from where the others led.
+-- Exchanges that follow others are served from the state that the others led to.
 use Rattle.std.proofs.Common.{◌≡◌, ℕ, true, false, Bool, not, ◌&&◌, ◌||◌, List, [], ◌∷◌, ◌++◌, refl, sym, ap, ◌∙◌, subst, append_assoc, ◌⊎◌, inl, inr, ⊎_elim}
 use Rattle.std.specs.Prelude.{Option, Some, None, find, option_map, is_none, cond, if◌then◌else◌}
 use Rattle.std.specs.List.{list_any}
@@ -37,11 +37,11 @@ kept_at k xs ys key =
     ∙ (ap (option_or (k key)) (option_map-or exchange_entry (find p xs) (find p ys))
     ∙ sym (option_or_assoc (k key) (option_map exchange_entry (find p xs)) (option_map exchange_entry (find p ys))))
 
--- what is kept after both is what the second leave after the first
+-- the replies kept after both lists are those of the second after the first
 pub kept_after-append : (k : Kept) (xs ys : List Exchange) → kept_after k (xs ++ ys) ≡ kept_after (kept_after k xs) ys
 kept_after-append k xs ys = λ i key. kept_at k xs ys key i
 
--- nothing is found exactly where no element passes
+-- `find` returns `None` exactly if no element passes
 is_none-find : {A B : Type 0} (f : A → B) (p : A → Bool) (xs : List A) → is_none (option_map f (find p xs)) ≡ not (list_any p xs)
 is_none-find f p [] = refl
 is_none-find {A} f p (x ∷ xs) = by (p x) (is_none-find f p xs)
@@ -60,13 +60,13 @@ not-or true true c = refl
 not-or true false c = refl
 not-or false b c = refl
 
--- a key is new exactly where nothing is kept under it then
+-- a key is new exactly if nothing is kept under it at that time
 pub is_none-kept_after : (k : Kept) (xs : List Exchange) (key : List ℕ) → is_none (kept_after k xs key) ≡ is_new k xs key
 is_none-kept_after k xs key =
     let p = λ (x : Exchange). has_key key x.0 in
     is_none-or (k key) (option_map exchange_entry (find p xs)) ∙ ap (λ b. is_none (k key) && b) (is_none-find exchange_entry p xs)
 
--- a key is new after both where it is new to the second after the first
+-- a key is new after both lists if it is new to the second after the first
 is_new-append : (k : Kept) (xs ys : List Exchange) (key : List ℕ) → is_new k (xs ++ ys) key ≡ is_new (kept_after k xs) ys key
 is_new-append k xs ys key =
     let p = λ (x : Exchange). has_key key x.0 in
@@ -74,7 +74,7 @@ is_new-append k xs ys key =
     ∙ (not-or (is_none (k key)) (list_any p xs) (list_any p ys)
     ∙ ap (λ b. b && not (list_any p ys)) (sym (is_none-kept_after k xs key)))
 
--- and so is a delivery first
+-- the same for a first delivery
 pub is_first-append : (k : Kept) (xs ys : List Exchange) (d : Delivery) → is_first k (xs ++ ys) d ≡ is_first (kept_after k xs) ys d
 is_first-append k xs ys d = ap (λ b. is_write d.command && b) (by (key_of d))
   where
@@ -82,7 +82,7 @@ is_first-append k xs ys d = ap (λ b. is_write d.command && b) (by (key_of d))
     by None = refl
     by (Some key) = is_new-append k xs ys key
 
--- what came before can be counted as kept
+-- earlier exchanges can be counted as kept replies
 firsts-shift : (k : Kept) (front before xs : List Exchange) → firsts_after k (front ++ before) xs ≡ firsts_after (kept_after k front) before xs
 firsts-shift k front before [] = refl
 firsts-shift k front before (x ∷ xs) =
@@ -91,7 +91,7 @@ firsts-shift k front before (x ∷ xs) =
     ∙ firsts-shift k front (before ++ x ∷ []) xs in
     λ i. one i ++ rest i
 
--- the firsts of a rest in two parts
+-- the first deliveries of a rest in two parts
 firsts_after-append : (k : Kept) (before xs ys : List Exchange)
     → firsts_after k before (xs ++ ys) ≡ firsts_after k before xs ++ firsts_after k (before ++ xs) ys
 firsts_after-append k before [] ys = ap (λ zs. firsts_after k zs ys) (sym (append-nil before))
@@ -103,7 +103,7 @@ firsts_after-append k before (x ∷ xs) ys =
     ∙ (sym (append_assoc one (firsts_after k (before ++ x ∷ []) xs) _)
     ∙ ap (λ cs. (one ++ firsts_after k (before ++ x ∷ []) xs) ++ cs) seam)
 
--- the firsts of both are those of the first, and those of the second after what is kept then
+-- the first deliveries of both lists are those of the first, and those of the second after the replies kept by then
 pub firsts-append : (k : Kept) (xs ys : List Exchange) → firsts k (xs ++ ys) ≡ firsts k xs ++ firsts (kept_after k xs) ys
 firsts-append k xs ys =
     firsts_after-append k [] xs ys
@@ -126,15 +126,15 @@ admitted-append : (g : Registry) (a b : List Command) (old mid new : EvidenceMap
 admitted-append g [] b old mid new p q = subst (λ (had : EvidenceMap). IsEvidenceAfterAll g b had new) p q
 admitted-append g (c ∷ a) b old mid new p q = (p.0, p.1, admitted-append (step g c).0 a b p.0 mid new p.2 q)
 
--- what is stored after exchanges, with this evidence
+-- the stored state after exchanges, with this evidence
 abbrev pub led : Stored → List Exchange → EvidenceMap → Stored
 led was xs evidence = record { registry = run_commands was.registry (firsts was.replies xs); replies = kept_after was.replies xs; evidence = evidence }
 
--- where exchanges lead to is that
+-- exchanges lead to that state
 pub is_led : (was now : Stored) (xs : List Exchange) → LeadsTo was xs now → now ≡ led was xs now.evidence
 is_led was now xs h = λ i. record { registry = h.registry i; replies = h.kept i; evidence = now.evidence }
 
--- exchanges that follow others lead from where the others led
+-- exchanges that follow others lead on from the state that the others led to
 pub leads-append : (was mid now : Stored) (xs ys : List Exchange) → LeadsTo was xs mid → LeadsTo mid ys now → LeadsTo was (xs ++ ys) now
 leads-append was mid now xs ys p q =
     let P : Stored → Type 0 = λ s. LeadsTo s ys now in
@@ -146,7 +146,7 @@ leads-append was mid now xs ys p q =
       evidence = subst (λ (cs : List Command). IsEvidenceAfterAll was.registry cs was.evidence now.evidence) (sym (firsts-append was.replies xs ys)) both;
     }
 
--- what is due among the second is due there in both
+-- a reply that is due in the second list is due there in both
 due_later : (was : Stored) (evidence : EvidenceMap) (xs more : List Exchange) (x : Exchange)
     → IsDue (led was xs evidence) more x.0 x.1 → IsDue was (xs ++ more) x.0 x.1
 due_later was evidence xs more x h = record {
@@ -172,7 +172,7 @@ split {A} (y ∷ xs) ys (b ∷ before) x after e =
     (λ (u : (more : List A) × (xs ++ more ≡ before) × (ys ≡ more ++ x ∷ after)). inr (u.0, (λ i. h i ∷ u.1 i), u.2))
     (split xs ys before x after t)
 
--- replies that are due in each part are due in both
+-- if the replies in each part are due, they are due in both
 answers-append : (was : Stored) (evidence : EvidenceMap) (xs ys : List Exchange)
     → Answers was xs → Answers (led was xs evidence) ys → Answers was (xs ++ ys)
 answers-append was evidence xs ys p q before x after e =
@@ -183,7 +183,7 @@ answers-append was evidence xs ys p q before x after e =
     subst P u.1 (due_later was evidence xs u.0 x (q u.0 x after u.2)))
     (split xs ys before x after e)
 
--- What is served from one state to a second, and from there to a third, is served from the first to the third.
+-- Exchanges served from one state to a second, and more from there to a third, are served from the first to the third.
 pub serves-append : (was mid now : Stored) (xs ys : List Exchange) → Serves was xs mid → Serves mid ys now → Serves was (xs ++ ys) now
 serves-append was mid now xs ys p q =
     let P : Stored → Type 0 = λ s. Answers s ys in
@@ -200,7 +200,7 @@ admitted_parts g (c ∷ a) b old new p =
     let (mid, first, rest) = admitted_parts (step g c).0 a b p.0 new p.2 in
     (mid, (p.0, p.1, first), rest)
 
--- what is due in both is due among the second
+-- a reply that is due in both lists is due in the second
 due_among : (was : Stored) (evidence : EvidenceMap) (xs more : List Exchange) (x : Exchange)
     → IsDue was (xs ++ more) x.0 x.1 → IsDue (led was xs evidence) more x.0 x.1
 due_among was evidence xs more x h = record {
@@ -213,7 +213,7 @@ due_among was evidence xs more x h = record {
     earlier : reply_after was (xs ++ more) x.0.command ≡ reply_after (led was xs evidence) more x.0.command
     earlier = ap (λ (state : Registry). (step state x.0.command).1) (registry-append was.registry was.replies xs more)
 
--- What is served as one list is served in two parts.
+-- Exchanges that are served as one list are served in two parts.
 pub serves_parts : (was now : Stored) (xs ys : List Exchange) → Serves was (xs ++ ys) now → (mid : Stored) × Serves was xs mid × Serves mid ys now
 serves_parts was now xs ys p =
     let all = subst (λ (cs : List Command). IsEvidenceAfterAll was.registry cs was.evidence now.evidence) (firsts-append was.replies xs ys) p.leads.evidence in
@@ -233,7 +233,7 @@ serves_parts was now xs ys p =
       },
     )
 
--- No exchange leads from what is stored to itself.
+-- No exchange leads from a stored state to itself.
 pub leads_none : (was : Stored) → LeadsTo was [] was
 leads_none was = record { registry = refl; kept = sym (kept_after-nil was.replies); evidence = refl }
 

@@ -1,4 +1,4 @@
--- What calls leave of the connection, and what a service keeps, one call after the other.
+-- The connection after calls, and what calls of a service preserve, one after another.
 use Rattle.std.proofs.Common.{◌≡◌, inl, inr, sym, subst, Result, Ok, Err, IsTrue, ℕ, ◌+◌, ◌≤◌, ◌++◌, ◌∷◌, List, [], min, arith}
 use Rattle.std.specs.Prelude.{OnOk}
 use Rattle.std.proofs.lemmas.Bool.{cases_Bool, both_ways}
@@ -14,19 +14,19 @@ use Rattle.reg_store.specs.Stores.{has_failed, state_of, KeepsOpen, KeepsStore, 
 use Rattle.reg_service.specs.declared.service.Service.{Service}
 use Rattle.reg_service.specs.Services.{store_in, state_in, PreservesStore, PreservesService, AreBackendFaults}
 
--- more faults stay more
+-- a larger count stays larger
 still_more : (top a b c : ℕ) → min (a + 1) top ≤ b → b ≤ c → min (a + 1) top ≤ c
 still_more top a b c more later = omega arith
 
--- and they are more than before
+-- and it is larger than an earlier count
 more_then : (top a b c : ℕ) → a ≤ b → min (b + 1) top ≤ c → min (a + 1) top ≤ c
 more_then top a b c before more = omega arith
 
--- doing nothing shuts and opens nothing
+-- doing nothing closes and opens nothing
 pub keeps_open : (s : State) → KeepsOpen s s
 keeps_open s = record { counts = omega arith; stays_closed = λ _ is_open. is_open; closes = λ _ is_open. inl is_open }
 
--- and so do two calls that each keep that much
+-- two calls that each preserve this preserve it together
 pub keeps_then : (a b c : State) → (HasCleanDisk c → HasCleanDisk b) → KeepsOpen a b → KeepsOpen b c → KeepsOpen a c
 keeps_then a b c clean p q = record {
   counts = omega (arith, p.counts, q.counts);
@@ -38,7 +38,7 @@ keeps_then a b c clean p q = record {
 }
 
 module _ {S : Type 0} {g : Ghosts S} where
-  -- a service that does nothing, and gives no answer
+  -- a service that does nothing, and returns no reply of its own
   pub keeps_still : (s : Service S g) (NothingDone : Type 0) → NothingDone → PreservesService s s NothingDone
   keeps_still s NothingDone none = record {
     failed = λ failed. (none, failed);
@@ -47,11 +47,11 @@ module _ {S : Type 0} {g : Ghosts S} where
     connection = keeps_open (state_in s);
   }
 
-  -- one that gives an answer stood over an open connection
+  -- a call that returns a reply of its own had an open connection
   pub was_open : (old new : Service S g) → PreservesService old new ⊥ → HasCleanDisk (state_in new) → IsTrue (state_in old).is_open
   was_open old new keeps clean = elim (cases_Bool (state_in old).is_open) [ inl is_open ↦ is_open | inr is_closed ↦ absurd (keeps.closed clean (λ is_open. both_ways _ is_closed is_open)).0 ]
 
-  -- one call after the other
+  -- one call after another
   pub keeps_both : {P Q R : Type 0} (old mid new : Service S g) → (P → Q → R) → PreservesService old mid P → PreservesService mid new Q → PreservesService old new R
   keeps_both old mid new none before one = record {
     failed = λ failed. let was = before.failed failed in let is = one.failed was.1 in (none was.0 is.0, is.1);
@@ -63,7 +63,7 @@ module _ {S : Type 0} {g : Ghosts S} where
     connection = keeps_then (state_in old) (state_in mid) (state_in new) one.clean before.connection one.connection;
   }
 
-  -- what follows from giving no answer
+  -- a consequence of `NothingDone`
   pub keeps_as : {P Q : Type 0} (old new : Service S g) → (P → Q) → PreservesService old new P → PreservesService old new Q
   keeps_as old new f keeps = record {
     failed = λ failed. let is = keeps.failed failed in (f is.0, is.1);
@@ -72,7 +72,7 @@ module _ {S : Type 0} {g : Ghosts S} where
     connection = keeps.connection;
   }
 
-  -- one delivery more
+  -- one more delivery
   pub keeps_next : (old mid new : Service S g) (replies more : List ReplyView) (reply : ReplyView) → more ≡ replies ++ reply ∷ []
       → PreservesService old mid (AreBackendFaults replies) → PreservesService mid new (reply ≡ fault BackendFault) → PreservesService old new (AreBackendFaults more)
   keeps_next old mid new replies more reply longer before one = keeps_both old mid new all before one
@@ -80,11 +80,11 @@ module _ {S : Type 0} {g : Ghosts S} where
       all : AreBackendFaults replies → reply ≡ fault BackendFault → AreBackendFaults more
       all them it = All-same (λ told. told ≡ fault BackendFault) more (replies ++ reply ∷ []) longer (All-push (λ told. told ≡ fault BackendFault) replies reply them it)
 
--- a call of the store that succeeds leaves one that hasn't failed
+-- after a successful call, the store hasn't failed
 pub goes_on : {S T : Type 0} {g : Ghosts S} {old new : Store S g} {x : T} → KeepsStore old new (Ok x) → IsTrue (has_failed new) → ⊥
 goes_on keeps failed = let is = keeps.failed_now.1 failed in absurd (cc)
 
--- a call that only reads the store, and fails where that fails
+-- a call that only reads the store, and fails if the read fails
 module _ {S T : Type 0} {g : Ghosts S} {Tells : Stored → T → Type 0} {NothingDone : Type 0} {old new : Store S g} where
   pub keeps_reading : {r : Result T StoreError} → ReadsStore old new r Tells → (OnOk r ⊥ → NothingDone) → PreservesStore old new NothingDone
   keeps_reading {r} reads none = record {
@@ -98,7 +98,7 @@ module _ {S T : Type 0} {g : Ghosts S} {Tells : Stored → T → Type 0} {Nothin
       fails (Ok x) is_open is_closed = is_closed is_open
       fails (Err e) is_open is_closed = tt
 
-  -- one that succeeds, and then a call of a service
+  -- a successful read, and then a call of a service
   pub keeps_read_then : {x : T} {mid : Store S g} → ReadsStore old mid (Ok x) Tells → PreservesStore mid new NothingDone → PreservesStore old new NothingDone
   keeps_read_then {x} {mid} reads one = record {
     failed = λ failed. absurd (let was = (reads.frame.failed_before failed).0 in cc);

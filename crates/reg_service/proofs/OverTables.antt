@@ -1,4 +1,4 @@
--- What each way of answering serves, over whatever the tables spell.
+-- What each kind of delivery serves, for every state that the tables may spell.
 use Rattle.std.proofs.Common.{◌≡◌, ◌≢◌, ℕ, ◌<◌, ◌+◌, List, [], ◌∷◌, ◌++◌, length, take, zip, get_or, Some, None, Result, Ok, Err, ap, subst, ◌∙◌}
 use Rattle.std.specs.Prelude.{IfOk}
 use Rattle.sqlite.specs.State.{State}
@@ -20,7 +20,7 @@ use Rattle.reg_service.proofs.ExchangeLists.{serves_next}
 served_to : {xs : List Exchange} {new : State} (was now : Stored) → Serves was xs now → (HasTrueEvidence was → HasTrueEvidence now) → SpellsWhileOpen new now → ServesTo was xs new
 served_to was now s stays spells = record { now = now; serves = s; stays_true = stays; spells = spells }
 
--- what serves nothing
+-- exchanges that change nothing
 stands : {xs : List Exchange} {new : State} (was : Stored) → Serves was xs was → SpellsWhileOpen new was → ServesTo was xs new
 stands was s spells = served_to was was s (λ holds. holds) spells
 
@@ -50,15 +50,15 @@ pub again_over : (new : State) (d : Delivery) (reply : ReplyView) (key text : Li
 again_over new d reply key text was entry some is has same other spells =
     stands was (serves_again was d key entry reply some has (rw is at same) (rw is at other)) spells
 
--- one that wasn't answered
+-- a delivery that got 50001
 pub refused_over : (old new : State) (d : Delivery) (reply : ReplyView) → reply ≡ fault BackendFault → StillSpells old new → ServesOver old new (served ((d, reply) ∷ []))
 refused_over old new d reply is same = λ was over. stands was (serves_refused was d reply is) (same was over)
 
--- nothing leads nowhere
+-- no exchanges
 pub none_over : (old : State) → ServesOver old old []
 none_over old = λ was over. stands was (serves_none was) over
 
--- the next of a list
+-- the next delivery of a list
 pub next_over : (old mid new : State) (list : List Delivery) (i : ℕ) (d : Delivery) (replies more : List ReplyView) (reply : ReplyView) → i < length list → d ≡ get_or list i d → length replies ≡ i → more ≡ replies ++ reply ∷ []
     → ServesOver old mid (served (zip (take i list) replies)) → ServesOver mid new (served ((d, reply) ∷ [])) → ServesOver old new (served (zip (take (i + 1) list) more))
 next_over old mid new list i d replies more reply lt item count longer before one = λ was over.

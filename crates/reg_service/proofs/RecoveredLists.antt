@@ -1,4 +1,4 @@
--- What is found after a list of exchanges, one after the other.
+-- What a crash leaves after a list of exchanges, one after another.
 use Rattle.std.proofs.Common.{◌≡◌, ◌⊎◌, inl, inr, ℕ, ◌+◌, ◌<◌, ◌∙◌, true, false, Bool, List, [], ◌∷◌, ◌++◌, length, take, zip, get_or, append_assoc, append-nil, IsTrue, refl, sym, ap, subst, arith}
 use Rattle.std.proofs.lemmas.Bool.{cases_Bool, both_ways}
 use Rattle.std.proofs.lemmas.List.{take_more, length-take}
@@ -25,11 +25,11 @@ use Rattle.reg_service.proofs.JoinedExchanges.{is_led, is_first-append, registry
 use Rattle.reg_service.proofs.OpenConnections.{keeps_as, keeps_both, keeps_still}
 use Rattle.reg_service.proofs.SingleDeliveries.{served_fault}
 
--- where nothing of both was answered, nothing of all was
+-- if nothing of both was served, nothing of their concatenation was
 none_of_both : (xs ys : List Exchange) → served xs ≡ [] → served ys ≡ [] → served (xs ++ ys) ≡ []
 none_of_both xs ys x y = served-append xs ys ∙ (λ i. x i ++ y i)
 
--- the exchanges with the next of a list
+-- the exchanges with the next delivery of a list
 pub zip_next : (list : List Delivery) (i : ℕ) (d : Delivery) (replies more : List ReplyView) (reply : ReplyView) → i < length list → d ≡ get_or list i d → length replies ≡ i → more ≡ replies ++ reply ∷ []
     → zip (take (i + 1) list) more ≡ zip (take i list) replies ++ (d, reply) ∷ []
 zip_next list i d replies more reply lt item count longer =
@@ -38,7 +38,7 @@ zip_next list i d replies more reply lt item count longer =
     (λ j. zip (front j) (longer j)) ∙ zip-push (take i list) replies d reply same
 
 module _ {S : Type 0} {g : Ghosts S} where
-  -- an exchange that was answered 50001 isn't served
+  -- an exchange with reply 50001 isn't served
   keeps_one : (old new : Service S g) (d : Delivery) (reply : ReplyView) → PreservesService old new (reply ≡ fault BackendFault) → PreservesService old new (served ((d, reply) ∷ []) ≡ [])
   keeps_one old new d reply = keeps_as old new (served_fault d reply)
 
@@ -46,14 +46,14 @@ module _ {S : Type 0} {g : Ghosts S} where
   pub passes_both : (old mid new : Service S g) (xs ys : List Exchange) → PreservesService old mid (served xs ≡ []) → PreservesService mid new (served ys ≡ []) → PreservesService old new (served (xs ++ ys) ≡ [])
   passes_both old mid new xs ys before later = keeps_both old mid new (none_of_both xs ys) before later
 
-  -- one exchange more
+  -- one more exchange
   pub passes_next : (old mid new : Service S g) (xs : List Exchange) (d : Delivery) (reply : ReplyView) → PreservesService old mid (served xs ≡ []) → PreservesService mid new (reply ≡ fault BackendFault)
       → PreservesService old new (served (xs ++ (d, reply) ∷ []) ≡ [])
   passes_next old mid new xs d reply before one = passes_both old mid new xs ((d, reply) ∷ []) before (keeps_one mid new d reply one)
 
-  -- ---- where a list splits
+  -- ---- splits of a list
 
-  -- one exchange stands apart
+  -- a list of one exchange
   abbrev split_here : (old new : Service S g) (d : Delivery) (reply : ReplyView) → reply ≡ fault BackendFault → PreservesService old new (reply ≡ fault BackendFault) → SplitAt old new ((d, reply) ∷ [])
   split_here old new d reply is keeps = record {
     before = [];
@@ -68,7 +68,7 @@ module _ {S : Type 0} {g : Ghosts S} where
     later = keeps_still new (served [] ≡ []) refl;
   }
 
-  -- so it does behind others
+  -- the same after other exchanges
   abbrev split_later : (old mid new : Service S g) (xs ys : List Exchange) → PreservesService old mid (served xs ≡ []) → SplitAt mid new ys → SplitAt old new (xs ++ ys)
   split_later old mid new xs ys keeps at = record {
     before = xs ++ at.before;
@@ -83,7 +83,7 @@ module _ {S : Type 0} {g : Ghosts S} where
     later = at.later;
   }
 
-  -- and in front of others that weren't answered
+  -- and before other exchanges with reply 50001
   abbrev split_still : (old mid new : Service S g) (xs ys : List Exchange) → served ys ≡ [] → PreservesService mid new (served ys ≡ []) → SplitAt old mid xs → SplitAt old new (xs ++ ys)
   split_still old mid new xs ys none keeps at = record {
     before = at.before;
@@ -98,9 +98,9 @@ module _ {S : Type 0} {g : Ghosts S} where
     later = passes_both at.left mid new at.after ys at.later keeps;
   }
 
-  -- ---- where the store fails
+  -- ---- failures of the store
 
-  -- the store fails at the next exchange, or has failed at one before it
+  -- the store failed at the next exchange, or had failed before
   pub fails_next : (old mid new : Service S g) (xs : List Exchange) (d : Delivery) (reply : ReplyView) → PreservesService old mid (served xs ≡ []) → PreservesService mid new (reply ≡ fault BackendFault)
       → (IsTrue (has_failed (store_in new)) → reply ≡ fault BackendFault) → (IsTrue (has_failed (store_in mid)) → IsTrue (has_failed (store_in old)) ⊎ FailsAt old mid xs)
       → IsTrue (has_failed (store_in new)) → IsTrue (has_failed (store_in old)) ⊎ FailsAt old new (xs ++ (d, reply) ∷ [])
@@ -113,13 +113,13 @@ module _ {S : Type 0} {g : Ghosts S} where
       ]
       by (inr not_failed) = inr (record { at = split_later old mid new xs ((d, reply) ∷ []) passed (split_here mid new d reply (fails failed) one); not_failed = not_failed; fails = failed })
 
-  -- ---- what a crash leaves
+  -- ---- crashes
 
-  -- before the first, what was there is found
+  -- before the first exchange, a crash leaves the stored state
   pub found_none : (s : Service S g) (was : Stored) → ((db : Trees) → (state_in s).may_leave db → RecoversTo db was) → RecoversAcknowledged s s was []
   found_none s was leaves = inl (λ db it. leaves_none was db (leaves db it))
 
-  -- after one exchange: over a connection that stayed open a crash leaves what was answered
+  -- after one exchange: over a connection that stayed open, a crash leaves what was acknowledged
   pub found_once : (old new : Service S g) (was : Stored) (d : Delivery) (reply : ReplyView) → PreservesService old new (reply ≡ fault BackendFault) → IsOpenOver (state_in old) was
       → ServesOver (state_in old) (state_in new) (served ((d, reply) ∷ [])) → RecoversSpelled (state_in new) → RecoversOne was d reply (state_in new).may_leave → RecoversAcknowledged old new was ((d, reply) ∷ [])
   found_once old new was d reply keeps over serves spelled found = by (cases_Bool (state_in new).is_open) found
@@ -137,7 +137,7 @@ module _ {S : Type 0} {g : Ghosts S} where
         leaves = one.leaves;
       })
 
-  -- what is found after exchanges that follow others is found after both
+  -- what a crash leaves after exchanges that follow others, it leaves after both
   found_later : (old mid new : Service S g) (was now : Stored) (xs ys : List Exchange) → PreservesService old mid (served xs ≡ []) → LeadsTo was (served xs) now → (HasTrueEvidence was → HasTrueEvidence now)
       → RecoversAcknowledged mid new now ys → RecoversAcknowledged old new was (xs ++ ys)
   found_later old mid new was now xs ys passed leads stays found = by found
@@ -173,7 +173,7 @@ module _ {S : Type 0} {g : Ghosts S} where
         leaves = λ db it. elim (u.leaves db it) [ inl leaves ↦ inl (both db leaves) | inr leaves ↦ inr (with_one u.at.before u.at.exchange.0 db leaves) ];
       })
 
-  -- exchanges that weren't answered and left no more change nothing of what is found
+  -- exchanges with reply 50001 that add no crash state change nothing
   found_still : (old mid new : Service S g) (was : Stored) (xs ys : List Exchange) → served ys ≡ [] → PreservesService mid new (served ys ≡ []) → AddsNoCrashState (state_in mid) (state_in new)
       → RecoversAcknowledged old mid was xs → RecoversAcknowledged old new was (xs ++ ys)
   found_still old mid new was xs ys none keeps no_more found = by found
@@ -194,7 +194,7 @@ module _ {S : Type 0} {g : Ghosts S} where
         leaves = λ db it. elim (u.leaves db (no_more db it)) [ inl leaves ↦ inl (still db leaves) | inr leaves ↦ inr leaves ];
       })
 
-  -- over an open connection exchanges are answered from where the others led; over one that is shut they leave no more
+  -- over an open connection, exchanges are served from the state that the others led to; over a closed one they add no crash state
   pub found_both : (old mid new : Service S g) (was now : Stored) (xs ys : List Exchange) → LeadsTo was (served xs) now → (HasTrueEvidence was → HasTrueEvidence now) → SpellsWhileOpen (state_in mid) now
       → PreservesService old mid (served xs ≡ []) → PreservesService mid new (served ys ≡ []) → HasCleanDisk (state_in new)
       → RecoversAcknowledged old mid was xs → (IsOpenOver (state_in mid) now → RecoversAcknowledged mid new now ys) → RecoversAcknowledged old new was (xs ++ ys)
@@ -216,7 +216,7 @@ module _ {S : Type 0} {g : Ghosts S} where
 
   -- ---- durable exchanges
 
-  -- exchanges that weren't answered, and a service that did nothing
+  -- exchanges with reply 50001, and a service that did nothing
   pub durable_none : (s : Service S g) (was : Stored) (xs : List Exchange) → served xs ≡ [] → RecoversSpelled (state_in s) → ServesDurably s s was was xs
   durable_none s was xs none spelled =
       let Q : List Exchange → Type 0 = λ zs. Serves was zs was in

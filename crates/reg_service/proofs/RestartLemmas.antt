@@ -1,4 +1,4 @@
--- Exchanges before a crash and after it are one list.
+-- Exchanges before and after a crash are one list.
 use Rattle.std.proofs.Common.{◌≡◌, ◌⊎◌, inl, inr, ◌∙◌, true, false, Bool, ◌&&◌, List, [], ◌∷◌, ◌++◌, append_assoc, append-nil, true≢false, ℕ, refl, sym, ap, subst}
 use Rattle.std.specs.Prelude.{Some, is_none}
 use Rattle.std.specs.Option.{option_map_or}
@@ -31,7 +31,7 @@ fresh was before d key entry first some has =
     and_false true = refl
     and_false false = refl
 
--- the plain machine's reply is due to a first delivery
+-- the abstract machine's reply is due to a first delivery
 due_in_progress : (was : Stored) (before : List Exchange) (d : Delivery) → is_first was.replies before d ≡ true → IsDue was before d (reply_after was before d.command)
 due_in_progress was before d first = record {
   read = λ _. refl;
@@ -57,7 +57,7 @@ answers_then was xs d reply p due before x after e = by (split xs ((d, reply) �
     by (inl u) = p before x u.0 u.1
     by (inr u) = last u.0 u.1 u.2
 
--- whatever follows the exchanges that lead to what a crash left continues them
+-- any exchanges after those that led to the state that a crash left continue them
 continued : (was : Stored) (xs between : List Exchange) (db : Trees) (had : RecoversExchanges was (served xs ++ between) db) → IsInProgress was (served xs) between → Answers was (served xs ++ between) → RestartsFrom was xs db
 continued was xs between db had in_progress answers = record {
   left = had.now;
@@ -76,7 +76,7 @@ continued was xs between db had in_progress answers = record {
 }
 
 module _ {S : Type 0} {g : Ghosts S} where
-  -- each database that a crash may leave after exchanges has what was acknowledged, and what follows continues it
+  -- each database that a crash may leave after exchanges has the acknowledged ones, and later exchanges continue them
   pub restarts : (old new : Service S g) (was now : Stored) (xs : List Exchange) → ServesDurably old new was now xs → IsOpenOver (state_in old) was
       → (db : Trees) → (state_in new).may_leave db → RestartsFrom was xs db
   restarts old new was now xs p over db it = by (p.crash over)

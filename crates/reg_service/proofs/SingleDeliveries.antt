@@ -1,4 +1,4 @@
--- One delivery, and what it leaves.
+-- One delivery, and the state after it.
 use Rattle.std.proofs.Common.{◌≡◌, ◌≢◌, ℕ, true, false, Bool, not, ◌&&◌, List, [], ◌∷◌, ◌++◌, refl, sym, ap, ◌∙◌, subst, true≢false}
 use Rattle.std.specs.Prelude.{Option, Some, None, option_map, is_none, cond, bytes_eq, ◌==◌, if◌then◌else◌}
 use Rattle.std.specs.Option.{option_or, option_map_or}
@@ -31,7 +31,7 @@ key_of-write d key e = by (is_write d.command) e
     by true h = refl
     by false h = absurd (cc)
 
--- without a key, exactly a write is first
+-- a delivery without a key is a first delivery exactly if it is a write
 pub is_first-keyless : (k : Kept) (before : List Exchange) (d : Delivery) → key_of d ≡ None → is_first k before d ≡ is_write d.command
 is_first-keyless k before d e = ap (λ o. is_write d.command && option_map_or (is_new k before) o true) e ∙ by (is_write d.command)
   where
@@ -39,7 +39,7 @@ is_first-keyless k before d e = ap (λ o. is_write d.command && option_map_or (i
     by true = refl
     by false = refl
 
--- with one, where nothing is kept under it
+-- a delivery with a key is one exactly if nothing is kept under the key
 pub is_first-keyed : (k : Kept) (d : Delivery) (key : List ℕ) → key_of d ≡ Some key → is_first k [] d ≡ is_none (k key)
 is_first-keyed k d key e =
     (λ i. key_of-write d key e i && option_map_or (is_new k []) (e i) true) ∙ by (is_none (k key))
@@ -58,7 +58,7 @@ due_keyless was d reply keyless e = record {
   other = λ key entry some _ _. absurd (cc);
 }
 
--- the reply that is due where nothing is kept under the key
+-- the reply that is due if nothing is kept under the key
 due_first : (was : Stored) (d : Delivery) (key : List ℕ) (reply : ReplyView)
     → key_of d ≡ Some key → was.replies key ≡ None → reply ≡ (step was.registry d.command).1 → IsDue was [] d reply
 due_first was d key reply some new e = record {
@@ -75,7 +75,7 @@ due_first was d key reply some new e = record {
         let gone : was.replies key2 ≡ None = ap was.replies (sym same) ∙ new in
         cc
 
--- the reply that is due where an entry is kept under the key
+-- the reply that is due if an entry is kept under the key
 due_again : (was : Stored) (d : Delivery) (key : List ℕ) (entry : KeptEntry) (reply : ReplyView)
     → key_of d ≡ Some key → was.replies key ≡ Some entry
     → (command_text d.command ≡ entry.command → reply ≡ entry.reply)
@@ -96,7 +96,7 @@ due_again was d key entry reply some has same other = record {
         let at : was.replies key2 ≡ Some entry2 = (λ i. sym (kept_after-nil was.replies) i key2) ∙ has2 in
         let f : was.replies key ≡ was.replies key2 = ap was.replies e in cc
 
--- what a write leaves under its key
+-- the entry that a write leaves under its key
 pub kept_after-keyed : (k : Kept) (d : Delivery) (reply : ReplyView) (key q : List ℕ) → key_of d ≡ Some key → k key ≡ None
     → kept_after k ((d, reply) ∷ []) q ≡ (if bytes_eq key q then Some (record { command = command_text d.command; reply = reply }) else k q)
 kept_after-keyed k d reply key q some new =
@@ -110,7 +110,7 @@ kept_after-keyed k d reply key q some new =
     by true same = ap (λ o. option_or o (Some (record { command = command_text d.command; reply = reply }))) (ap k (sym (same.0 refl)) ∙ new)
     by false differs = option_or-none (k q)
 
--- what has no key, or a known one, leaves nothing
+-- a delivery without a key, or with a known one, leaves no entry
 pub kept_after-known : (k : Kept) (d : Delivery) (reply : ReplyView) → ((key : List ℕ) → key_of d ≡ Some key → is_none (k key) ≡ false)
     → kept_after k ((d, reply) ∷ []) ≡ k
 kept_after-known k d reply known = λ i q. at (key_of d) known q (k q) refl i
@@ -128,7 +128,7 @@ kept_after-known k d reply known = λ i q. at (key_of d) known q (k q) refl i
     at None old q None e = refl
     at (Some key) old q None e = test (bytes_eq q key) (differs q key (bytes_eq q key) (bytes_eq-Decides q key) (old key refl) e)
 
--- the firsts of one delivery
+-- the first deliveries of a list of one
 firsts-one : (k : Kept) (d : Delivery) (reply : ReplyView) (b : Bool) → is_first k [] d ≡ b → firsts k ((d, reply) ∷ []) ≡ (if b then d.command ∷ [] else [])
 firsts-one k d reply b e = ap (λ (t : Bool). (if t then d.command ∷ [] else []) ++ []) e ∙ by b
   where
@@ -136,7 +136,7 @@ firsts-one k d reply b e = ap (λ (t : Bool). (if t then d.command ∷ [] else [
     by true = refl
     by false = refl
 
--- a first delivery leads to what its command makes, where its reply is kept as it is due
+-- a first delivery leads to the state after its command, if its reply is kept as it is due
 pub leads_first : (was now : Stored) (d : Delivery) (reply : ReplyView) → is_first was.replies [] d ≡ true → StepsTo was d.command now
     → now.replies ≡ kept_after was.replies ((d, reply) ∷ []) → LeadsTo was ((d, reply) ∷ []) now
 leads_first was now d reply first steps kept =
@@ -147,7 +147,7 @@ leads_first was now d reply first steps kept =
       evidence = subst (λ (cs : List Command). IsEvidenceAfterAll was.registry cs was.evidence now.evidence) (sym one) (now.evidence, steps.evidence, refl);
     }
 
--- another one leads nowhere
+-- a later delivery leads nowhere
 leads_still : (was : Stored) (d : Delivery) (reply : ReplyView) → is_first was.replies [] d ≡ false
     → kept_after was.replies ((d, reply) ∷ []) ≡ was.replies → LeadsTo was ((d, reply) ∷ []) was
 leads_still was d reply later kept =
@@ -158,7 +158,7 @@ leads_still was d reply later kept =
       evidence = subst (λ (cs : List Command). IsEvidenceAfterAll was.registry cs was.evidence was.evidence) (sym none) refl;
     }
 
--- a read makes nothing of what is stored
+-- a read changes nothing of the stored state
 pub steps_nowhere : (was now : Stored) (c : Command) → is_write c ≡ false → StepsTo was c now → now.replies ≡ was.replies → now ≡ was
 steps_nowhere was now c read steps kept =
     λ i. record { registry = (steps.registry ∙ step-read was.registry c read) i; replies = kept i; evidence = steps.read read i }
@@ -173,7 +173,7 @@ serves_one was now d reply leads due = record { leads = leads; replies = alone }
     alone (b ∷ []) x after e = absurd (cc)
     alone (b ∷ c ∷ before) x after e = absurd (cc)
 
--- a reply with another status than 500 isn't the backend's fault
+-- a reply with another status than 500 isn't 50001
 not_backend_fault : (reply : ReplyView) → reply.status ≢ 500 → is_backend_fault reply ≡ false
 not_backend_fault reply differs = by (reply.status == 500) (Decides-eqb reply.status 500)
   where
@@ -181,11 +181,11 @@ not_backend_fault reply differs = by (reply.status == 500) (Decides-eqb reply.st
     by true same = absurd (differs (same.0 refl))
     by false same = refl
 
--- so a reply of the registry's own isn't
+-- nor is a reply of the registry's own
 pub no_backend_fault : (reply : ReplyView) → IsCommandReply reply → reply.status ≢ 500
 no_backend_fault reply own is = both_ways _ refl (subst IsKeptStatus is own.kept)
 
--- A read, or a write without a key, is carried out.
+-- A read, or a write without a key, is executed.
 pub serves_keyless : (was now : Stored) (d : Delivery) (reply : ReplyView) → key_of d ≡ None → reply ≡ (step was.registry d.command).1 → reply.status ≢ 500
     → StepsTo was d.command now → now.replies ≡ was.replies → Serves was (served ((d, reply) ∷ [])) now
 serves_keyless was now d reply keyless e ok steps kept =
@@ -200,12 +200,12 @@ serves_keyless was now d reply keyless e ok steps kept =
         let P : Stored → Type 0 = λ s. LeadsTo was ((d, reply) ∷ []) s in
         subst P (sym (steps_nowhere was now d.command read steps kept)) (leads_still was d reply (is_first-keyless was.replies [] d keyless ∙ read) nothing)
 
--- what is kept of a first delivery of a key is what it leaves
+-- the entry of a first delivery is what it leaves
 pub kept_first : (k : Kept) (d : Delivery) (key : List ℕ) (reply : ReplyView) → key_of d ≡ Some key → k key ≡ None
     → kept_with k key (record { command = command_text d.command; reply = reply }) ≡ kept_after k ((d, reply) ∷ [])
 kept_first k d key reply some new = λ i q. sym (kept_after-keyed k d reply key q some new) i
 
--- The first delivery of a key is carried out and kept.
+-- The first delivery of a key is executed, and its reply is kept.
 pub serves_first : (was now : Stored) (d : Delivery) (key : List ℕ) (reply : ReplyView)
     → key_of d ≡ Some key → was.replies key ≡ None → reply ≡ (step was.registry d.command).1 → reply.status ≢ 500 → StepsTo was d.command now
     → now.replies ≡ kept_with was.replies key (record { command = command_text d.command; reply = reply }) → Serves was (served ((d, reply) ∷ [])) now
@@ -232,13 +232,13 @@ serves_again was d key entry reply some has same other = by (is_backend_fault re
         (leads_still was d reply (is_first-keyed was.replies d key some ∙ ap is_none has) (kept_after-known was.replies d reply old))
         (due_again was d key entry reply some has same other)
 
--- what is answered 50001 counts for nothing
+-- an exchange with reply 50001 isn't served
 pub served_fault : (d : Delivery) (reply : ReplyView) → reply ≡ fault BackendFault → served ((d, reply) ∷ []) ≡ []
 served_fault d reply e =
     let is : is_backend_fault reply ≡ true = ap is_backend_fault e ∙ (bytes_eq-Decides (fault BackendFault).body (fault BackendFault).body).1 refl in
     ap (λ (b : Bool). cond (not b) ((d, reply) ∷ []) []) is
 
--- A delivery for which memory was refused.
+-- A delivery that got 50001.
 pub serves_refused : (was : Stored) (d : Delivery) (reply : ReplyView) → reply ≡ fault BackendFault → Serves was (served ((d, reply) ∷ [])) was
 serves_refused was d reply e =
     let P : List Exchange → Type 0 = λ xs. Serves was xs was in

@@ -1,4 +1,4 @@
--- What the calls of a store leave, one after the other.
+-- Calls of a store, one after another.
 use Rattle.std.proofs.Common.{◌≡◌, ◌≢◌, true, false, List, [], length, refl, ap, Option, None, Result, Ok, Err, Vec, Global, vec_len, sym, subst, ◌∙◌, arith}
 use Rattle.std.specs.Prelude.{ℕ, ◌==◌, OnErr}
 use Rattle.std.proofs.lemmas.Bool.{both_ways}
@@ -19,7 +19,7 @@ use Rattle.reg_store.specs.Changes.{HoldsAfterChanges, stored_after_changes, sto
 use Rattle.reg_store.specs.Stores.{StillSpells}
 use Rattle.reg_service.specs.Inside.Steps.{StepsTo, HoldsAfterCommand, IsDecisionOfStep}
 
--- what holds anyway holds where a result is an error
+-- what is always true is true if a result is an error
 pub whatever_fails : {X E P : Type 0} (r : Result X E) → P → OnErr r P
 whatever_fails (Ok x) p = tt
 whatever_fails (Err e) p = p
@@ -36,14 +36,14 @@ no_changes changes e = nil_from_length changes.items (sym changes.ok.0 ∙ is_ze
 pub some_changes : (changes : Vec Change Global) → (vec_len changes == 0) ≡ false → changes.items ≢ []
 some_changes changes e none = both_ways _ e (ap (λ n. n == 0) (changes.ok.0 ∙ ap length none))
 
--- what follows from what holds where a result is an error
+-- a consequence of what is true if a result is an error
 pub fails_as : {X E P Q : Type 0} (r : Result X E) → (P → Q) → OnErr r P → OnErr r Q
 fails_as (Ok x) f h = tt
 fails_as (Err e) f h = f h
 
 -- ---- decisions
 
--- on its ground a decision is the one for what is stored
+-- on its inputs, a decision is the abstract machine's for the stored state
 pub decided_for : (was : Stored) (command : Command) (schema : Option (List NodeView)) (view : View) (d : Decision) → IsDecisionFor command schema view d
     → IsDecisionInput was.registry command (used_schema command schema) view → HasOnlyVersions was.registry was.evidence → IsDecisionOfStep was command d
 decided_for was command schema view d decides ground owners = record {
@@ -56,16 +56,16 @@ decided_for was command schema view d decides ground owners = record {
   fit = decides.fit was.registry ground;
 }
 
--- what follows from what holds of what is taken holds of it
+-- a consequence of what is true after changes
 pub taken_as : {changes : List Change} {keep : Option Keep} {was : Stored} {P Q : Stored → Type 0} → ((now : Stored) → P now → Q now) → HoldsAfterChanges changes keep was P → HoldsAfterChanges changes keep was Q
 taken_as {changes} {keep} {was} f taken = record { holds = f (stored_after_apply changes keep was) taken.holds; stays_true = taken.stays_true }
 
 module _ (was : Stored) (command : Command) (d : Decision) (decided : IsDecisionOfStep was command d) where
-  -- what is stored can have the changes of a decision
+  -- the changes of a decision fit the stored state
   pub fits : (changes : List Change) → changes ≡ d.changes.items → ChangesFit changes was.registry
   fits changes is = subst (λ (l : List Change). ChangesFit l was.registry) (sym is) decided.fit
 
-  -- what holds after them and the reply holds after the command
+  -- what is true after the changes and the reply is true after the command
   pub makes : (changes : List Change) (keep : Option Keep) (kept : Kept) (Holds : Stored → Type 0) → changes ≡ d.changes.items → HoldsAfterChanges changes keep was Holds → with_reply keep was.replies ≡ kept → HoldsAfterCommand was command kept Holds
   makes changes keep kept Holds is taken replies =
       let s : StepsTo was command (stored_after_changes changes was) = subst (λ (l : List Change). StepsTo was command (stored_after_changes l was)) (sym is) decided.steps in
@@ -77,6 +77,6 @@ module _ (was : Stored) (command : Command) (d : Decision) (decided : IsDecision
         holds = taken.holds;
       }
 
-  -- without a change, what holds before holds after it
+  -- without a change, what is true before the command is true after it
   pub makes_nothing : (Holds : Stored → Type 0) → d.changes.items ≡ [] → Holds was → HoldsAfterCommand was command was.replies Holds
   makes_nothing Holds none holds = makes [] None was.replies Holds (sym none) (record { holds = holds; stays_true = λ all. all }) refl

@@ -1,5 +1,5 @@
--- Deliveries that may come again: which of them act, and what each is answered. All is said of whole
--- lists. The Schema Registry API reference knows no retry keys: each definition here is this project's choice.
+-- Deliveries and their retries: which deliveries are executed, and the reply to each. Every definition is about a whole list. The Schema
+-- Registry API reference has no retry keys, so each definition here is this project's choice.
 use Rattle.std.specs.Prelude.{◌≡◌, ◌≢◌, ℕ, ◌==◌, Bool, true, false, not, ◌&&◌, IsTrue, IsFalse, List, [], ◌∷◌, ◌++◌, filter, find, map, bytes_eq, Option, Some, None, is_none, option_map, if◌then◌else◌}
 use Rattle.std.specs.List.{list_any}
 use Rattle.std.specs.Option.{option_or, option_map_or}
@@ -14,91 +14,89 @@ use Rattle.reg_core.specs.Evidence.{EvidenceMap, IsEvidenceAfter}
 use Rattle.reg_core.specs.Stored.{Stored}
 use Rattle.reg_core.specs.declared.delivery.Delivery.{Delivery}
 
--- A delivery and the reply to it.
+-- A delivery and its reply.
 abbrev pub Exchange : Type 0
 Exchange = Delivery × ReplyView
 
--- The retry key of a write, if it has one. A read has none: a key beside it is ignored.
+-- The retry key of a write, or `None`. A read has none: the key that it was sent with is ignored.
 abbrev pub key_of : Delivery → Option (List ℕ)
 key_of d = if is_write d.command then d.key else None
 
--- The delivery is a write with this key.
+-- Whether the delivery is a write with this key.
 abbrev pub has_key : List ℕ → Delivery → Bool
 has_key key d = option_map_or (bytes_eq key) (key_of d) false
 
--- Nothing is kept under the key, and no earlier write has it.
+-- Whether no reply is kept under the key, and no earlier write has it.
 abbrev pub is_new : Kept → List Exchange → List ℕ → Bool
 is_new k before key = is_none (k key) && not (list_any (λ x. has_key key x.0) before)
 
--- A delivery that comes after k and the exchanges `before` is first where it is a write whose key
--- is new, or that has none.
+-- Whether a delivery is a first delivery after the kept replies k and the exchanges `before`: a write with a new key or none.
 abbrev pub is_first : Kept → List Exchange → Delivery → Bool
 is_first k before d = is_write d.command && option_map_or (is_new k before) (key_of d) true
 
--- The commands of the first deliveries of a list that comes after `before`, in order.
+-- The commands of the first deliveries in a list that follows `before`, in order.
 abbrev pub firsts_after : Kept → List Exchange → List Exchange → List Command
 firsts_after k before [] = []
 firsts_after k before (x ∷ xs) =
     (if is_first k before x.0 then x.0.command ∷ [] else []) ++ firsts_after k (before ++ x ∷ []) xs
 
--- The commands of the first deliveries of a whole list, in order.
+-- The commands of the first deliveries in a whole list, in order.
 abbrev pub firsts : Kept → List Exchange → List Command
 firsts k xs = firsts_after k [] xs
 
--- What an exchange leaves under its key.
+-- The entry that an exchange leaves under its key: the command's text and the reply.
 abbrev pub exchange_entry : Exchange → KeptEntry
 exchange_entry x = record { command = command_text x.0.command; reply = x.1 }
 
--- What is kept after the list: what was kept before, and under each other key the text and the
--- reply of the first write with it.
+-- The kept replies after the list: the earlier ones, and under each other key the text and the reply of the first write with it.
 abbrev pub kept_after : Kept → List Exchange → Kept
 kept_after k xs key = option_or (k key) (option_map exchange_entry (find (λ x. has_key key x.0) xs))
 
--- The plain machine's reply to a command, after the first deliveries among the exchanges `before`.
+-- The abstract machine's reply to a command after the first deliveries in `before`.
 abbrev pub reply_after : Stored → List Exchange → Command → ReplyView
 reply_after was before command = (step (run_commands was.registry (firsts was.replies before)) command).1
 
--- The reply that is due to a delivery that comes after the exchanges `before`.
+-- This reply is due to a delivery after the exchanges `before`.
 pub record IsDue (was : Stored) (before : List Exchange) (d : Delivery) (reply : ReplyView) : Type 0 where
-  -- A read and a first delivery are carried out.
+  -- A read and a first delivery are executed.
   pub read : IsFalse (is_write d.command) → reply ≡ reply_after was before d.command
   pub first : IsTrue (is_first was.replies before d) → reply ≡ reply_after was before d.command
-  -- A key that comes with its own command again gets the reply that it has.
+  -- A known key with its own command gets the kept reply.
   pub again : (key : List ℕ) (entry : KeptEntry) → key_of d ≡ Some key → kept_after was.replies before key ≡ Some entry
       → command_text d.command ≡ entry.command → reply ≡ entry.reply
-  -- A key that comes with another command is refused.
+  -- A known key with another command gets 42290.
   pub other : (key : List ℕ) (entry : KeptEntry) → key_of d ≡ Some key → kept_after was.replies before key ≡ Some entry
       → command_text d.command ≢ entry.command → reply ≡ fault KeyReused
 
--- Each exchange, at its position in the list, has the reply that is due there.
+-- Each exchange has the reply that is due at its position in the list.
 abbrev pub Answers : Stored → List Exchange → Type 0
 Answers was xs = (before : List Exchange) (x : Exchange) (after : List Exchange)
     → xs ≡ before ++ x ∷ after → IsDue was before x.0 x.1
 
--- The evidence of versions after the commands, a fold beside the registry's: a version that one of them added has the level
--- that was in force then, and the ids that this named; one that is gone has none; and one that was there has what it had.
+-- The evidence of versions after the commands, applied one after another. A version that a command added has the level in force at that
+-- time, and the ids that this level named. A removed version has none, and any other version keeps its own.
 abbrev pub IsEvidenceAfterAll : Registry → List Command → EvidenceMap → EvidenceMap → Type 0
 IsEvidenceAfterAll g [] old new = new ≡ old
 IsEvidenceAfterAll g (command ∷ commands) old new =
     (mid : EvidenceMap) × IsEvidenceAfter g command old mid × IsEvidenceAfterAll (step g command).0 commands mid new
 
--- The exchanges lead from what was stored to what is: the registry is the plain machine's after the first deliveries, each
--- once; their replies are kept; and the evidence of versions is what the registry named as each of them was carried out.
+-- The exchanges lead from `was` to `now`. The registry is the abstract machine's after the first deliveries, each applied once, and their
+-- replies are kept. The evidence of versions is what the registry named when each of them was executed.
 pub record LeadsTo (was : Stored) (xs : List Exchange) (now : Stored) : Type 0 where
   pub registry : now.registry ≡ run_commands was.registry (firsts was.replies xs)
   pub kept : now.replies ≡ kept_after was.replies xs
   pub evidence : IsEvidenceAfterAll was.registry (firsts was.replies xs) was.evidence now.evidence
 
--- They lead there, and each reply is the one that is due.
+-- The exchanges lead from `was` to `now`, and each reply is due.
 pub record Serves (was : Stored) (xs : List Exchange) (now : Stored) : Type 0 where
   pub leads : LeadsTo was xs now
   pub replies : Answers was xs
 
--- The reply is that of the code 50001, status and body.
+-- Whether the reply has the status and the body of 50001.
 abbrev pub is_backend_fault : ReplyView → Bool
 is_backend_fault reply = reply.status == (fault BackendFault).status && bytes_eq reply.body (fault BackendFault).body
 
--- The exchanges that count: those whose reply isn't that of 50001.
+-- The exchanges whose reply isn't 50001.
 abbrev pub served : List Exchange → List Exchange
 served xs = filter (λ x. not (is_backend_fault x.1)) xs
 
@@ -109,6 +107,6 @@ RepeatsAgree xs =
     → xs ≡ before ++ x ∷ (between ++ y ∷ after) → key_of x.0 ≡ Some key → key_of y.0 ≡ Some key
     → command_text x.0.command ≡ command_text y.0.command → x.1 ≡ y.1
 
--- No other replies to these deliveries would be due.
+-- Only these replies are due to these deliveries.
 abbrev pub NoOtherAnswers : Stored → List Exchange → Type 0
 NoOtherAnswers was xs = (ys : List Exchange) → map (λ y. y.0) ys ≡ map (λ x. x.0) xs → Answers was ys → ys ≡ xs

@@ -1,4 +1,4 @@
--- One delivery after the other: what `Service::answer` promises of one, and a list as a chain of such steps.
+-- One delivery after another: the guarantees of `Service::answer` for one delivery, and a list as a chain of such steps.
 use Rattle.std.specs.Prelude.{◌≡◌, IsTrue, List, [], ◌∷◌}
 use Rattle.sqlite.specs.State.{HasCleanDisk}
 use Rattle.sqlite_trees.specs.declared.store.Store.{Ghosts}
@@ -13,21 +13,21 @@ use Rattle.reg_service.specs.Admissions.{AllAdmitted}
 use Rattle.reg_service.specs.Services.{store_in, state_in, ServesOver, PreservesService}
 use Rattle.reg_service.specs.Crashes.{RecoversAcknowledged, RecoversSpelled}
 
--- This project's choice: the service processed one delivery, and replied so.
+-- This project's choice: the service processed this delivery and returned this reply.
 pub record Processes {S : Type 0} {g : Ghosts S} (old new : Service S g) (x : Exchange) : Type 0 where
-  -- after a fault of the disk, and over a closed connection, nothing is done
+  -- if the store had failed, or the connection was closed, the reply is 50001
   pub frame : PreservesService old new (x.1 ≡ fault BackendFault)
-  -- the delivery at which the store fails gets 50001 too
+  -- if the store has failed now, the reply is 50001
   pub fails : IsTrue (has_failed (store_in new)) → x.1 ≡ fault BackendFault
-  -- each version that is added was admitted by its subject's level
+  -- an added version was admitted by its subject's level
   pub admitted : HasCleanDisk (state_in new) → (was : Stored) → IsOpenOver (state_in old) was → AllAdmitted was (served (x ∷ []))
-  -- a crash leaves what was answered; it may also leave a delivery that got 50001: version, reply and evidence together
+  -- a crash preserves the exchange if it was acknowledged, and may preserve a delivery that got 50001: version, reply and evidence together
   pub crash : HasCleanDisk (state_in new) → (was : Stored) → IsOpenOver (state_in old) was → RecoversAcknowledged old new was (x ∷ [])
   pub crash_while_open : RecoversSpelled (state_in new)
-  -- the evidence of versions is what the registry named, and true if all of it was true
+  -- the evidence of versions is what the registry named; if all of it was true, it still is
   pub exactly_once : HasCleanDisk (state_in new) → ServesOver (state_in old) (state_in new) (served (x ∷ []))
 
--- This project's choice: it processed each delivery of a list, the next one from where the last one left it.
+-- This project's choice: the service processed each delivery of a list, in the state that the previous one left.
 abbrev pub ProcessesEach : {S : Type 0} {g : Ghosts S} → Service S g → Service S g → List Exchange → Type 0
 ProcessesEach old new [] = new ≡ old
 ProcessesEach {S} {g} old new (x ∷ xs) = (mid : Service S g) × Processes old mid x × ProcessesEach mid new xs

@@ -1,4 +1,4 @@
--- What a service is seen as, and what its calls leave in the tables.
+-- Views of a service, and the effect of its calls on the tables.
 use Rattle.std.specs.Prelude.{◌≡◌, false, List, [], ◌∷◌, ◌++◌, IsTrue}
 use Rattle.std.specs.List.{All}
 use Rattle.sqlite.specs.State.{State, HasCleanDisk}
@@ -12,51 +12,52 @@ use Rattle.reg_store.specs.declared.store.Store.{Store}
 use Rattle.reg_service.specs.declared.service.Service.{Service}
 use Rattle.reg_service.specs.Deliveries.{Exchange, Serves, served}
 
--- this project's choice: the tables that the service stands on
+-- this project's choice: the service's store
 abbrev pub store_in : {S : Type 0} {g : Ghosts S} → Service S g → Store S g
 store_in service = service.store
 
--- SQLite, transactions: what their connection shows
+-- SQLite, transactions: the state of the store's connection
 abbrev pub state_in : {S : Type 0} {g : Ghosts S} → Service S g → State
 state_in service = state_of (store_in service)
 
--- this project's choice: the exchanges lead from what was stored to what the tables spell
+-- this project's choice: the exchanges lead from `was` to what the tables spell
 pub record ServesTo (was : Stored) (xs : List Exchange) (new : State) : Type 0 where
   pub now : Stored
   pub serves : Serves was xs now
-  -- if all evidence of versions was true, it still is
+  -- if all evidence was true, it still is
   pub stays_true : HasTrueEvidence was → HasTrueEvidence now
   pub spells : SpellsWhileOpen new now
 
--- this project's choice: they lead from what the tables spelled to what they spell
+-- this project's choice: the exchanges lead from what the tables spelled to what they spell now
 abbrev pub ServesOver : State → State → List Exchange → Type 0
 ServesOver old new xs = (was : Stored) → SpellsWhileOpen old was → ServesTo was xs new
 
--- this project's choice: each reply is that of the code 50001
+-- this project's choice: each reply is 50001
 abbrev pub AreBackendFaults : List ReplyView → Type 0
 AreBackendFaults replies = All (λ reply. reply ≡ fault BackendFault) replies
 
--- This project's choice: what each call over a store preserves, for every reply. A call that can do nothing gives no reply of the registry's own.
+-- This project's choice: what each call over a store preserves, for every reply. `NothingDone` says that no reply is the registry's own.
 pub record PreservesStore {S : Type 0} {g : Ghosts S} (old new : Store S g) (NothingDone : Type 0) : Type 0 where
-  -- after a fault of the disk
+  -- if the store had failed
   pub failed : IsTrue (has_failed old) → NothingDone × IsTrue (has_failed new)
-  -- over a closed connection
+  -- if the connection was closed
   pub closed : HasCleanDisk (state_of new) → (IsTrue (state_of old).is_open → ⊥) → NothingDone × AddsNoCrashState (state_of old) (state_of new)
   pub clean : HasCleanDisk (state_of new) → HasCleanDisk (state_of old)
   pub connection : KeepsOpen (state_of old) (state_of new)
 
--- this project's choice: so does each call of a service
+-- this project's choice: the same for a call of a service
 abbrev pub PreservesService : {S : Type 0} {g : Ghosts S} → Service S g → Service S g → Type 0 → Type 0
 PreservesService old new NothingDone = PreservesStore (store_in old) (store_in new) NothingDone
 
--- This project's choice: one exchange splits the list. `old` and `new` are the service before and after the list. `reached` and `left` are some services,
--- with what calls keep in between.
+-- This project's choice: the list splits at one exchange. `old` and `new` are the service before and after the list. `reached` and `left`
+-- are two services with the guarantees of calls between them; they needn't be the services before and after that exchange. The clause
+-- `each` of `Service::run` says more: it names the service before and after each exchange.
 pub record SplitAt {S : Type 0} {g : Ghosts S} (old new : Service S g) (xs : List Exchange) : Type 0 where
   pub before : List Exchange
   pub exchange : Exchange
   pub after : List Exchange
   pub split : xs ≡ before ++ exchange ∷ after
-  -- each reply from that one on is 50001
+  -- each reply from this exchange on is 50001
   pub unserved : served (exchange ∷ after) ≡ []
   pub reached : Service S g
   pub left : Service S g
@@ -64,7 +65,8 @@ pub record SplitAt {S : Type 0} {g : Ghosts S} (old new : Service S g) (xs : Lis
   pub here : PreservesService reached left (served (exchange ∷ []) ≡ [])
   pub later : PreservesService left new (served after ≡ [])
 
--- this project's choice: an exchange splits the list, and of the two services the first hasn't failed and the second has
+-- this project's choice: the list splits, and `reached` hasn't failed and `left` has. It doesn't say that the store failed at that
+-- exchange; the clause `each` of `Service::run` says more
 pub record FailsAt {S : Type 0} {g : Ghosts S} (old new : Service S g) (xs : List Exchange) : Type 0 where
   pub at : SplitAt old new xs
   pub not_failed : has_failed (store_in at.reached) ≡ false

@@ -1,11 +1,11 @@
-//! The key under which the reply to a delivery is kept.
+//! The retry key of a delivery.
 
 ghost use Rattle.std.specs.Prelude.{◌≡◌, option_copied};
 ghost use Rattle.reg_service.specs.Deliveries.{key_of};
 
 use reg_core::{Delivery, Key};
 
-/// That of a write, if it has one.
+/// The key of a write, or `None` if it has no key or the delivery is a read.
 pub(crate) fn retry_key<'d, 'a>(delivery: &'d Delivery<'a>) -> Option<&'d Key<'a>>
     ensures { option_copied result ≡ key_of delivery.now }
 {

@@ -1,9 +1,9 @@
-//! Why a delivery gets no answer of the registry's own.
+//! Why a delivery gets the reply 50001.
 
 use reg_core::OutOfMemory;
 use reg_store::StoreError;
 
-/// Memory was refused, or the store failed.
+/// An allocation failed, or the store did.
 #[derive(Debug, Drop)]
 pub(crate) struct AnswerError;
 

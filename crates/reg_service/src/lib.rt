@@ -1,4 +1,5 @@
-//! Retries: a write that is sent again with its retry key is applied once, and gets its first reply.
+//! Retries: a write that is sent again with its retry key is applied exactly once and gets its
+//! first reply.
 
 #![tactic(auto)]
 

@@ -12,11 +12,12 @@ use schema_cache::{EvictionPolicy, SchemaCache};
 use std::alloc::Global;
 use std::hash::{FoldHasher, Hasher};
 
-/// The number of recent texts of which a hash is kept.
+/// The number of hashes of recently sent texts.
 const RECENT: usize = 256;
 
-/// The parsed schemas of versions by their ids, and those of texts that clients sent by the texts'
-/// hashes. A schema is in at most one of the two: a registered one moves.
+/// Two caches of parsed schemas: of versions by their id, and of texts that clients sent by the
+/// text's hash. A schema is in at most one of them: when it becomes a version, it goes from the
+/// second to the first.
 #[derive(Drop)]
 pub(crate) struct SchemaCaches {
     pub registered: SchemaCache,
@@ -25,7 +26,7 @@ pub(crate) struct SchemaCaches {
 }
 
 impl SchemaCaches {
-    /// Empty caches, which take no memory.
+    /// Empty caches. They allocate nothing.
     pub fn new() -> SchemaCaches {
         SchemaCaches {
             registered: SchemaCache::new(),
@@ -34,7 +35,7 @@ impl SchemaCaches {
         }
     }
 
-    /// The schema that the command sends, if it sends a text of a supported type that denotes one. A
+    /// The schema that the command sends, if its text has a supported type and denotes a schema. A
     /// cached schema isn't parsed again; it leaves the cache until `keep` stores it.
     pub fn take(&mut self, alloc: Global, command: &Command) -> Result<Option<Schema>, OutOfMemory>
         ensures { IfOk result (λ schema. option_map nodes_view schema ≡ command_schema command.now) }
@@ -49,8 +50,9 @@ impl SchemaCaches {
         }
     }
 
-    /// Stores the schema that the command sent: by its id if the changes add a version with it, so that
-    /// the next version is compared with a parsed schema, and by the sent text if they don't.
+    /// Stores the schema that the command sent. If the changes add a version with it, its key is
+    /// the version's id: the next version is compared with a parsed schema. Otherwise its key is
+    /// the sent text.
     pub fn keep(
         &mut self,
         alloc: Global,
@@ -77,8 +79,8 @@ impl SchemaCaches {
         }
     }
 
-    /// Stores the schema by the text that was sent. Only a text that is sent again evicts others from a
-    /// full cache, so texts that are sent once cost the others nothing.
+    /// Stores the schema by the sent text. Only a text that was sent recently evicts others from a
+    /// full cache, so a text that is sent once evicts nothing.
     fn keep_sent(&mut self, alloc: Global, text: &str, schema: Schema)
         requires { denoted_nodes text.now ≡ Some (nodes_view schema) }
     {
@@ -94,7 +96,7 @@ impl SchemaCaches {
     }
 }
 
-/// The id of the version that the changes add, if they add one.
+/// The id of the version that the changes add, or `None`.
 fn id_added(changes: &[Change]) -> Option<u32> {
     changes.iter().find_map(|change| match change {
         Change::AddRow { row, .. } => Some(row.id()),
@@ -102,14 +104,14 @@ fn id_added(changes: &[Change]) -> Option<u32> {
     })
 }
 
-/// Texts with equal hashes replace each other in the cache.
+/// The cache's key of a text. Texts with equal hashes replace each other.
 fn hash_of(text: &str) -> u32 {
     let mut hasher = FoldHasher::default();
     hasher.write(text.as_bytes());
     (hasher.finish() >> 32) as u32
 }
 
-/// The identity text of the schema, if there is one.
+/// The identity text of the schema, or `None` without a schema.
 pub(crate) fn identity_text(
     alloc: Global,
     schema: Option<&Schema>,

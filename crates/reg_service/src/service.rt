@@ -1,4 +1,4 @@
-//! A registry that carries out each first delivery once.
+//! A registry service that applies each first delivery exactly once.
 
 ghost use Rattle.std.specs.Prelude.{◌≡◌, ◌⊎◌, Some, None, [], ◌∷◌, zip, length, vec_len, IfOk, OnOk, OnErr, IsTrue};
 ghost use Rattle.sqlite.specs.State.{HasCleanDisk};
@@ -25,7 +25,7 @@ use reg_store::{Keep, Store};
 use sqlite::Alter;
 use std::alloc::Global;
 
-/// A registry and the replies that it keeps under retry keys, in the tables of a store.
+/// A registry and its kept replies, in the tables of a store.
 #[derive(Drop)]
 pub struct Service<S: Alter> {
     alloc: Global,
@@ -34,7 +34,7 @@ pub struct Service<S: Alter> {
 }
 
 impl<S: Alter> Service<S> {
-    /// A service over the tables of a store. It allocates nothing.
+    /// A service over a store. It allocates nothing.
     pub fn new(alloc: Global, store: Store<S>) -> Service<S>
         ensures { store_in result ≡ store }
     {
@@ -45,7 +45,7 @@ impl<S: Alter> Service<S> {
         }
     }
 
-    /// The store.
+    /// Returns the store.
     pub fn into_store(self) -> Store<S>
         ensures { result ≡ store_in self }
     {
@@ -57,17 +57,18 @@ impl<S: Alter> Service<S> {
         store
     }
 
-    /// Whether the store has reported a fault of the disk. Each reply is 50001 from then on.
+    /// Whether the store has failed. From then on every reply is 50001.
     pub fn failed(&self) -> bool
         ensures { result ≡ has_failed (store_in self.now) }
     {
         self.store.failed()
     }
 
-    /// Answers a delivery. Carries it out if it is a read, or a write without a key or with a new one. A
-    /// retry gets the first reply; a key with another command gets 42290. If an allocation or the store
-    /// fails, the reply is 50001 and nothing has changed. One exception: if a fault of the disk closed
-    /// the connection, a crash may leave the delivery carried out.
+    /// Executes a read, and a write with a new key or without a key. A known key gets its first
+    /// reply, or 42290 for another command.
+    ///
+    /// If an allocation or the store fails, the reply is 50001 and nothing has changed. One
+    /// exception: if a disk fault closed the connection, a crash may leave the delivery executed.
     pub fn answer(&mut self, delivery: &Delivery) -> Reply
         ensures { Processes self.old self.new (delivery.now, result) }
     {
@@ -77,26 +78,27 @@ impl<S: Alter> Service<S> {
         }
     }
 
-    /// Answers each delivery, in order, as `answer` does. A crash leaves all that was answered, with or
-    /// without one delivery that got 50001, and after which every reply was 50001.
+    /// Processes each delivery in order, as `answer` does. A crash preserves every acknowledged
+    /// delivery. It may also preserve one that got 50001; then every later one got 50001 too.
     ///
     /// # Errors
     ///
-    /// `OutOfMemory` if memory for the replies can't be allocated. Then nothing was carried out.
+    /// `OutOfMemory` if allocating the replies fails. Nothing was executed then.
     pub fn run(&mut self, list: &[Delivery]) -> Result<Vec<Reply>, OutOfMemory>
         ensures count { IfOk result (λ replies. vec_len replies ≡ length list.now) }
 
-        // Each delivery is processed as `answer` processes it, where the one before left the service.
+        // Each delivery is processed as by `answer`, in the state that the previous one left.
         ensures each { IfOk result (λ replies. ProcessesEach self.old self.new (zip list.now replies.items)) }
 
-        // If the store had failed, or the connection was closed, nothing is done.
+        // If the store had failed, or the connection was closed, every reply is 50001.
         ensures frame { PreservesService self.old self.new (IfOk result (λ replies. AreBackendFaults replies.items)) }
 
-        // If the store failed in this call, each reply from some delivery on is 50001.
+        // If the store failed during this call, every reply from some delivery on is 50001. The
+        // clause `each` says more.
         ensures fails { IfOk result (λ replies. IsTrue (has_failed (store_in self.new))
             → IsTrue (has_failed (store_in self.old)) ⊎ FailsAt self.old self.new (zip list.now replies.items)) }
 
-        // The evidence of versions is what the registry named, and true if all of it was true.
+        // The evidence of versions is what the registry named; if all of it was true, it still is.
         ensures exactly_once { HasCleanDisk (state_in self.new) → IfOk result (λ replies.
             ServesOver (state_in self.old) (state_in self.new) (served (zip list.now replies.items))) }
         ensures repeats { HasCleanDisk (state_in self.new) → IfOk result (λ replies.
@@ -107,12 +109,12 @@ impl<S: Alter> Service<S> {
             → NoOtherAnswers was (served (zip list.now replies.items))) }
         ensures err { OnErr result (self.new ≡ self.old) }
 
-        // Each version that was added was admitted by its subject's level, as that was then.
+        // Each added version was admitted by its subject's level at that time.
         ensures admitted { HasCleanDisk (state_in self.new) → IfOk result (λ replies.
             (was : Stored) → IsOpenOver (state_in self.old) was
             → AllAdmitted was (served (zip list.now replies.items))) }
 
-        // A crash leaves all that was answered, with or without one delivery that got 50001:
+        // A crash preserves every acknowledged delivery, with or without one that got 50001:
         // version, reply and evidence together.
         ensures crash { HasCleanDisk (state_in self.new) → IfOk result (λ replies.
             (was : Stored) → IsOpenOver (state_in self.old) was
@@ -128,7 +130,7 @@ impl<S: Alter> Service<S> {
         Ok(replies)
     }
 
-    /// The answer, or an error that changes nothing.
+    /// Returns the reply. After an error the tables still spell what they spelled.
     fn try_answer(&mut self, delivery: &Delivery) -> Result<Reply, AnswerError>
         ensures frame { PreservesService self.old self.new (OnOk result ⊥) }
         ensures fails { IsTrue (has_failed (store_in self.new)) → OnOk result ⊥ }
@@ -150,7 +152,7 @@ impl<S: Alter> Service<S> {
         }
     }
 
-    /// The answer to a command whose reply isn't kept.
+    /// Executes a command whose reply isn't kept.
     fn answer_unkept(&mut self, command: &Command) -> Result<Reply, AnswerError>
         ensures frame { PreservesService self.old self.new (OnOk result ⊥) }
         ensures fails { IsTrue (has_failed (store_in self.new)) → OnOk result ⊥ }
@@ -164,7 +166,7 @@ impl<S: Alter> Service<S> {
         Ok(reply)
     }
 
-    /// The answer to the first delivery of a key, which is kept with the command's text.
+    /// Executes the first delivery of a key, and keeps its reply with the command's text.
     fn answer_first(
         &mut self,
         key: &Key,
@@ -186,7 +188,7 @@ impl<S: Alter> Service<S> {
         Ok(reply)
     }
 
-    /// The changes that the command makes, and its reply.
+    /// The command's changes and its reply.
     fn decision(&mut self, command: &Command) -> Result<Decision, AnswerError>
         ensures frame { PreservesService self.old self.new (OnOk result ⊥) }
         ensures fails { IsTrue (has_failed (store_in self.new)) → OnOk result ⊥ }

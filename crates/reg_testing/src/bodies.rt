@@ -1,4 +1,4 @@
-//! The bodies of answers.
+//! The bodies of replies.
 
 pub const FAULT: &str = "{\"error_code\":50001,\"message\":\"Error in the backend data store\"}";
 

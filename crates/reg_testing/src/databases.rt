@@ -1,10 +1,10 @@
-//! What databases hold, as texts.
+//! The contents of databases, as texts.
 
 use sqlite::{Alter, Connection, Error, Row};
 use std::alloc::Global;
 use std::test::Fail;
 
-/// The statements that declare what a database has.
+/// The statements that declare a database's tables and indexes.
 const DECLARED: &str = "SELECT type, name, sql FROM sqlite_schema ORDER BY name";
 
 /// The rows of a registry.
@@ -15,10 +15,10 @@ const ROWS: &str =
 const ADDED: &str =
     "SELECT 'against' AS what, subject || ' ' || version || ' ' || position AS name, '' || id AS value FROM against UNION ALL SELECT 'evidence', subject || ' ' || version, level FROM evidence UNION ALL SELECT 'mode', subject, mode FROM modes ORDER BY what, name";
 
-/// What is kept.
+/// The kept replies.
 const KEPT: &str = "SELECT key, command, status || ' ' || body FROM kept ORDER BY key";
 
-/// The rows that a query of three texts shows, or nothing where it fails.
+/// The rows of a query of three texts, or nothing if it fails.
 fn rows_of<S: Alter + Drop>(
     alloc: Global,
     connection: &mut Connection<S>,
@@ -30,7 +30,7 @@ fn rows_of<S: Alter + Drop>(
     }
 }
 
-/// Adds the rows to the text, each in a line.
+/// Adds the rows to the text, one line each.
 fn add_rows(text: &mut String, rows: &[Row]) -> Result<(), Fail> {
     for row in rows {
         for at in 0..3 {
@@ -43,12 +43,12 @@ fn add_rows(text: &mut String, rows: &[Row]) -> Result<(), Fail> {
     Ok(())
 }
 
-/// What the database holds: what it declares, and the rows of a registry, each as a line. Nothing, if it
-/// is empty.
+/// The contents of the database: its declarations, and the rows of a registry, one line each. Empty
+/// for an empty database.
 ///
 /// # Errors
 ///
-/// A failed test, where memory is refused.
+/// A failed test if an allocation fails.
 pub fn contents<S: Alter + Drop>(
     alloc: Global,
     connection: &mut Connection<S>,
@@ -63,11 +63,11 @@ pub fn contents<S: Alter + Drop>(
     Ok(text)
 }
 
-/// What is kept in the database.
+/// The kept replies in the database.
 ///
 /// # Errors
 ///
-/// A failed test, where memory is refused.
+/// A failed test if an allocation fails.
 pub fn kept<S: Alter + Drop>(
     alloc: Global,
     connection: &mut Connection<S>,

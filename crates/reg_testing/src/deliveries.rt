@@ -1,4 +1,4 @@
-//! Deliveries with their answers.
+//! Deliveries and their replies.
 
 use crate::bodies::FAULT;
 use reg_core::{Command, Key, OutOfMemory, Reply, Subject, Text};
@@ -7,46 +7,46 @@ use sqlite::Alter;
 use std::alloc::Global;
 use std::test::Fail;
 
-/// What is asked: a command, with texts in the place of the subject, the version, the schema and so on that it names. A
-/// schema is supported, and a version that is deleted is marked.
+/// A command, with texts for its subject, version, schema and so on. A schema has a supported type,
+/// and a version is deleted softly.
 #[derive(Clone, Copy)]
 pub enum Cmd {
     SetGlobal(&'static str),
     SetLevel(&'static str, &'static str),
     Register(&'static str, &'static str),
     DeleteVersion(&'static str, &'static str),
-    /// whether for good
+    /// whether permanently
     DeleteSubject(&'static str, bool),
     SetGlobalMode(&'static str),
     SetMode(&'static str, &'static str),
     Global,
-    /// whether the global level stands in for it
+    /// whether the global level is its default
     LevelOf(&'static str, bool),
     GlobalMode,
-    /// whether the global mode stands in for it
+    /// whether the global mode is its default
     ModeOf(&'static str, bool),
     Lookup(&'static str, &'static str),
     Subjects,
-    /// whether deleted ones are shown
+    /// whether deleted versions are included
     Versions(&'static str, bool),
     Version(&'static str, &'static str),
     Text(&'static str, &'static str),
     ById(&'static str),
     VersionsOfId(&'static str),
     Types,
-    /// the version, and the schema
+    /// a subject, a version and a schema
     Check(&'static str, &'static str, &'static str),
     CheckAll(&'static str, &'static str),
 }
 
-/// A retry key, what is asked, and the status and the body of the answer.
+/// A retry key, a command, and the status and the body of the reply.
 pub type Row = (Option<&'static str>, Cmd, u16, &'static str);
 
 fn text_of(alloc: Global, text: &str) -> Result<Text, OutOfMemory> {
     Ok(Text::from(String::from_str(alloc, text)?))
 }
 
-/// The subject with this text. Each text of the rows is one.
+/// The subject with this text. Each text of the rows is a subject.
 fn subject_of(alloc: Global, text: &str) -> Result<Subject, OutOfMemory> {
     Subject::new(String::from_str(alloc, text)?).ok_or(OutOfMemory)
 }
@@ -146,7 +146,7 @@ fn delivery_of(alloc: Global, row: &Row) -> Result<Delivery<'static>, OutOfMemor
 ///
 /// # Errors
 ///
-/// `OutOfMemory` where memory for them is refused.
+/// `OutOfMemory` if an allocation fails.
 pub fn deliveries_of(alloc: Global, rows: &[Row]) -> Result<Vec<Delivery<'static>>, OutOfMemory> {
     let mut list = Vec::with_capacity(alloc, rows.len())?;
     for row in rows {
@@ -155,16 +155,16 @@ pub fn deliveries_of(alloc: Global, rows: &[Row]) -> Result<Vec<Delivery<'static
     Ok(list)
 }
 
-/// What a service answers, without a promise.
+/// The reply of a service, without the contract of `Service::answer`.
 pub fn answer<S: Alter + Drop>(service: &mut Service<S>, delivery: &Delivery) -> Reply {
     service.answer(delivery)
 }
 
-/// What a service answers to each, one call after the other.
+/// The replies of a service, with one call for each delivery.
 ///
 /// # Errors
 ///
-/// `OutOfMemory` where memory for the replies is refused.
+/// `OutOfMemory` if allocating the replies fails.
 pub fn answer_each<S: Alter + Drop>(
     alloc: Global,
     service: &mut Service<S>,
@@ -177,23 +177,23 @@ pub fn answer_each<S: Alter + Drop>(
     Ok(replies)
 }
 
-/// What a service answers to each in one run, without a promise.
+/// The replies of a service to all deliveries in one run, without the contract of `Service::run`.
 ///
 /// # Errors
 ///
-/// `OutOfMemory` where memory for the replies is refused.
-pub fn answers<S: Alter + Drop>(
+/// `OutOfMemory` if allocating the replies fails.
+pub fn run_all<S: Alter + Drop>(
     service: &mut Service<S>,
     list: &[Delivery],
 ) -> Result<Vec<Reply>, OutOfMemory> {
     service.run(list)
 }
 
-/// Holds a reply to the answer of a row.
+/// Checks that a reply is the reply of a row.
 ///
 /// # Errors
 ///
-/// A failed test, where it is another one.
+/// A failed test if it isn't.
 pub fn check_reply(reply: &Reply, row: &Row) -> Result<(), Fail> {
     if reply.status() == row.2 && reply.body() == row.3 {
         return Ok(());
@@ -202,13 +202,13 @@ pub fn check_reply(reply: &Reply, row: &Row) -> Result<(), Fail> {
     Err(Fail::new(format_args!("{status} {body}, and not {} {}", row.2, row.3)))
 }
 
-/// How many of the replies, from the first on, are the answers of their rows. Those behind have to be
-/// 50001.
+/// The number of replies, from the first on, that are the replies of their rows. All later ones
+/// must be 50001.
 ///
 /// # Errors
 ///
-/// A failed test, where there is another reply.
-pub fn answered(replies: &[Reply], rows: &[Row]) -> Result<usize, Fail> {
+/// A failed test if there is another reply.
+pub fn count_answered(replies: &[Reply], rows: &[Row]) -> Result<usize, Fail> {
     if replies.len() != rows.len() {
         return Err("there are more or fewer replies".into());
     }

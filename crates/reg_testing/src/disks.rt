@@ -1,11 +1,11 @@
-//! Databases on disks in memory, which fail from some call on.
+//! Databases on disks in memory that fail from a given call on.
 
 use sqlite::{Alter, Connection, FileStore, Files, Options};
 use sqlite_disk::{Disk, Fuse, Memory};
 use std::alloc::Global;
 use std::test::Fail;
 
-/// The files, of which the log fails after so many calls, and the database too.
+/// The files of a disk whose log and database fail after these numbers of calls.
 fn fused(log: Memory, log_calls: u64, db: Memory, db_calls: u64) -> Files<Fuse<Memory>> {
     Files {
         log: Fuse::new(log, log_calls),
@@ -13,14 +13,14 @@ fn fused(log: Memory, log_calls: u64, db: Memory, db_calls: u64) -> Files<Fuse<M
     }
 }
 
-/// The files of an empty disk, which doesn't fail.
+/// The files of an empty disk that doesn't fail.
 pub fn empty_disk(alloc: Global) -> Files<Fuse<Memory>> {
     fused(Memory::new(alloc), u64::MAX, Memory::new(alloc), u64::MAX)
 }
 
-/// What is done with a database, whatever that stands on.
+/// A task over a database on any storage.
 pub trait DatabaseTask {
-    /// Does it, and gives the connection back.
+    /// Runs the task, and returns the connection.
     ///
     /// # Errors
     ///
@@ -36,7 +36,7 @@ pub trait DatabaseTask {
 ///
 /// # Errors
 ///
-/// The files, where they can't be used or opened.
+/// The files, if they can't be used or opened.
 fn connect<D: Disk + Drop>(
     alloc: Global,
     files: Files<D>,
@@ -50,28 +50,29 @@ fn connect<D: Disk + Drop>(
     }
 }
 
-/// The files of a connection, closed or not, and whether it was: then its log was copied into the database.
-fn let_go<D: Disk + Drop>(connection: Connection<FileStore<D>>) -> (Files<D>, bool) {
+/// The files of a connection, and whether closing it copied the log into the database.
+fn files_of<D: Disk + Drop>(connection: Connection<FileStore<D>>) -> (Files<D>, bool) {
     match connection.close_files() {
         Ok(files) => (files, true),
         Err((_, store)) => (store.close(), false),
     }
 }
 
-/// Does it with the database in the files. This alone names the store over files beside a task, since a check takes long
-/// for each function that does.
+/// Runs the task over the database in the files. Only this function names the store over files
+/// together with a task, since the check of each such function takes long.
 fn on_files<D: Disk + Drop, T: DatabaseTask>(
     alloc: Global,
     files: Files<D>,
     task: &mut T,
 ) -> Result<(Files<D>, bool), Fail> {
     match connect(alloc, files) {
-        Ok(connection) => Ok(let_go(task.work(alloc, connection)?)),
+        Ok(connection) => Ok(files_of(task.work(alloc, connection)?)),
         Err(files) => Ok((files, false)),
     }
 }
 
-/// Does it with the database in the files, if they can be opened, and gives them back, with whether they could be closed.
+/// Runs the task over the database in the files, if they can be opened. Returns the files, and
+/// whether they could be closed.
 ///
 /// # Errors
 ///
@@ -84,7 +85,7 @@ pub fn on_disk<T: DatabaseTask>(
     on_files(alloc, files, task)
 }
 
-/// The file as a process that ends now leaves it.
+/// A copy of the file, as a process that ends now leaves it.
 fn copied(alloc: Global, file: &Memory) -> Result<Memory, Fail> {
     let mut copy = Memory::new(alloc);
     copy.write_at(0, file.bytes())?;
@@ -92,11 +93,12 @@ fn copied(alloc: Global, file: &Memory) -> Result<Memory, Fail> {
     Ok(copy)
 }
 
-/// The files as a process that ends now leaves them. The log fails after so many calls, and the database too.
+/// A copy of the files, as a process that ends now leaves them. Log and database fail after these
+/// numbers of calls.
 ///
 /// # Errors
 ///
-/// A failed test, where memory is refused.
+/// A failed test if an allocation fails.
 pub fn copy(
     alloc: Global,
     files: &Files<Fuse<Memory>>,

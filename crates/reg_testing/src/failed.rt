@@ -6,7 +6,7 @@ use sqlite::Alter;
 use std::alloc::Global;
 use std::test::Fail;
 
-/// Whether reads of a store that has failed answer so.
+/// Whether every read of a failed store returns `Disk`.
 fn reads_fail<S: Alter + Drop>(store: &mut Store<S>) -> Result<bool, Fail> {
     let key = Key::parse("k").ok_or("no key")?;
     Ok(
@@ -16,14 +16,14 @@ fn reads_fail<S: Alter + Drop>(store: &mut Store<S>) -> Result<bool, Fail> {
     )
 }
 
-/// Whether listings and an audit of it do.
+/// Whether its listings and its audit do.
 fn walks_fail<S: Alter + Drop>(store: &mut Store<S>) -> bool {
     matches!(store.rows(Listing::Subjects), Err(StoreError::Disk))
         && matches!(store.lines(Listing::Subjects), Err(StoreError::Disk))
         && matches!(store.audit(), Err(StoreError::Disk))
 }
 
-/// Holds each call on a store that has failed to that.
+/// Checks that every call on a failed store returns `Disk`.
 pub fn check_stays_failed<S: Alter + Drop>(
     alloc: Global,
     store: &mut Store<S>,

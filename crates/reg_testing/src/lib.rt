@@ -1,5 +1,6 @@
-//! What the tests of stores, requests and jobs share: disks in memory, registries over them and what they hold, deliveries
-//! and messages with their answers, and readers and writers that give and take little. It promises nothing.
+//! Shared by the tests of stores, requests and jobs: disks in memory, and registries over them with
+//! their contents. Also deliveries and messages with their responses, and readers and writers that
+//! transfer few bytes at a time. It has no contracts.
 
 #![tactic(auto)]
 
@@ -15,13 +16,13 @@ mod writes;
 
 pub use databases::contents;
 pub use deliveries::{
-    Cmd, Row, answer, answer_each, answered, answers, check_reply, deliveries_of,
+    Cmd, Row, answer, answer_each, check_reply, count_answered, deliveries_of, run_all,
 };
 pub use disks::{DatabaseTask, copy, empty_disk, on_disk};
 pub use messages::{FULL_KEPT, FULL_SET, GET, IS_BACKWARD, IS_FULL, SET_FULL, joined};
 pub use stores::{
-    ServiceTask, connection_of, created, in_memory, kept_in_memory, layout1_registry, opened,
-    refused,
+    ServiceTask, connection_of, created, in_memory, kept_in_memory, layout1_registry, open_error,
+    opened,
 };
 pub use streams::{Failing, Pieces};
 pub use writes::WRITES;

@@ -1,4 +1,4 @@
-//! Messages that set a level and ask for it, with their answers.
+//! Messages that set and get the global level, and their responses.
 
 use std::alloc::{AllocError, Global};
 
@@ -6,29 +6,29 @@ use std::alloc::{AllocError, Global};
 pub const SET_FULL: &str =
     "PUT /config HTTP/1.1\r\nHost: x\r\nRegistry-Retry-Key: k1\r\nContent-Length: 24\r\n\r\n{\"compatibility\":\"FULL\"}";
 
-/// Its answer.
+/// The response to it.
 pub const FULL_SET: &str =
     "HTTP/1.1 200 OK\r\nContent-Type: application/vnd.schemaregistry.v1+json\r\nContent-Length: 24\r\n\r\n{\"compatibility\":\"FULL\"}";
 
-/// What is kept of it, as `kept` shows it.
+/// The reply that is kept for it, as `kept` prints it.
 pub const FULL_KEPT: &str = "k1|[\"set-global\",\"FULL\"]|200 {\"compatibility\":\"FULL\"}|\n";
 
-/// A message that asks for the global level.
+/// A message that gets the global level.
 pub const GET: &str = "GET /config HTTP/1.1\r\n\r\n";
 
-/// The answer to it in a new registry.
+/// The response to it in a new registry.
 pub const IS_BACKWARD: &str =
     "HTTP/1.1 200 OK\r\nContent-Type: application/vnd.schemaregistry.v1+json\r\nContent-Length: 33\r\n\r\n{\"compatibilityLevel\":\"BACKWARD\"}";
 
-/// The answer to it once the level is set.
+/// The response to it once the level is set.
 pub const IS_FULL: &str =
     "HTTP/1.1 200 OK\r\nContent-Type: application/vnd.schemaregistry.v1+json\r\nContent-Length: 29\r\n\r\n{\"compatibilityLevel\":\"FULL\"}";
 
-/// The parts, one after the other.
+/// The parts in one text.
 ///
 /// # Errors
 ///
-/// `AllocError` where memory is refused.
+/// `AllocError` if an allocation fails.
 pub fn joined(alloc: Global, parts: &[&str]) -> Result<String, AllocError> {
     let mut text = String::new(alloc);
     for part in parts {

@@ -1,4 +1,4 @@
-//! Services over new registries and over those that a database has, and why a database can't be opened.
+//! Services over new registries and over those of a database, and why a database can't be opened.
 
 use crate::databases::kept;
 use crate::disks::{DatabaseTask, empty_disk, on_disk};
@@ -10,11 +10,11 @@ use sqlite_disk::{Fuse, Memory};
 use std::alloc::Global;
 use std::test::Fail;
 
-/// A service over a new registry in an empty database; the connection, where the disk fails.
+/// A service over a new registry in an empty database, or the connection if the disk fails.
 ///
 /// # Errors
 ///
-/// A failed test, where a transaction is open, or no registry can be made for another reason.
+/// A failed test if a transaction is open, or no registry can be created for another reason.
 pub fn created<S: Alter + Drop>(
     alloc: Global,
     connection: Connection<S>,
@@ -29,11 +29,11 @@ pub fn created<S: Alter + Drop>(
     }
 }
 
-/// A service over the registry that a database has.
+/// A service over the registry of a database.
 ///
 /// # Errors
 ///
-/// A failed test, where a transaction is open, or the database is no registry.
+/// A failed test if a transaction is open, or the database is no registry.
 pub fn opened<S: Alter + Drop>(
     alloc: Global,
     connection: Connection<S>,
@@ -47,12 +47,12 @@ pub fn opened<S: Alter + Drop>(
     }
 }
 
-/// Why a database can't be opened, if it can't.
+/// Why a database can't be opened, or `None` if it can.
 ///
 /// # Errors
 ///
-/// A failed test, where a transaction is open.
-pub fn refused<S: Alter + Drop>(
+/// A failed test if a transaction is open.
+pub fn open_error<S: Alter + Drop>(
     alloc: Global,
     connection: Connection<S>,
 ) -> Result<(Option<StoreError>, Connection<S>), Fail> {
@@ -65,11 +65,12 @@ pub fn refused<S: Alter + Drop>(
     }
 }
 
-/// The connection of a service. Where the service has failed, each call on its store answers so.
+/// The connection of a service. If the service has failed, each call on its store must return
+/// `Disk`.
 ///
 /// # Errors
 ///
-/// A failed test, where a call answers otherwise, or memory is refused.
+/// A failed test if a call returns anything else, or an allocation fails.
 pub fn connection_of<S: Alter + Drop>(
     alloc: Global,
     service: Service<S>,
@@ -81,7 +82,7 @@ pub fn connection_of<S: Alter + Drop>(
     Ok(store.into_connection())
 }
 
-/// Makes a registry of layout 1 in an empty database, and executes statements.
+/// Creates a registry of layout 1 in an empty database, and executes statements.
 #[derive(Drop)]
 struct CreateLayout1<'a> {
     statements: &'a str,
@@ -103,11 +104,11 @@ impl<'a> DatabaseTask for CreateLayout1<'a> {
     }
 }
 
-/// The files of a registry of layout 1, which has what these statements put into it.
+/// The files of a registry of layout 1, after these statements.
 ///
 /// # Errors
 ///
-/// A failed test, where no registry can be made.
+/// A failed test if no registry can be created.
 pub fn layout1_registry(alloc: Global, statements: &str) -> Result<Files<Fuse<Memory>>, Fail> {
     let (files, closed) = on_disk(alloc, empty_disk(alloc), &mut CreateLayout1 { statements })?;
     if !closed {
@@ -124,9 +125,9 @@ fn new_service(alloc: Global) -> Result<Service<MemStore>, Fail> {
     }
 }
 
-/// What is done with a service, whatever its database stands on.
+/// A task over a service on any storage.
 pub trait ServiceTask {
-    /// Does it.
+    /// Runs the task.
     ///
     /// # Errors
     ///
@@ -138,7 +139,7 @@ pub trait ServiceTask {
     ) -> Result<(), Fail>;
 }
 
-/// Does it with a service over a new registry in memory.
+/// Runs the task over a new registry in memory.
 ///
 /// # Errors
 ///
@@ -147,11 +148,11 @@ pub fn in_memory<T: ServiceTask>(alloc: Global, task: &mut T) -> Result<(), Fail
     task.work(alloc, &mut new_service(alloc)?)
 }
 
-/// Does it with a service over a new registry in memory, and tells what is kept then.
+/// Runs the task over a new registry in memory, and returns the kept replies.
 ///
 /// # Errors
 ///
-/// A failed test, as the task says, or where memory is refused.
+/// A failed test, as the task says, or if an allocation fails.
 pub fn kept_in_memory<T: ServiceTask>(alloc: Global, task: &mut T) -> Result<String, Fail> {
     let mut service = new_service(alloc)?;
     task.work(alloc, &mut service)?;

@@ -1,8 +1,8 @@
-//! Readers and writers that give and take a few bytes at a time, and fail.
+//! Readers and writers that transfer a few bytes at a time, and fail.
 
 use std::io::{self, Read, Write};
 
-/// A reader that gives so many bytes at a time, and fails once its reads are used up.
+/// A reader that returns this number of bytes at a time, and fails once its reads are used up.
 #[derive(Drop)]
 pub struct Pieces<'a> {
     pub left: &'a [u8],

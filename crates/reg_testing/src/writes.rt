@@ -3,9 +3,9 @@
 use crate::bodies::{FULL_SET, INCOMPATIBLE, NOT_SOFT_DELETED};
 use crate::deliveries::{Cmd, Row};
 
-/// Deliveries to a new registry. They leave eight kept replies, two texts, no version and no evidence.
-/// The read between the writes needs no row, so it has one reply whenever the list is sent again. After a
-/// disk fault its reply must be 50001 too.
+/// Deliveries to a new registry. They leave eight kept replies, two texts, no version and no
+/// evidence. The read between the writes needs no row, so it always has the same reply when the
+/// list is sent again. After a disk fault its reply must be 50001 too.
 pub const WRITES: [Row; 11] = [
     (Some("z1"), Cmd::SetGlobal("FULL"), 200, FULL_SET),
     (Some("z2"), Cmd::Register("t", "\"int\""), 200, "{\"id\":1}"),

@@ -1,3 +1,3 @@
-//! What no clause says of services: that with ample memory each delivery gets its answer, and what refused memory leaves.
+//! What no clause says of services: with enough memory each delivery gets its own reply.
 
 mod services;

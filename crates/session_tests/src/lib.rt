@@ -1,4 +1,4 @@
-//! Tests of sessions and of connections: requests read and answered.
+//! Tests of sessions and of connections.
 
 #![tactic(auto)]
 

@@ -1,5 +1,5 @@
-//! What no clause says of sessions: their bytes, whole and in pieces, what fails in mid-stream, and how connections take
-//! turns.
+//! What no clause says of sessions: input whole and in pieces, failures in the middle, and how
+//! connections take turns.
 
 mod accepting;
 mod connections;

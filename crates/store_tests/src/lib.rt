@@ -1,4 +1,4 @@
-//! Tests of stores, over memory and over disks that fail.
+//! Tests of stores, in memory and over disks that fail.
 
 #![tactic(auto)]
 

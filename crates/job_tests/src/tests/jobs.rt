@@ -1,7 +1,7 @@
-//! Jobs over one database, one after the other, each with an output that fails after so many bytes, or as
-//! it is flushed: what is printed, the line on standard error, and the status.
+//! Jobs over one database, one after another. The output of each fails after a number of bytes, or
+//! when it is flushed. Checks the output, the line on standard error, and the status.
 
-use super::doing::done;
+use super::doing::run_job;
 use reg_jobs::{Job, ListingName, Opened};
 use reg_testing::{DatabaseTask, FULL_SET, Failing, GET, IS_FULL, SET_FULL, empty_disk, on_disk};
 use sqlite::{Alter, Connection};
@@ -9,10 +9,10 @@ use std::alloc::{AllocError, Global};
 use std::io::{self, Write};
 use std::test::Fail;
 
-/// What is done with the database in the file F.
+/// A job over the database in the file F.
 #[derive(Clone, Copy)]
-enum What {
-    /// A run that makes the registry.
+enum JobKind {
+    /// A run that creates the registry.
     Make,
     Run,
     List,
@@ -22,7 +22,7 @@ enum What {
 
 /// A job, its input, and what it prints.
 #[derive(Clone, Copy)]
-struct Row(What, &'static str, &'static str);
+struct Row(JobKind, &'static str, &'static str);
 
 const REGISTER: &str =
     "POST /subjects/s/versions HTTP/1.1\r\nContent-Length: 20\r\n\r\n{\"schema\":\"\\\"int\\\"\"}";
@@ -30,34 +30,34 @@ const REGISTER: &str =
 const REGISTERED: &str =
     "HTTP/1.1 200 OK\r\nContent-Type: application/vnd.schemaregistry.v1+json\r\nContent-Length: 8\r\n\r\n{\"id\":1}";
 
-/// Jobs over a new registry. Those that don't read leave their input where it is.
+/// Jobs over a new registry. Jobs that read nothing leave their input unread.
 const ROWS: [Row; 7] = [
-    Row(What::Run, SET_FULL, FULL_SET),
-    Row(What::Run, GET, IS_FULL),
-    Row(What::Run, REGISTER, REGISTERED),
-    Row(What::List, GET, "subject,level,live,deleted\ns,,1,0\n"),
-    Row(What::Audit, GET, "evidence holds\n"),
-    Row(What::Migrate, GET, "layout 2: nothing to do\n"),
-    Row(What::Audit, GET, "evidence holds\n"),
+    Row(JobKind::Run, SET_FULL, FULL_SET),
+    Row(JobKind::Run, GET, IS_FULL),
+    Row(JobKind::Run, REGISTER, REGISTERED),
+    Row(JobKind::List, GET, "subject,level,live,deleted\ns,,1,0\n"),
+    Row(JobKind::Audit, GET, "evidence holds\n"),
+    Row(JobKind::Migrate, GET, "layout 2: nothing to do\n"),
+    Row(JobKind::Audit, GET, "evidence holds\n"),
 ];
 
 /// The job over the file F.
-fn job_of(alloc: Global, what: What) -> Result<Job, AllocError> {
+fn job_of(alloc: Global, job_kind: JobKind) -> Result<Job, AllocError> {
     let database = String::from_str(alloc, "F")?;
-    Ok(match what {
-        What::Make | What::Run => Job::Run {
+    Ok(match job_kind {
+        JobKind::Make | JobKind::Run => Job::Run {
             database: Some(database),
         },
-        What::List => Job::List {
+        JobKind::List => Job::List {
             database,
             kind: ListingName::Subjects,
         },
-        What::Migrate => Job::Migrate { database },
-        What::Audit => Job::Audit { database },
+        JobKind::Migrate => Job::Migrate { database },
+        JobKind::Audit => Job::Audit { database },
     })
 }
 
-/// An output that can be flushed, or not.
+/// An output that can be flushed or not.
 #[derive(Drop)]
 struct Output {
     writer: Failing,
@@ -77,7 +77,7 @@ impl Write for Output {
     }
 }
 
-/// A job over a database, whose output takes so many bytes, and can be flushed or not.
+/// A job over a database. Its output takes this number of bytes, and can be flushed or not.
 #[derive(Drop)]
 struct Task {
     row: Row,
@@ -86,17 +86,18 @@ struct Task {
 }
 
 impl Task {
-    /// Whether something of the output is lost: it doesn't fit, or it is a listing, which is flushed.
+    /// Whether part of the output is lost: it doesn't fit, or it is a listing and the flush fails.
     fn is_lost(&self) -> bool {
-        let Row(what, _, whole) = self.row;
-        match what {
-            What::List => self.takes < whole.len() || !self.flushes,
+        let Row(job_kind, _, whole) = self.row;
+        match job_kind {
+            JobKind::List => self.takes < whole.len() || !self.flushes,
             _ => self.takes < whole.len(),
         }
     }
 
-    /// What is printed is the beginning that fits; where something is lost, the line and the status tell it.
-    fn is_due(&self, written: &[u8], told: &[u8], status: u8) -> bool {
+    /// The output is the beginning that fits. If part of it is lost, the line and the status report
+    /// that.
+    fn is_expected(&self, written: &[u8], error_output: &[u8], status: u8) -> bool {
         let whole = self.row.2.as_bytes();
         let (line, due) = if self.is_lost() {
             ("avroreg: write failed\n", 2)
@@ -104,7 +105,7 @@ impl Task {
             ("", 0)
         };
         whole.get(..self.takes.min(whole.len())) == Some(written)
-            && told == line.as_bytes()
+            && error_output == line.as_bytes()
             && status == due
     }
 }
@@ -115,9 +116,9 @@ impl DatabaseTask for Task {
         alloc: Global,
         connection: Connection<S>,
     ) -> Result<Connection<S>, Fail> {
-        let Row(what, input, _) = self.row;
-        let opened = match what {
-            What::Make => Opened::Fresh(connection),
+        let Row(job_kind, input, _) = self.row;
+        let opened = match job_kind {
+            JobKind::Make => Opened::Fresh(connection),
             _ => Opened::Database(connection),
         };
         let mut output = Output {
@@ -128,28 +129,32 @@ impl DatabaseTask for Task {
             },
             flushes: self.flushes,
         };
-        let job = job_of(alloc, what)?;
-        let (told, status, connection) = done(
+        let job = job_of(alloc, job_kind)?;
+        let (error_output, status, connection) = run_job(
             alloc,
             &job,
             opened,
             &mut input.as_bytes(),
             &mut output,
         );
-        if !self.is_due(output.writer.taken.as_slice(), told.as_slice(), status) {
+        if !self.is_expected(
+            output.writer.taken.as_slice(),
+            error_output.as_slice(),
+            status,
+        ) {
             return Err("another output, line or status is due".into());
         }
         Ok(connection.ok_or("no connection came back")?)
     }
 }
 
-/// No contract refuses a store that answers `Disk` to each write over a sound disk, or a listing that always wants memory.
-/// This does.
+/// No contract rules out a store that returns `Disk` from each write over a sound disk, or a
+/// listing that always fails to allocate. This test does.
 #[test]
 fn store_gives_up(rt: HostRuntime) -> Result<(), Fail> {
     let alloc = rt.alloc();
     let mut make = Task {
-        row: Row(What::Make, "", ""),
+        row: Row(JobKind::Make, "", ""),
         takes: 0,
         flushes: true,
     };

@@ -1,4 +1,4 @@
-//! What is told on standard error, and the status, by how a server or a job comes out.
+//! The line on standard error and the status, by the outcome of a server or a job.
 
 use reg_http::Ended;
 use reg_jobs::{AuditOutcome, Errors, ListOutcome, Outcome, report};
@@ -6,8 +6,8 @@ use reg_store::StoreError;
 use reg_testing::Failing;
 use std::test::Fail;
 
-/// How a server or a job over the file F comes out, the line, and the status: what ends in order has no line, and a verdict
-/// its status.
+/// The outcome of a server or a job over the file F, its line, and its status. A success has no
+/// line, and the status of a verdict.
 #[rattlefmt::skip]
 const OUTCOMES: [(Outcome, &str, u8); 26] = [
     (Outcome::Session(Ended::ReadFailed), "avroreg: read failed\n", 2),
@@ -38,7 +38,7 @@ const OUTCOMES: [(Outcome, &str, u8); 26] = [
     (Outcome::Audited(AuditOutcome::Verdict(false)), "", 1),
 ];
 
-/// A line is written whole, or where a write fails, as far as that goes.
+/// A line is written in full, or up to the write that fails.
 #[test]
 fn each_outcome_has_its_line(rt: HostRuntime) -> Result<(), Fail> {
     for (outcome, line, status) in OUTCOMES {

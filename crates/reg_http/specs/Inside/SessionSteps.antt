@@ -1,4 +1,4 @@
--- The steps of a session: from one message to the next, and where the answers stop.
+-- The steps of a session: from one message to the next, until the responses stop.
 use Rattle.std.specs.Prelude.{◌≡◌, ◌⊎◌, ℕ, ◌<◌, ◌≤◌, Bool, true, false, List, [], ◌∷◌, ◌++◌, drop, length, Option}
 use Rattle.std.specs.Io.KnownBytes.{Appends}
 use Rattle.reg_core.specs.declared.code.Code.{Code}
@@ -15,14 +15,14 @@ use Rattle.reg_messages.specs.Responses.{fault_response}
 use Rattle.reg_http.specs.Output.{AnsweredMessage, StayOpen, LastCloses, responses, IsPrefix, IsCutShort}
 use Rattle.reg_http.specs.Sessions.{ProcessesMessages}
 
--- No whole message is at the front while there are fewer bytes than that. With those that are needed there is room for all.
+-- The bytes are too few: until there are `needs` bytes, no whole message is at the front. The buffer has room for that many.
 pub record Waits (bytes : List ℕ) (needs : ℕ) : Type 0 where
   pub short : length bytes < needs
   pub fits : needs ≤ 1064960
   pub part : (more : List ℕ) → length (bytes ++ more) < needs → (bytes ++ more ≡ []) ⊎ Follows (bytes ++ more) Part
 
--- What stands at each stop: rest follows the messages xs, and out was written for all of it. Where more bytes are waited
--- for, rest is what is held.
+-- The facts at each stop: `rest` follows the messages xs, and `out` was written for all of it. If the session waits for more bytes, `rest`
+-- is in the buffer.
 abbrev pub StopsAs : List AnsweredMessage → List ℕ → List ℕ → List ℕ → Stop → Type 0
 StopsAs xs rest held out (Waiting needs) = StayOpen xs × (rest ≡ held) × Waits rest needs × (out ≡ responses xs)
 StopsAs xs rest held out AtClose = LastCloses xs × (out ≡ responses xs)
@@ -30,7 +30,7 @@ StopsAs xs rest held out AtFault = (code : Code) × StayOpen xs × Follows rest 
 StopsAs xs rest held out NotWritten = IsCutShort xs rest out
 StopsAs xs rest held out OutOfMemory = (StayOpen xs × (out ≡ responses xs)) ⊎ IsCutShort xs rest out
 
--- Messages at the front of the bytes were carried out, up to a stop.
+-- The messages at the front of the bytes were processed, up to a stop.
 pub record AnswersAs (AreServed : List Exchange → Type 0) (old new : Option (List ℕ)) (bytes held : List ℕ) (stop : Stop) : Type 0 where
   pub answered : List AnsweredMessage
   pub rest : List ℕ
@@ -38,7 +38,7 @@ pub record AnswersAs (AreServed : List Exchange → Type 0) (old new : Option (L
   pub processes : ProcessesMessages AreServed old new bytes answered rest out
   pub stops : StopsAs answered rest held out stop
 
--- One message of so many bytes was answered, and the connection goes on.
+-- One message of `size` bytes got its response, and the connection stays open.
 pub record AnswersOne (AreServed : List Exchange → Type 0) (old new : Option (List ℕ)) (bytes : List ℕ) (size : ℕ) : Type 0 where
   pub answered : AnsweredMessage
   pub stays : closes answered.0 ≡ false
@@ -48,24 +48,24 @@ abbrev pub NextAs : (List Exchange → Type 0) → Option (List ℕ) → Option 
 NextAs AreServed old new bytes (AnsweredNext size) = AnswersOne AreServed old new bytes size
 NextAs AreServed old new bytes (Stopped stop) = AnswersAs AreServed old new bytes bytes stop
 
--- how many bytes are waited for, if any are
+-- if the stop is `Waiting`, there are fewer bytes than needed
 abbrev pub WaitsAt : List ℕ → Stop → Type 0
 WaitsAt bytes (Waiting needs) = Waits bytes needs
 WaitsAt bytes other = Unit {0}
 
--- the message that was answered has a byte, and no more than there are
+-- the processed message has at least one byte, and at most all of the bytes
 abbrev pub IsWithin : List ℕ → Next → Type 0
 IsWithin bytes (AnsweredNext size) = (0 < size) × (size ≤ length bytes)
 IsWithin bytes (Stopped stop) = WaitsAt bytes stop
 
--- what follows an answer to a whole message of so many bytes, which may end the connection
+-- the step after the response to a message of `size` bytes; `true` if the message ends the connection
 abbrev pub next_after : WriteOutcome → Bool → ℕ → Next
 next_after Whole true size = Stopped AtClose
 next_after Whole false size = AnsweredNext size
 next_after CutShort close size = Stopped NotWritten
 next_after Unsent close size = Stopped OutOfMemory
 
--- what was written for a fault, at each stop
+-- what was written of the response to a fault, at each stop
 abbrev pub FaultAs : Option (List ℕ) → Option (List ℕ) → Code → Stop → Type 0
 FaultAs old new code AtFault = Appends old new (fault_response code)
 FaultAs old new code NotWritten = (part : List ℕ) × IsPrefix part (fault_response code) × Appends old new part
@@ -73,7 +73,7 @@ FaultAs old new code OutOfMemory = (part : List ℕ) × IsPrefix part (fault_res
 FaultAs old new code AtClose = ⊥
 FaultAs old new code (Waiting needs) = ⊥
 
--- the messages that were answered stay open, and what is held follows them
+-- the messages so far got their responses and keep the connection open, and the bytes in the buffer follow them
 pub record AnsweredSoFar (AreServed : List Exchange → Type 0) (old new : Option (List ℕ)) (bytes held : List ℕ) : Type 0 where
   pub answered : List AnsweredMessage
   pub stay : StayOpen answered

@@ -7,17 +7,17 @@ use std::io::{ErrorKind, Read};
 use std::net::{Shutdown, TcpStream};
 use std::time::Clock;
 
-/// For how many seconds the server reads what a client still sends. In that time the client can take its last
-/// response. Other clients wait as long.
+/// The seconds for which the server reads what a client still sends. In that time the client can
+/// take its last response. Other clients wait as long.
 const LINGER: u64 = 1;
 
-/// The same time in slices without a byte.
+/// The same time, as a number of slices without a byte.
 const SILENCE: u64 = LINGER * 1000 / SLICE;
 
-/// How much is dropped at once.
+/// The number of bytes that are dropped at once.
 const ROOM: usize = 16_384;
 
-/// Whether unread bytes have arrived. It doesn't wait for any.
+/// Whether unread bytes have arrived. It doesn't block.
 pub fn has_bytes(stream: &TcpStream) -> bool {
     if stream.set_nonblocking(true).is_err() {
         return false;
@@ -31,7 +31,7 @@ pub fn has_bytes(stream: &TcpStream) -> bool {
     }
 }
 
-/// Reads and drops what comes, until its end or for a second.
+/// Reads and drops bytes until the input ends, or for a second.
 fn drop_rest<C: Clock>(clock: &C, mut stream: &TcpStream) {
     let begun = time(clock);
     let mut dropped = [0u8; ROOM];
@@ -50,8 +50,8 @@ fn drop_rest<C: Clock>(clock: &C, mut stream: &TcpStream) {
     }
 }
 
-/// Whether a client may still be sending: it got a fault before its input ended, or bytes of it have arrived
-/// that nobody read. A client whose request closed the connection sends nothing after it.
+/// Whether a client may still be sending: it got a fault before its input ended, or bytes of it
+/// arrived that weren't read. A client whose request closed the connection sends nothing after it.
 fn may_be_sending(ended: Ended, has_ended: bool, has_more: bool) -> bool {
     match ended {
         Ended::Malformed => !has_ended,

@@ -1,5 +1,5 @@
-//! The two halves of a connection: what is read from it and what is written to it. They end the connection
-//! if its time is over, or if it yields its turn to one that waits.
+//! The two halves of a connection: its reader and its writer. They end the connection when its time
+//! is over, or when it yields its turn to another connection that waits.
 
 ghost use Rattle.std.specs.Io.{ReadsAtMost, WritesAtMost};
 
@@ -11,8 +11,9 @@ use std::io::{self, ErrorKind, Read, Write};
 use std::net::TcpStream;
 use std::time::Clock;
 
-/// The bytes that a client sends. A read gives a part that ends one request at most, so that the connection
-/// can end between two requests that arrived together. Bytes that weren't given count as never received.
+/// The bytes that a client sends. A read returns a part that ends at most one request, so that the
+/// connection can end between two requests that arrived together. Bytes that weren't returned count
+/// as never received.
 #[derive(Drop)]
 pub struct Incoming<'a, 'b, C: Clock> {
     stream: &'a TcpStream,
@@ -42,18 +43,19 @@ impl<'a, 'b, C: Clock> Incoming<'a, 'b, C> {
         }
     }
 
-    /// Whether the client ended its side, and all bytes before that were given.
+    /// Whether the client ended its side, and all bytes before that were returned.
     pub fn has_ended(&self) -> bool {
         self.has_ended
     }
 
-    /// Whether bytes of the client have arrived that weren't given.
+    /// Whether bytes of the client have arrived that weren't returned.
     pub fn has_more(&self) -> bool {
         !self.pending.is_empty() || has_bytes(self.stream)
     }
 
-    /// Whether the connection ends between two requests, since another one waits. A request that arrived
-    /// before the other connection was seen is still served, unless it was read together with an earlier one.
+    /// Whether the connection ends between two requests because another one waits. A request that
+    /// arrived before the other connection was seen is still served, unless it was read together
+    /// with an earlier one.
     fn yields_now(&mut self, is_idle: bool) -> bool {
         if self.yields {
             return true;
@@ -73,7 +75,8 @@ impl<'a, 'b, C: Clock> Incoming<'a, 'b, C> {
         }
     }
 
-    /// Gives the next part of the pending bytes. If there are none it reads once, and waits for a slice.
+    /// Returns the next part of the pending bytes. If there are none, it reads once, for at most
+    /// one slice.
     fn read_part(&mut self, buf: &mut [u8]) -> io::Result<usize>
         ensures { ReadsAtMost result buf.new }
     {
@@ -109,7 +112,7 @@ impl<'a, 'b, C: Clock> Read for Incoming<'a, 'b, C> {
     }
 }
 
-/// The responses to a client, one after the other.
+/// The responses to a client, in order.
 #[derive(Drop)]
 pub struct Outgoing<'a, C: Clock> {
     stream: &'a TcpStream,
@@ -122,7 +125,7 @@ impl<'a, C: Clock> Outgoing<'a, C> {
         Outgoing { stream, timing }
     }
 
-    /// Writes the rest of a response once, and waits for a slice.
+    /// Writes the rest of a response once, for at most one slice.
     fn write_slice(&mut self, buf: &[u8]) -> io::Result<usize>
         ensures { WritesAtMost result buf.now }
     {

@@ -1,9 +1,9 @@
-//! Bytes of a connection that were read and not yet given to `serve`. They are given in parts, so that a
-//! connection can end between two requests that arrived together.
+//! Bytes of a connection that were read and not yet passed to `serve`. They are passed in parts, so
+//! that a connection can end between two requests that arrived together.
 //!
-//! A part ends at most one request. The head of a request ends with an empty line, so a part of a head ends
-//! there. The body ends anywhere, so behind the head a part is one line at most. A request has two line ends
-//! at least, so no line ends two requests.
+//! A part ends at most one request. The head of a request ends with an empty line, so a part of a
+//! head ends there. The body ends anywhere, so after the head a part is at most one line. A request
+//! has at least two line ends, so no line ends two requests.
 
 ghost use Rattle.std.specs.Prelude.{◌≡◌, ◌≤◌, ◌↔◌, [], ℕ, length, take, drop, IsTrue, IfOk};
 ghost use Rattle.std.specs.Io.KnownBytes.{Consumes};
@@ -12,23 +12,23 @@ use memchr::memchr;
 use std::io::{self, Read};
 use std::marker::Model;
 
-/// How many bytes are read at once.
+/// The number of bytes that are read at once.
 const ROOM: usize = 16_384;
 
 /// The length of an empty line: CR LF, or LF alone.
 const EMPTY_LINE: usize = 2;
 
-/// How far the request in progress was given.
+/// How much of the current request was passed on.
 #[derive(Clone, Copy)]
 pub enum Progress {
-    /// Its head goes on. So many bytes of the line in progress were given.
+    /// Its head continues. This number of bytes of the current line was passed on.
     Head(usize),
     /// Its head has ended. A body may follow.
     Body,
 }
 
 impl Progress {
-    /// Of a request that begins.
+    /// The progress of a new request.
     pub fn of_new_request() -> Progress {
         Progress::Head(0)
     }
@@ -44,9 +44,9 @@ fn line_length(bytes: &[u8]) -> usize
     }
 }
 
-/// The length of the lines up to the first empty one, or of all bytes if none is empty, and the progress
-/// behind them. So many bytes of the first line came before. A line of one other byte is taken for an empty
-/// one: then the rest of the head comes line by line.
+/// The length of the lines up to the first empty one, or of all bytes if none is empty, and the
+/// progress after them. `given` bytes of the first line were passed on before. A line of one other
+/// byte counts as empty: then the rest of the head is passed on line by line.
 fn head_part(bytes: &[u8], given: usize) -> (usize, Progress)
     ensures { result.0 ≤ length bytes.now }
 {
@@ -64,7 +64,7 @@ fn head_part(bytes: &[u8], given: usize) -> (usize, Progress)
     (bytes.len(), Progress::Head(line))
 }
 
-/// The length of the next part, and the progress behind it.
+/// The length of the next part, and the progress after it.
 fn next_part(bytes: &[u8], progress: Progress) -> (usize, Progress)
     ensures { result.0 ≤ length bytes.now }
 {
@@ -74,7 +74,7 @@ fn next_part(bytes: &[u8], progress: Progress) -> (usize, Progress)
     }
 }
 
-/// Bytes that were read and not yet given. Contracts see these bytes.
+/// Bytes that were read and not yet passed on. Contracts see these bytes.
 #[derive(Drop)]
 pub struct Pending {
     bytes: [u8; ROOM],
@@ -96,7 +96,7 @@ impl Model for Pending {
 }
 
 impl Pending {
-    /// No bytes.
+    /// An empty buffer.
     pub fn new() -> Pending
         ensures { result ≡ [] }
     {
@@ -107,14 +107,14 @@ impl Pending {
         }
     }
 
-    /// Whether all bytes that were read have been given.
+    /// Whether all bytes that were read have been passed on.
     pub fn is_empty(&self) -> bool
         ensures { IsTrue result ↔ self.now ≡ [] }
     {
         self.first == self.last
     }
 
-    /// The bytes.
+    /// The pending bytes.
     fn held(&self) -> &[u8]
         ensures { result.now ≡ self.now }
     {
@@ -125,7 +125,7 @@ impl Pending {
     ///
     /// # Errors
     ///
-    /// That of the read.
+    /// The error of the read.
     pub fn fill<R: Read>(&mut self, reader: &mut R) -> io::Result<usize>
         requires { self.old ≡ [] }
         ensures { IfOk result (λ n. (length self.new ≡ n) × Consumes (R.remaining reader.old) (R.remaining reader.new) self.new) }
@@ -136,7 +136,8 @@ impl Pending {
         Ok(self.last)
     }
 
-    /// Gives so many bytes, or as many as there is room for.
+    /// Copies `count` bytes to `room`, or the bytes that fit, and removes them. Returns their
+    /// number.
     fn give(&mut self, count: usize, room: &mut [u8]) -> usize
         requires { count ≤ length self.old }
         ensures most { result ≤ length room.new }
@@ -149,8 +150,8 @@ impl Pending {
         count
     }
 
-    /// Gives the next part, or as much of it as is held and as there is room for, and returns its length and
-    /// the progress behind it.
+    /// Copies the next part to `room`, or the bytes of it that fit, and removes them. Returns their
+    /// number and the progress after them.
     pub fn give_part(&mut self, progress: Progress, room: &mut [u8]) -> (usize, Progress)
         ensures most { result.0 ≤ length room.new }
         ensures front { take result.0 room.new ≡ take result.0 self.old }

@@ -3,7 +3,7 @@
 use std::io;
 use std::net::{TcpListener, TcpStream};
 
-/// The connections that wait for a listener, of which the first may have been accepted already.
+/// The connections that wait for a listener. The first may have been accepted already.
 #[derive(Drop)]
 pub struct Queue<'a> {
     listener: &'a TcpListener,
@@ -12,7 +12,7 @@ pub struct Queue<'a> {
 }
 
 impl<'a> Queue<'a> {
-    /// Those that wait for a listener.
+    /// The connections that wait for this listener.
     pub fn of(listener: &'a TcpListener) -> Queue<'a> {
         Queue {
             listener,
@@ -21,13 +21,14 @@ impl<'a> Queue<'a> {
         }
     }
 
-    /// Sets whether `has_next` asks the listener. If the listener can't be made not to wait, it doesn't ask.
+    /// Sets whether `has_next` polls the listener. If the listener can't be made non-blocking, it
+    /// doesn't.
     pub fn set_polling(&mut self, polls: bool) {
         self.polls = polls && self.listener.set_nonblocking(true).is_ok();
     }
 
-    /// Whether a connection waits. It is accepted then. It doesn't wait for one. If an accept fails, a
-    /// connection may wait, and can be accepted once the current one is closed.
+    /// Whether a connection waits; if so, it is accepted. It doesn't block. It returns true if the
+    /// accept fails: a connection may wait, and can be accepted once the current one is closed.
     pub fn has_next(&mut self) -> bool {
         if self.polls && self.found.is_none() {
             match self.listener.accept() {
@@ -38,11 +39,11 @@ impl<'a> Queue<'a> {
         self.found.is_some()
     }
 
-    /// The next connection. It waits for one.
+    /// Waits for the next connection, and returns it.
     ///
     /// # Errors
     ///
-    /// That of the accept.
+    /// The error of the accept, or of making the listener blocking.
     pub fn next(&mut self) -> io::Result<TcpStream> {
         if let Some(stream) = self.found.take() {
             return Ok(stream);

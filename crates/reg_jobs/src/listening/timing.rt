@@ -4,20 +4,21 @@ use std::cell::Cell;
 use std::io;
 use std::time::{Clock, Duration, Instant};
 
-/// How many milliseconds a read or a write waits before it checks whether it may go on. A client that sends one
-/// request after the other needs less, and a client that waits behind an idle one loses little.
+/// The milliseconds that a read or a write blocks before it checks whether to continue. That is
+/// longer than a client needs between two requests, and short for a client that waits for an idle
+/// connection to end.
 pub const SLICE: u64 = 250;
 
-/// How many slices a connection may let pass without a byte, sent or taken. That is ten seconds, which is much for
-/// a client on the same machine. No other client can connect.
+/// The number of slices that a connection may let pass without sending or taking a byte. That is
+/// ten seconds, a long time for a client on the same machine. Clients on other machines can't connect.
 pub const PATIENCE: u32 = 40;
 
-/// After how many seconds a connection has had its turn, and yields to one that waits. It serves some thousand
-/// requests in that time.
+/// The seconds after which a connection has had its turn, and yields to another one that waits. It
+/// serves some thousand requests in that time.
 const TURN: u64 = 1;
 
-/// How many seconds a request may take to arrive, and its response to be taken. The largest has 1 MiB, so 35 KB a
-/// second are enough.
+/// The seconds that a request may take to arrive, and its response to be taken. The largest has 1
+/// MiB, so 35 KB a second are enough.
 const MESSAGE: u64 = 30;
 
 /// A clock that can't be read.
@@ -39,7 +40,7 @@ pub fn time<C: Clock>(clock: &C) -> Option<Instant> {
     Instant::now(clock).ok()
 }
 
-/// Whether so many seconds have passed since then. If the clock can't be read, none pass.
+/// Whether this number of seconds has passed since then. If the clock can't be read, none pass.
 pub fn has_passed<C: Clock>(clock: &C, since: Option<Instant>, seconds: u64) -> bool {
     match (since, time(clock)) {
         (Some(since), Some(now)) => now.duration_since(since) >= Duration::from_secs(seconds),
@@ -50,15 +51,15 @@ pub fn has_passed<C: Clock>(clock: &C, since: Option<Instant>, seconds: u64) -> 
 /// The phase of a connection.
 #[derive(Clone, Copy)]
 enum Phase {
-    /// No byte was read since the last response was taken whole, or since the start.
+    /// No byte was read since the last response was taken in full, or since the start.
     Between,
-    /// A request arrives, since then.
+    /// A request has been arriving since then.
     Arriving(Option<Instant>),
-    /// Its response is taken, since then.
+    /// The client has been taking its response since then.
     Responding(Option<Instant>),
 }
 
-/// The phase of a connection, by a clock.
+/// The phase of a connection, measured with a clock.
 #[derive(Drop)]
 pub struct Timing<'a, C: Clock> {
     clock: &'a C,
@@ -67,7 +68,7 @@ pub struct Timing<'a, C: Clock> {
 }
 
 impl<'a, C: Clock> Timing<'a, C> {
-    /// Of a connection that begins now.
+    /// The timing of a connection that begins now.
     pub fn of(clock: &'a C) -> Timing<'a, C> {
         Timing {
             clock,
@@ -76,7 +77,7 @@ impl<'a, C: Clock> Timing<'a, C> {
         }
     }
 
-    /// Whether no byte was read since the last response was taken whole, or since the start.
+    /// Whether no byte was read since the last response was taken in full, or since the start.
     pub fn is_between(&self) -> bool {
         matches!(self.phase.get(), Phase::Between)
     }
@@ -96,14 +97,14 @@ impl<'a, C: Clock> Timing<'a, C> {
         }
     }
 
-    /// Bytes of a request were read, the first or more.
+    /// Records that bytes of a request were read.
     pub fn begin_request(&self) {
         if self.is_between() {
             self.phase.set(Phase::Arriving(time(self.clock)));
         }
     }
 
-    /// A response is written, all of it or the rest.
+    /// Records that a response, or the rest of it, is being written.
     pub fn begin_response(&self) {
         if let Phase::Responding(_) = self.phase.get() {
             return;
@@ -111,7 +112,7 @@ impl<'a, C: Clock> Timing<'a, C> {
         self.phase.set(Phase::Responding(time(self.clock)));
     }
 
-    /// A response was taken whole.
+    /// Records that a response was taken in full.
     pub fn end_response(&self) {
         self.phase.set(Phase::Between);
     }

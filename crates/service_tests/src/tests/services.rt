@@ -6,7 +6,7 @@ use reg_testing::bodies::{
     NO_OWN, NO_OWN_MODE, NO_SUBJECT, NONE, NONE_SET, NOT_PERMITTED, READONLY, READWRITE, REUSED,
 };
 use reg_testing::{
-    Cmd, Row, ServiceTask, answer_each, answered, answers, deliveries_of, in_memory,
+    Cmd, Row, ServiceTask, answer_each, count_answered, deliveries_of, in_memory, run_all,
 };
 use sqlite::Alter;
 use std::alloc::Global;
@@ -20,7 +20,7 @@ const GLOBAL: [Row; 14] = [
     (Some("k1"), Cmd::SetGlobal("FULL"), 200, FULL_SET),
     (Some("k1"), Cmd::SetGlobal("NONE"), 422, REUSED),
     (None, Cmd::Global, 200, FULL),
-    // A refusal, which its key keeps whatever comes between.
+    // An error reply. Its key keeps it while other commands come between.
     (Some("k5"), Cmd::SetGlobal("full"), 422, INVALID),
     (None, Cmd::SetGlobal("NONE"), 200, NONE_SET),
     (Some("k5"), Cmd::SetGlobal("full"), 422, INVALID),
@@ -33,7 +33,7 @@ const GLOBAL: [Row; 14] = [
     (Some("a"), Cmd::Global, 200, NONE),
 ];
 
-/// Levels of subjects beside it.
+/// Levels of subjects next to it.
 const SUBJECTS: [Row; 20] = [
     (None, Cmd::LevelOf("s", false), 404, NO_OWN),
     (None, Cmd::LevelOf("s", true), 200, BACKWARD),
@@ -45,7 +45,7 @@ const SUBJECTS: [Row; 20] = [
     (None, Cmd::SetLevel("s", "FULL"), 200, FULL_SET),
     (Some("k1"), Cmd::SetLevel("s", "FORWARD"), 200, FORWARD_SET),
     (None, Cmd::LevelOf("s", true), 200, FULL),
-    // A refusal, which its key keeps, and its key with a level that is one.
+    // An error reply, which its key keeps, and its key with a valid level.
     (Some("k2"), Cmd::SetLevel("s", "full"), 422, INVALID),
     (None, Cmd::SetLevel("s", "FULL"), 200, FULL_SET),
     (Some("k2"), Cmd::SetLevel("s", "full"), 422, INVALID),
@@ -72,11 +72,11 @@ const MODES: [Row; 20] = [
     (None, Cmd::SetMode("s", "READWRITE"), 200, READWRITE),
     (Some("k1"), Cmd::SetMode("s", "READONLY"), 200, READONLY),
     (None, Cmd::ModeOf("s", false), 200, READWRITE),
-    // A refusal, which its key keeps, and keys with another command.
+    // An error reply, which its key keeps, and keys with another command.
     (Some("k2"), Cmd::SetMode("s", "readonly"), 422, INVALID_MODE),
     (Some("k2"), Cmd::SetMode("s", "READONLY"), 422, REUSED),
     (Some("k1"), Cmd::SetGlobalMode("READONLY"), 422, REUSED),
-    // All is read-only but the subject s, and then writable again.
+    // Everything is read-only except the subject s, and then writable again.
     (Some("k3"), Cmd::SetGlobalMode("READONLY"), 200, READONLY),
     (None, Cmd::ModeOf("t", true), 200, READONLY),
     (None, Cmd::SetGlobal("NONE"), 422, NOT_PERMITTED),
@@ -164,9 +164,9 @@ impl<'a> ServiceTask for Deliver<'a> {
     ) -> Result<(), Fail> {
         let replies = match self.way {
             Way::InTurn => answer_each(alloc, service, self.list)?,
-            Way::InOneRun => answers(service, self.list)?,
+            Way::InOneRun => run_all(service, self.list)?,
         };
-        if answered(&replies, self.rows)? < self.rows.len() {
+        if count_answered(&replies, self.rows)? < self.rows.len() {
             return Err("a delivery is answered 50001".into());
         }
         if service.failed() {
@@ -176,7 +176,7 @@ impl<'a> ServiceTask for Deliver<'a> {
     }
 }
 
-/// Delivers the rows to a new registry. Each gets its answer.
+/// Delivers the rows to a new registry. Each must get its reply.
 fn are_answered(alloc: Global, way: Way, rows: &[Row]) -> Result<(), Fail> {
     let list = deliveries_of(alloc, rows)?;
     let mut task = Deliver {
@@ -187,9 +187,9 @@ fn are_answered(alloc: Global, way: Way, rows: &[Row]) -> Result<(), Fail> {
     in_memory(alloc, &mut task)
 }
 
-/// No contract refuses a service that answers 50001 to every delivery. These tests do: each delivery gets
-/// its answer, and each command a 200. Each table has a test of its own, since a check holds a table of
-/// rows in memory, several times over.
+/// No contract rules out a service that replies 50001 to every delivery. These tests do: each
+/// delivery must get its reply, and each command a 200. Each table has a test of its own, since a
+/// check keeps several copies of a table's rows in memory.
 mod every_delivery_fails {
     use super::{GLOBAL, MODES, SUBJECTS, VERSIONS, Way, are_answered};
     use std::test::Fail;

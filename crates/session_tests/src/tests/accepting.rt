@@ -1,4 +1,4 @@
-//! What a server does, without what it promises.
+//! Serves connections, without the contracts of the server.
 
 use reg_jobs::{Errors, serve_on, serve_with_clock};
 use reg_service::Service;
@@ -8,7 +8,7 @@ use std::io::sink;
 use std::net::TcpListener;
 use std::time::Clock;
 
-/// Serves so many connections.
+/// Serves this number of connections.
 pub(super) fn accept<S: Alter>(
     alloc: Global,
     listener: &TcpListener,
@@ -18,7 +18,7 @@ pub(super) fn accept<S: Alter>(
     serve_on(alloc, listener, count, service, &mut Errors::to(sink()));
 }
 
-/// Serves so many connections by a clock.
+/// Serves this number of connections with a clock.
 pub(super) fn accept_by<C: Clock, S: Alter>(
     alloc: Global,
     clock: &C,

@@ -1,5 +1,5 @@
-//! Connections on loopback, in one thread, served by a clock and without one: what the clients send lies in the system's
-//! buffers until it is served.
+//! Connections on loopback, in one thread, served with a clock and without one. What the clients
+//! send is in the system's buffers until it is served.
 
 use super::accepting::{accept, accept_by};
 use reg_service::Service;
@@ -21,13 +21,13 @@ const TOO_LARGE: &str =
 /// The beginning of a message.
 const CUT: &str = "PUT /config HTTP/1.1\r\nHost: x\r\nRegist";
 
-/// A clock on which ten seconds pass between two looks.
+/// A clock that advances by ten seconds each time it is read.
 #[derive(Drop)]
-struct Leaping {
+struct LeapingClock {
     looks: Cell<u64>,
 }
 
-impl Clock for Leaping {
+impl Clock for LeapingClock {
     fn monotonic(&self) -> io::Result<Duration> {
         self.looks.set(self.looks.get().saturating_add(1));
         Ok(Duration::from_secs(self.looks.get().saturating_mul(10)))
@@ -38,22 +38,23 @@ impl Clock for Leaping {
     }
 }
 
-/// The clock that connections are served by.
+/// The clock that connections are served with.
 #[derive(Clone, Copy)]
-enum By {
+enum ClockKind {
     None,
     Host,
-    Leaping,
+    LeapingClock,
 }
 
-/// What a client sends, how many blanks behind it, whether it shuts its writing half then, and what comes back.
+/// What a client sends, the number of spaces after it, whether it then closes its writing half, and
+/// the response.
 type Client = (&'static str, usize, bool, &'static str);
 
-/// A clock, clients, how many of them are served by each call, and bounds: so many milliseconds at least, and less than so
-/// many.
-type Row = (By, &'static [Client], &'static [u32], u128, u128);
+/// A clock, clients, the number of clients that each call serves, and bounds for the time. It takes
+/// at least the first number of milliseconds, and less than the second.
+type Row = (ClockKind, &'static [Client], &'static [u32], u128, u128);
 
-/// The third is cut inside a message, which has no answer.
+/// The third is cut inside a message, which gets no response.
 const IN_TURN: [Client; 5] = [
     (GET, 0, true, IS_BACKWARD),
     (CUT, 0, true, ""),
@@ -65,45 +66,46 @@ const IN_TURN: [Client; 5] = [
 /// The first is idle, and yields its turn.
 const IDLE: [Client; 2] = [(GET, 0, false, IS_BACKWARD), (SET_FULL, 0, true, FULL_SET)];
 
-/// The answer comes before the rest of the message, and is read whole.
+/// The response comes before the rest of the message, and is read in full.
 const ANSWERED_EARLY: [Client; 1] = [(LARGE, 300_000, false, TOO_LARGE)];
 
-/// The message has its time.
+/// The message has its full time to arrive.
 const LATE: [Client; 1] = [(CUT, 0, false, "")];
 
-/// No more are accepted than are served: the second waits, and the first has had its turn.
+/// Only the served clients are accepted: the second waits, and the first has had its turn.
 const ONE_EACH: [Client; 2] = [(GET, 0, true, IS_BACKWARD), (GET, 0, true, IS_BACKWARD)];
 
-/// A write and two reads, which come together.
+/// A write and two reads that arrive together.
 const TOGETHER: &str =
     "PUT /config HTTP/1.1\r\nContent-Length: 24\r\n\r\n{\"compatibility\":\"FULL\"}GET /config HTTP/1.1\r\n\r\nGET /config HTTP/1.1\r\n\r\n";
 
-/// The first of the messages that came together has its answer, and then the connection yields its turn.
+/// The first of the messages that arrived together gets its response, and then the connection
+/// yields its turn.
 const MANY: [Client; 2] = [(TOGETHER, 0, true, FULL_SET), (GET, 0, true, IS_FULL)];
 
 const ROWS: [Row; 10] = [
-    (By::None, &IN_TURN, &[4, 1], 0, 1000),
-    (By::Host, &IN_TURN, &[4, 1], 0, 1000),
-    // the idle one is waited for once
-    (By::None, &IDLE, &[2], 250, 500),
-    (By::Host, &IDLE, &[2], 250, 500),
-    // one that has had its turn is not waited for
-    (By::Leaping, &IDLE, &[2], 0, 250),
-    (By::None, &ANSWERED_EARLY, &[1], 0, 2000),
-    (By::Host, &ANSWERED_EARLY, &[1], 0, 2000),
-    (By::Leaping, &LATE, &[1], 250, 1000),
-    (By::Leaping, &ONE_EACH, &[1, 1], 0, 250),
-    (By::Leaping, &MANY, &[2], 0, 250),
+    (ClockKind::None, &IN_TURN, &[4, 1], 0, 1000),
+    (ClockKind::Host, &IN_TURN, &[4, 1], 0, 1000),
+    // the server waits once for the idle connection
+    (ClockKind::None, &IDLE, &[2], 250, 500),
+    (ClockKind::Host, &IDLE, &[2], 250, 500),
+    // the server doesn't wait for a connection that has had its turn
+    (ClockKind::LeapingClock, &IDLE, &[2], 0, 250),
+    (ClockKind::None, &ANSWERED_EARLY, &[1], 0, 2000),
+    (ClockKind::Host, &ANSWERED_EARLY, &[1], 0, 2000),
+    (ClockKind::LeapingClock, &LATE, &[1], 250, 1000),
+    (ClockKind::LeapingClock, &ONE_EACH, &[1, 1], 0, 250),
+    (ClockKind::LeapingClock, &MANY, &[2], 0, 250),
 ];
 
-/// How often a row is tried that took too long: the machine may be busy.
+/// How often a row that took too long is retried: the machine may be busy.
 const TRIES: u32 = 3;
 
-/// Serves so many connections by each call.
+/// Serves this number of connections with each call.
 #[derive(Drop)]
 struct Serve<'a> {
     rt: &'a HostRuntime,
-    by: By,
+    by: ClockKind,
     listener: &'a TcpListener,
     counts: &'a [u32],
 }
@@ -116,10 +118,10 @@ impl<'a> ServiceTask for Serve<'a> {
     ) -> Result<(), Fail> {
         for count in self.counts {
             match self.by {
-                By::None => accept(alloc, self.listener, *count, service),
-                By::Host => accept_by(alloc, self.rt, self.listener, *count, service),
-                By::Leaping => {
-                    let clock = Leaping {
+                ClockKind::None => accept(alloc, self.listener, *count, service),
+                ClockKind::Host => accept_by(alloc, self.rt, self.listener, *count, service),
+                ClockKind::LeapingClock => {
+                    let clock = LeapingClock {
                         looks: Cell::new(0),
                     };
                     accept_by(alloc, &clock, self.listener, *count, service);
@@ -130,19 +132,19 @@ impl<'a> ServiceTask for Serve<'a> {
     }
 }
 
-/// A connection to the listener, over which the client has sent what it sends.
+/// A connection to the listener, over which the client has sent its bytes.
 fn sent(rt: &HostRuntime, listener: &TcpListener, client: &Client) -> Result<TcpStream, Fail> {
-    let (text, blanks, is_shut, _) = *client;
+    let (text, blanks, is_closed, _) = *client;
     let mut stream = TcpStream::connect(rt, listener.local_addr()?)?;
     stream.write_all(text.as_bytes())?;
     stream.write_all(" ".repeat(rt.alloc(), blanks)?.as_bytes())?;
-    if is_shut {
+    if is_closed {
         stream.shutdown(Shutdown::Write)?;
     }
     Ok(stream)
 }
 
-/// Holds what came back over a connection, up to its end, to the text.
+/// Checks that everything that came back over a connection is the text.
 fn expect(alloc: Global, stream: &mut TcpStream, text: &str) -> Result<(), Fail> {
     let mut bytes = Vec::new(alloc);
     stream.read_to_end(&mut bytes)?;
@@ -152,7 +154,7 @@ fn expect(alloc: Global, stream: &mut TcpStream, text: &str) -> Result<(), Fail>
     Err(Fail::new(format_args!("another answer than {text}")))
 }
 
-/// Serves the clients of a row, each of which has its responses, and returns how many milliseconds that took.
+/// Serves the clients of a row, checks their responses, and returns the milliseconds that took.
 fn time_of(rt: &HostRuntime, row: &Row) -> Result<u128, Fail> {
     let (by, clients, counts, _, _) = *row;
     let listener = TcpListener::bind(rt, (Ipv4Addr::LOCALHOST, 0))?;
@@ -175,7 +177,7 @@ fn time_of(rt: &HostRuntime, row: &Row) -> Result<u128, Fail> {
     Ok(took)
 }
 
-/// Serves the clients of a row in due time.
+/// Serves the clients of a row within its time.
 fn are_served(rt: &HostRuntime, row: &Row) -> Result<(), Fail> {
     let (_, _, _, least, most) = *row;
     let mut took = 0u128;

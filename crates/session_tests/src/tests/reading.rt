@@ -1,5 +1,5 @@
-//! A client that asks for many large responses at once, and reads them slowly or not at all. Client and server share one
-//! thread: the client reads at each look at the clock.
+//! A client that requests many large responses at once, and reads them slowly or not at all. Client
+//! and server share one thread: the client reads whenever the server reads the clock.
 
 use super::accepting::accept_by;
 use super::sessions::served;
@@ -13,15 +13,16 @@ use std::net::{Ipv4Addr, Shutdown, TcpListener, TcpStream};
 use std::test::Fail;
 use std::time::{Clock, Duration, Instant};
 
-/// How often the client asks at once. The responses, of 100 KB each, are more than the system's buffers hold.
+/// The number of requests that the client sends at once. The responses, of 100 KB each, are more
+/// than the system's buffers can take.
 const MANY: usize = 200;
 
-const ASK: &str = "GET /schemas/ids/1 HTTP/1.1\r\n\r\n";
+const GET_SCHEMA: &str = "GET /schemas/ids/1 HTTP/1.1\r\n\r\n";
 
-/// How many bytes the client reads at most at once.
+/// The maximum number of bytes that the client reads at once.
 const ROOM: usize = 16_384;
 
-/// What a client has read of a response that comes again and again.
+/// What a client has read of the same response, sent many times.
 #[derive(Drop)]
 struct Taken<'a> {
     stream: &'a TcpStream,
@@ -31,7 +32,7 @@ struct Taken<'a> {
 }
 
 impl<'a> Taken<'a> {
-    /// Reads once, and returns how many bytes came.
+    /// Reads once, and returns the number of bytes.
     fn take(&self) -> io::Result<usize> {
         let mut stream = self.stream;
         let mut room = [0u8; ROOM];
@@ -57,7 +58,8 @@ impl<'a> Taken<'a> {
     }
 }
 
-/// A clock on which so many milliseconds pass between two looks. At each look the client may read once.
+/// A clock that advances by a number of milliseconds each time it is read. Each time, the client
+/// may read once.
 #[derive(Drop)]
 struct Reading<'a, 'b> {
     taken: &'a Taken<'b>,
@@ -80,18 +82,19 @@ impl<'a, 'b> Clock for Reading<'a, 'b> {
     }
 }
 
-/// Whether the client reads while it is served, how many milliseconds pass between two looks, how many connections are
-/// served, and bounds: so many milliseconds at least, and less than so many.
+/// Whether the client reads while it is served, the milliseconds by which the clock advances, the
+/// number of connections, and bounds for the time. It takes at least the first number of
+/// milliseconds, and less than the second.
 type Row = (bool, u64, u32, u128, u128);
 
 const ROWS: [Row; 2] = [
-    // nothing is taken of a response for thirty seconds of this clock
+    // the client takes nothing of a response for thirty seconds of this clock
     (false, 10_000, 1, 250, 1000),
     // the turn is over after a second of this clock
     (true, 100, 2, 0, 500),
 ];
 
-/// How often a row is tried that took too long: the machine may be busy.
+/// How often a row that took too long is retried: the machine may be busy.
 const TRIES: u32 = 3;
 
 /// Registers a schema of 100 KB, and returns the response that has it.
@@ -111,11 +114,11 @@ fn large_response<S: Alter + Drop>(
         service,
     );
     let mut response: Vec<u8> = Vec::new(alloc);
-    let _ = served(alloc, &mut ASK.as_bytes(), &mut response, service);
+    let _ = served(alloc, &mut GET_SCHEMA.as_bytes(), &mut response, service);
     Ok(response)
 }
 
-/// Serves the clients of a row, and measures how many milliseconds that takes.
+/// Serves the clients of a row, and measures the milliseconds that takes.
 #[derive(Drop)]
 struct Serve<'a> {
     rt: &'a HostRuntime,
@@ -124,7 +127,7 @@ struct Serve<'a> {
 }
 
 impl<'a> Serve<'a> {
-    /// A connection over which a client has sent what it sends.
+    /// A connection over which a client has sent its bytes.
     fn sent(&self, listener: &TcpListener, text: &str) -> Result<TcpStream, Fail> {
         let mut stream = TcpStream::connect(self.rt, listener.local_addr()?)?;
         stream.write_all(text.as_bytes())?;
@@ -162,7 +165,7 @@ impl<'a> ServiceTask for Serve<'a> {
     ) -> Result<(), Fail> {
         let response = large_response(alloc, service)?;
         let listener = TcpListener::bind(self.rt, (Ipv4Addr::LOCALHOST, 0))?;
-        let requests = ASK.repeat(alloc, MANY)?;
+        let requests = GET_SCHEMA.repeat(alloc, MANY)?;
         let first = self.sent(&listener, requests.as_str())?;
         let mut second = self.sent(&listener, GET)?;
         let taken = Taken {
@@ -191,8 +194,8 @@ impl<'a> ServiceTask for Serve<'a> {
     }
 }
 
-/// A client that reads nothing of a response is closed after its time. One that reads slowly yields its turn: it has whole
-/// responses, and another client has its own.
+/// A client that reads nothing of a response is closed after its time. A client that reads slowly
+/// yields its turn: it has whole responses, and another client has its own.
 #[test]
 fn slow_readers_hold_up_others_for_a_turn(rt: HostRuntime) -> Result<(), Fail> {
     for row in ROWS {

@@ -1,4 +1,4 @@
-//! Sessions whose reads and writes fail in turn, and a body that is cut.
+//! Sessions whose reads and writes fail in turn, and a request whose body is cut.
 
 use reg_http::{Ended, serve};
 use reg_service::Service;
@@ -11,7 +11,7 @@ use std::io::{Read, Write};
 use std::process::Abort;
 use std::test::Fail;
 
-/// Serves a connection, without a promise.
+/// Serves a connection, without the contract of `serve`.
 pub(super) fn served<R: Read, W: Write, S: Alter + Drop>(
     alloc: Global,
     reader: &mut R,
@@ -24,7 +24,7 @@ pub(super) fn served<R: Read, W: Write, S: Alter + Drop>(
 /// Bytes, and how the session over them ends.
 pub(super) type Due<'a> = (&'a str, Ended);
 
-/// Holds what was written, and how it ended, to what is due.
+/// Checks the output of a session, and how it ended.
 pub(super) fn is_due(written: &[u8], ended: Ended, due: Due) -> Result<(), Fail> {
     if written == due.0.as_bytes() && ended == due.1 {
         return Ok(());
@@ -36,13 +36,13 @@ pub(super) fn is_due(written: &[u8], ended: Ended, due: Due) -> Result<(), Fail>
     )))
 }
 
-/// A message whose body comes in chunks, which is a fault, and the answer to that.
+/// A message with a chunked body, which is a fault, and the response to it.
 pub(super) const CHUNKED: &str = "PUT /config HTTP/1.1\r\nTransfer-Encoding: chunked\r\n\r\n";
 
 pub(super) const NOT_SUPPORTED: &str =
     "HTTP/1.1 501 Not Implemented\r\nContent-Type: application/vnd.schemaregistry.v1+json\r\nContent-Length: 60\r\nConnection: close\r\n\r\n{\"error_code\":501,\"message\":\"Transfer coding not supported\"}";
 
-/// Two messages, or one before a fault, with the answers to them and how the session ends.
+/// Two messages, or one before a fault, with their responses and how the session ends.
 const SESSIONS: [([&str; 2], [&str; 2], Ended); 2] = [
     ([SET_FULL, SET_FULL], [FULL_SET, FULL_SET], Ended::Closed),
     (
@@ -52,7 +52,8 @@ const SESSIONS: [([&str; 2], [&str; 2], Ended); 2] = [
     ),
 ];
 
-/// A connection: so many bytes a read and one a write, until reads or writes are used up and fail, or writes take nothing.
+/// A connection. A read transfers a number of bytes and a write one byte, until reads or writes are
+/// used up and fail, or writes take nothing.
 #[derive(Clone, Copy)]
 struct Connection<'a> {
     size: usize,
@@ -62,7 +63,7 @@ struct Connection<'a> {
     due: Due<'a>,
 }
 
-/// One that doesn't fail.
+/// A connection that doesn't fail.
 fn whole<'a>(due: Due<'a>) -> Connection<'a> {
     Connection {
         size: 1000,
@@ -74,7 +75,7 @@ fn whole<'a>(due: Due<'a>) -> Connection<'a> {
 }
 
 impl<'a> Connection<'a> {
-    /// Serves the input over it.
+    /// Serves the input over this connection.
     fn serve<S: Alter + Drop>(
         self,
         alloc: Global,
@@ -96,7 +97,7 @@ impl<'a> Connection<'a> {
     }
 }
 
-/// An input, and the connections over which it is sent, one after the other.
+/// An input, and the connections over which it is sent, one after another.
 #[derive(Drop)]
 struct Sent<'a> {
     input: &'a str,
@@ -116,7 +117,8 @@ impl<'a> ServiceTask for Sent<'a> {
     }
 }
 
-/// Sends an input over a connection that fails, and once more over one that doesn't: it is kept once.
+/// Sends an input over a connection that fails, and again over one that doesn't. One reply must be
+/// kept.
 fn is_repeated(
     rt: &impl Abort,
     alloc: Global,
@@ -131,7 +133,8 @@ fn is_repeated(
     Ok(())
 }
 
-/// A byte a read, each read fails in turn, that which would give the end too: what was read whole was answered.
+/// With one byte a read, each read fails in turn, also the read that would return the end. Each
+/// message that was read in full got its response.
 #[test]
 fn each_read_fails_in_turn(rt: HostRuntime) -> Result<(), Fail> {
     let alloc = rt.alloc();
@@ -153,7 +156,8 @@ fn each_read_fails_in_turn(rt: HostRuntime) -> Result<(), Fail> {
     Ok(())
 }
 
-/// A byte a write, each write fails in turn, or takes nothing: written is a beginning of the answers, and of a fault's.
+/// With one byte a write, each write fails in turn, or takes nothing. The output is a beginning of
+/// the responses, and of the response to a fault.
 #[test]
 fn each_write_fails_in_turn(rt: HostRuntime) -> Result<(), Fail> {
     let alloc = rt.alloc();
@@ -173,7 +177,7 @@ fn each_write_fails_in_turn(rt: HostRuntime) -> Result<(), Fail> {
     Ok(())
 }
 
-/// A body that is cut has no answer.
+/// A request whose body is cut gets no response.
 #[test]
 fn a_cut_body_has_no_answer(rt: HostRuntime) -> Result<(), Fail> {
     let alloc = rt.alloc();

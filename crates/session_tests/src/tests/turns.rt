@@ -1,4 +1,4 @@
-//! Who speaks on a connection: no byte is read while a whole message that was read has no answer.
+//! Whose turn it is on a connection: no byte is read while a whole message has no response.
 
 use super::sessions::{CHUNKED, Due, NOT_SUPPORTED, is_due, served};
 use reg_http::Ended;
@@ -10,19 +10,19 @@ use std::cell::Cell;
 use std::io::{self, Read, Write};
 use std::test::Fail;
 
-/// Messages, so many bytes a read. Fails where there are fewer answers than the bytes that were given make whole messages
-/// of one length: the last may be shorter.
+/// A reader of messages, a number of bytes a read. It fails if there are fewer responses than whole
+/// messages were read. All messages have the same length; the last may be shorter.
 #[derive(Drop)]
-struct Asking<'a> {
+struct MessageReader<'a> {
     left: &'a [u8],
     size: usize,
     given: usize,
-    answers: &'a Cell<usize>,
+    responses: &'a Cell<usize>,
 }
 
-impl<'a> Read for Asking<'a> {
+impl<'a> Read for MessageReader<'a> {
     fn read(&mut self, buf: &mut [u8]) -> io::Result<usize> {
-        if self.answers.get() < self.given / SET_FULL.len().max(1) {
+        if self.responses.get() < self.given / SET_FULL.len().max(1) {
             return Err(io::Error::from(io::ErrorKind::BrokenPipe));
         }
         let n = self.size.min(self.left.len()).min(buf.len());
@@ -33,17 +33,17 @@ impl<'a> Read for Asking<'a> {
     }
 }
 
-/// Takes an answer a write.
+/// Takes one response a write.
 #[derive(Drop)]
-struct Taking<'a> {
+struct ResponseWriter<'a> {
     taken: Vec<u8>,
-    answers: &'a Cell<usize>,
+    responses: &'a Cell<usize>,
 }
 
-impl<'a> Write for Taking<'a> {
+impl<'a> Write for ResponseWriter<'a> {
     fn write(&mut self, buf: &[u8]) -> io::Result<usize> {
         self.taken.extend_from_slice(buf)?;
-        self.answers.set(self.answers.get().saturating_add(1));
+        self.responses.set(self.responses.get().saturating_add(1));
         Ok(buf.len())
     }
 
@@ -52,7 +52,7 @@ impl<'a> Write for Taking<'a> {
     }
 }
 
-/// Messages, so many bytes a read, each of which is answered before the next read.
+/// Messages, read a number of bytes at a time. Each must get its response before the next read.
 #[derive(Drop)]
 struct TakeTurns<'a> {
     input: &'a str,
@@ -66,26 +66,26 @@ impl<'a> ServiceTask for TakeTurns<'a> {
         alloc: Global,
         service: &mut Service<S>,
     ) -> Result<(), Fail> {
-        let answers = Cell::new(0);
-        let mut reader = Asking {
+        let responses = Cell::new(0);
+        let mut reader = MessageReader {
             left: self.input.as_bytes(),
             size: self.size,
             given: 0,
-            answers: &answers,
+            responses: &responses,
         };
-        let mut writer = Taking {
+        let mut writer = ResponseWriter {
             taken: Vec::new(alloc),
-            answers: &answers,
+            responses: &responses,
         };
         let ended = served(alloc, &mut reader, &mut writer, service);
-        if answers.get() != 3 {
+        if responses.get() != 3 {
             return Err("there are more or fewer answers".into());
         }
         is_due(writer.taken.as_slice(), ended, self.due)
     }
 }
 
-/// Serves them over a new registry.
+/// Serves the messages over a new registry.
 fn take_turns<'a>(alloc: Global, input: &'a str, size: usize, due: Due<'a>) -> Result<(), Fail> {
     in_memory(alloc, &mut TakeTurns { input, size, due })
 }
@@ -105,7 +105,7 @@ fn take_turns_until<'a>(
     Ok(())
 }
 
-/// No contract refuses a `serve` that ends for want of memory before it reads. This does.
+/// No contract rules out a `serve` that returns `Memory` before it reads. This test does.
 #[test]
 fn serve_gives_up_at_once(rt: HostRuntime) -> Result<(), Fail> {
     take_turns_until(rt.alloc(), SET_FULL, FULL_SET, Ended::Closed)

@@ -6,8 +6,8 @@ use sqlite_disk::{Crash, Fuse, Memory};
 use std::alloc::Global;
 use std::test::Fail;
 
-/// The file that fails, and what is left: what was written, as after a process death, or only what
-/// was synced, as after a machine stop.
+/// The file that fails, and what is left of the files. After a process death that is what was
+/// written, after a machine stop only what was synced.
 #[derive(Clone, Copy)]
 pub struct Fault {
     pub is_log: bool,

@@ -8,8 +8,8 @@ use sqlite::{Alter, Connection, Error, ErrorCode, Transaction};
 use std::alloc::Global;
 use std::test::Fail;
 
-/// The subject s has this many versions, each with its own id. As many other subjects have one
-/// version each, with the id of the first version of s.
+/// The subject s has this many versions, each with its own id. The same number of other subjects
+/// have one version each, with the id of the first version of s.
 const VERSIONS: u32 = 100;
 
 /// Five other subjects have a version with this id; s has none.
@@ -44,7 +44,7 @@ fn add_subjects<S: Alter>(alloc: Global, tx: &mut Transaction<'_, S>) -> Result<
     Ok(())
 }
 
-/// Makes the tables, and fills them.
+/// Creates the tables, and fills them.
 fn fill<S: Alter>(alloc: Global, connection: &mut Connection<S>) -> Result<(), Fail> {
     if !connection.is_autocommit() {
         return Err("a transaction is open".into());
@@ -85,7 +85,7 @@ fn look_up_many<S: Alter>(alloc: Global, db: &mut AutocommitConnection<S>) -> Re
     }
 }
 
-/// No clause bounds the steps of a lookup; the limit on steps does.
+/// No clause bounds the steps of a lookup. The step limit in this test does.
 #[test]
 fn lookups_take_few_steps(rt: HostRuntime) -> Result<(), Fail> {
     let alloc = rt.alloc();

@@ -1,13 +1,13 @@
 //! A list of writes over a disk that stops at each of its calls in turn. Afterwards the database
-//! holds the acknowledged writes, with or without the write in progress, and the whole list can be
+//! has the acknowledged writes, with or without the write in progress, and the whole list can be
 //! sent again.
 
 use super::faults::Fault;
 use reg_core::{OutOfMemory, Reply};
 use reg_service::Service;
 use reg_testing::{
-    DatabaseTask, Row, WRITES, answer_each, answered, answers, connection_of, contents, created,
-    deliveries_of, empty_disk, on_disk, opened,
+    DatabaseTask, Row, WRITES, answer_each, connection_of, contents, count_answered, created,
+    deliveries_of, empty_disk, on_disk, opened, run_all,
 };
 use sqlite::{Alter, Connection, Files};
 use sqlite_disk::{Crash, Fuse, Memory};
@@ -32,7 +32,7 @@ fn replies<S: Alter + Drop>(
     let list = deliveries_of(alloc, rows)?;
     match way {
         Way::InTurn => answer_each(alloc, service, &list),
-        Way::InOneRun => answers(service, &list),
+        Way::InOneRun => run_all(service, &list),
     }
 }
 
@@ -52,7 +52,7 @@ impl Stop {
         service: &mut Service<S>,
     ) -> Result<(), Fail> {
         let replies = replies(alloc, service, self.way, &WRITES)?;
-        let count = answered(&replies, &WRITES)?;
+        let count = count_answered(&replies, &WRITES)?;
         if service.failed() != (count < WRITES.len()) {
             return Err("a reply is 50001 without a disk fault".into());
         }
@@ -83,9 +83,9 @@ impl DatabaseTask for Stop {
 struct Again {
     way: Way,
     count: usize,
-    /// What the database held before.
+    /// The contents of the database before.
     found: String,
-    /// What it holds afterwards.
+    /// Its contents afterwards.
     left: String,
 }
 
@@ -98,7 +98,7 @@ impl Again {
     ) -> Result<(), Fail> {
         let rows = WRITES.get(..self.count).ok_or("there are fewer writes")?;
         let replies = replies(alloc, service, self.way, rows)?;
-        if answered(&replies, rows)? < rows.len() {
+        if count_answered(&replies, rows)? < rows.len() {
             return Err("a write is answered 50001".into());
         }
         Ok(())
@@ -177,7 +177,7 @@ fn stages(rt: &impl Abort, alloc: Global) -> Result<Vec<String>, Fail> {
 }
 
 impl Fault {
-    /// Stops after this number of calls, compares what is found with the stages, and delivers all
+    /// Stops after this number of calls, compares the contents with the stages, and delivers all
     /// writes again. True if nothing failed.
     fn is_whole(
         self,
@@ -202,7 +202,7 @@ impl Fault {
         Ok(closed && rest.len() == 1)
     }
 
-    /// Stops at each call in turn, until nothing stops.
+    /// Stops at each call in turn, until nothing fails.
     fn stops_at_each(
         self,
         rt: &impl Abort,

@@ -2,7 +2,7 @@ use Rattle.std.proofs.Common.{ℕ, List, [], refl, subst}
 use Rattle.reg_service.specs.Crashes.{ServesDurably}
 use Rattle.reg_service.specs.Services.{state_in}
 use Rattle.reg_service.proofs.CrashLemmas.{leaves_open}
-use Rattle.reg_service.proofs.FoundLists.{durable_none, durable_both}
+use Rattle.reg_service.proofs.RecoveredLists.{durable_none, durable_both}
 use Rattle.reg_http.specs.Inside.SessionSteps.{AnswersOne, AnswersAs}
 use Rattle.reg_http.proofs.SessionLemmas.{AnsweredSoFar-none, AnsweredSoFar-one, AnswersAs-after}
 use Rattle.reg_http.proofs.answering.answer_buffered.Goals as goal

@@ -3,9 +3,9 @@ use Rattle.reg_messages.specs.BorrowedRequests.{fields_in}
 use Rattle.reg_service.specs.Deliveries.{Exchange, served}
 use Rattle.reg_service.specs.Services.{state_in}
 use Rattle.reg_service.proofs.CrashLemmas.{leaves_open}
-use Rattle.reg_service.proofs.FoundLists.{durable_none, durable_one}
+use Rattle.reg_service.proofs.RecoveredLists.{durable_none, durable_one}
 use Rattle.reg_routes.specs.Deliveries.{allow_field}
-use Rattle.reg_routes.proofs.Refusals.{allow_due}
+use Rattle.reg_routes.proofs.Rejections.{allow_due}
 use Rattle.reg_http.proofs.ReplyLemmas.{IsReplyTo-delivered, IsReplyTo-rejected}
 use Rattle.reg_http.proofs.answering.reply_to.Goals as goal
 

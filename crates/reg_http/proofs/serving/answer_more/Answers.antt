@@ -1,7 +1,7 @@
 use Rattle.std.proofs.Common.{[], refl}
 use Rattle.reg_service.specs.Services.{state_in}
 use Rattle.reg_service.proofs.CrashLemmas.{leaves_open}
-use Rattle.reg_service.proofs.FoundLists.{durable_none}
+use Rattle.reg_service.proofs.RecoveredLists.{durable_none}
 use Rattle.reg_http.specs.declared.answering.Stop.TheVariants.{Waiting}
 use Rattle.reg_http.proofs.SessionLemmas.{AnswersAs-nil}
 use Rattle.reg_http.proofs.serving.answer_more.Goals as goal

@@ -1,7 +1,7 @@
 use Rattle.std.proofs.Common.{[], refl}
 use Rattle.reg_service.specs.Services.{state_in}
 use Rattle.reg_service.proofs.CrashLemmas.{leaves_open}
-use Rattle.reg_service.proofs.FoundLists.{durable_none}
+use Rattle.reg_service.proofs.RecoveredLists.{durable_none}
 use Rattle.reg_http.proofs.EndLemmas.{Session-unread}
 use Rattle.reg_http.proofs.serving.serve.Goals as goal
 

@@ -3,7 +3,7 @@ use Rattle.std.specs.Io.KnownBytes.{Consumes}
 use Rattle.std.proofs.KnownBytes.{Consumes-nil, Consumes-trans}
 use Rattle.reg_service.specs.Services.{state_in}
 use Rattle.reg_service.proofs.CrashLemmas.{leaves_open}
-use Rattle.reg_service.proofs.FoundLists.{durable_none, durable_both}
+use Rattle.reg_service.proofs.RecoveredLists.{durable_none, durable_both}
 use Rattle.reg_http.specs.declared.answering.Stop.TheVariants.{Waiting, AtClose, AtFault, NotWritten, OutOfMemory}
 use Rattle.reg_http.specs.declared.serving.Ended.TheVariants.{Closed, WriteFailed, Malformed, Memory}
 use Rattle.reg_http.proofs.SessionLemmas.{AnsweredSoFar-none}

@@ -5,7 +5,7 @@
 use super::faults::Fault;
 use reg_migrate::{MigrateError, Report, migrate};
 use reg_store::StoreError;
-use reg_testing::{DatabaseTask, contents, copy, joined, layout1_registry, on_disk, refused};
+use reg_testing::{DatabaseTask, contents, copy, joined, layout1_registry, on_disk, open_error};
 use sqlite::{Alter, Connection, Files};
 use sqlite_disk::{Fuse, Memory};
 use std::alloc::Global;
@@ -20,21 +20,21 @@ const FILLED: &str =
 /// The report of its migration.
 const COUNTED: Report = Report { versions: 3 };
 
-/// The contents of its database after the kind of the first row: the rows before those of `meta`,
-/// the rows of `meta` in each layout, and the rows after them.
+/// The contents of its database after the kind of the first row, in parts: the rows before `meta`,
+/// the rows of `meta` in each layout, and the later rows.
 const BEFORE: &str =
     "k1 200 [\"set-global\",\"FULL\"]|{\"compatibility\":\"FULL\"}|\nkept|k2 404 [\"delete-subject\",\"z\",false]|{\"error_code\":40401,\"message\":\"Subject not found\"}|\nlevel|s|NONE|\nlevel|u|FORWARD|\n";
 
-const FIRST: &str = "meta|format|avroreg|\nmeta|global|FULL|\nmeta|layout|1|\n";
+const META_LAYOUT1: &str = "meta|format|avroreg|\nmeta|global|FULL|\nmeta|layout|1|\n";
 
-const SECOND: &str =
+const META_LAYOUT2: &str =
     "meta|format|avroreg|\nmeta|global|FULL|\nmeta|layout|2|\nmeta|mode|READWRITE|\n";
 
-const BEHIND: &str =
+const AFTER: &str =
     "text|1|\"int\"|\ntext|2|\"string\"|\nversion|s 1|1 1|\nversion|s 2|2 0|\nversion|t 1|1 0|\n";
 
 /// The result of migrating a database.
-fn moved<S: Alter + Drop>(
+fn migrated<S: Alter + Drop>(
     alloc: Global,
     connection: Connection<S>,
 ) -> Result<(Result<Report, MigrateError>, Connection<S>), Fail> {
@@ -47,7 +47,7 @@ fn moved<S: Alter + Drop>(
 /// Migrates a database whose disk may fail.
 #[derive(Drop)]
 struct Stop {
-    is_moved: bool,
+    is_migrated: bool,
 }
 
 impl DatabaseTask for Stop {
@@ -56,9 +56,9 @@ impl DatabaseTask for Stop {
         alloc: Global,
         connection: Connection<S>,
     ) -> Result<Connection<S>, Fail> {
-        let (answer, connection) = moved(alloc, connection)?;
-        self.is_moved = answer == Ok(COUNTED);
-        if self.is_moved || answer == Err(MigrateError::Disk) {
+        let (answer, connection) = migrated(alloc, connection)?;
+        self.is_migrated = answer == Ok(COUNTED);
+        if self.is_migrated || answer == Err(MigrateError::Disk) {
             return Ok(connection);
         }
         Err("the result is neither a full report nor a disk fault".into())
@@ -68,9 +68,9 @@ impl DatabaseTask for Stop {
 /// Opens a database, migrates it, and opens it again.
 #[derive(Drop)]
 struct Again {
-    /// What the database held before.
+    /// The contents of the database before.
     found: String,
-    /// What it holds afterwards.
+    /// Its contents afterwards.
     left: String,
 }
 
@@ -81,12 +81,12 @@ impl DatabaseTask for Again {
         mut connection: Connection<S>,
     ) -> Result<Connection<S>, Fail> {
         self.found = contents(alloc, &mut connection)?;
-        let (before, connection) = refused(alloc, connection)?;
-        let (answer, connection) = moved(alloc, connection)?;
-        let (after, mut connection) = refused(alloc, connection)?;
+        let (before, connection) = open_error(alloc, connection)?;
+        let (answer, connection) = migrated(alloc, connection)?;
+        let (after, mut connection) = open_error(alloc, connection)?;
         self.left = contents(alloc, &mut connection)?;
-        let is_first = self.found.contains(FIRST);
-        let due = if is_first {
+        let is_layout1 = self.found.contains(META_LAYOUT1);
+        let due = if is_layout1 {
             (Some(StoreError::OldLayout(1)), Ok(COUNTED))
         } else {
             (None, Err(MigrateError::AlreadyNew))
@@ -99,7 +99,7 @@ impl DatabaseTask for Again {
 }
 
 /// Opens the database in the files, migrates it, and opens it again.
-fn moved_again(alloc: Global, files: Files<Fuse<Memory>>) -> Result<Again, Fail> {
+fn migrate_again(alloc: Global, files: Files<Fuse<Memory>>) -> Result<Again, Fail> {
     let mut task = Again {
         found: String::new(alloc),
         left: String::new(alloc),
@@ -122,8 +122,8 @@ fn rows(text: &str) -> &str {
 impl Again {
     /// The rows stay, no other row is added, and `meta` has the rows of layout 2.
     fn keeps_rows(&self, rt: &impl Abort, alloc: Global) -> Result<(), Fail> {
-        let found = joined(alloc, &[BEFORE, FIRST, BEHIND])?;
-        let left = joined(alloc, &[BEFORE, SECOND, BEHIND])?;
+        let found = joined(alloc, &[BEFORE, META_LAYOUT1, AFTER])?;
+        let left = joined(alloc, &[BEFORE, META_LAYOUT2, AFTER])?;
         assert_eq!(rt; rows(self.found.as_str()), found.as_str());
         assert_eq!(rt; rows(self.left.as_str()), left.as_str());
         Ok(())
@@ -140,7 +140,7 @@ struct OldRegistry {
 /// The registry.
 fn old_registry(rt: &impl Abort, alloc: Global) -> Result<OldRegistry, Fail> {
     let files = layout1_registry(alloc, FILLED)?;
-    let whole = moved_again(alloc, copy(alloc, &files, u64::MAX, u64::MAX)?)?;
+    let whole = migrate_again(alloc, copy(alloc, &files, u64::MAX, u64::MAX)?)?;
     whole.keeps_rows(rt, alloc)?;
     Ok(OldRegistry { files, whole })
 }
@@ -154,13 +154,13 @@ impl OldRegistry {
         fault: Fault,
         calls: u64,
     ) -> Result<bool, Fail> {
-        let mut stop = Stop { is_moved: false };
+        let mut stop = Stop { is_migrated: false };
         let (files, closed) = on_disk(alloc, fault.disk(alloc, &self.files, calls)?, &mut stop)?;
-        let again = moved_again(alloc, fault.left(alloc, files)?)?;
+        let again = migrate_again(alloc, fault.left(alloc, files)?)?;
         let is_layout_two = again.found.as_str() == self.whole.left.as_str();
-        let is_first = again.found.as_str() == self.whole.found.as_str();
+        let is_layout1 = again.found.as_str() == self.whole.found.as_str();
         assert!(rt;
-            is_layout_two || is_first && !stop.is_moved,
+            is_layout_two || is_layout1 && !stop.is_migrated,
             "after {calls} calls: {}",
             again.found
         );
@@ -169,10 +169,10 @@ impl OldRegistry {
             "after {calls} calls: {}",
             again.left
         );
-        Ok(closed && stop.is_moved)
+        Ok(closed && stop.is_migrated)
     }
 
-    /// Stops at each call in turn, until nothing stops.
+    /// Stops at each call in turn, until nothing fails.
     fn stops(&self, rt: &impl Abort, alloc: Global, fault: Fault) -> Result<(), Fail> {
         for calls in 0..1000 {
             if self.is_whole(rt, alloc, fault, calls)? {
@@ -184,8 +184,8 @@ impl OldRegistry {
     }
 }
 
-/// The process dies there, and then the machine stops.
-fn moving_stops(rt: &impl Abort, alloc: Global, is_log: bool) -> Result<(), Fail> {
+/// Stops with a process death, and then with a machine stop.
+fn check_stops(rt: &impl Abort, alloc: Global, is_log: bool) -> Result<(), Fail> {
     let registry = old_registry(rt, alloc)?;
     for is_crash in [false, true] {
         registry.stops(rt, alloc, Fault { is_log, is_crash })?;
@@ -195,10 +195,10 @@ fn moving_stops(rt: &impl Abort, alloc: Global, is_log: bool) -> Result<(), Fail
 
 #[test]
 fn the_log_fails_during_a_migration(rt: HostRuntime) -> Result<(), Fail> {
-    moving_stops(&rt, rt.alloc(), true)
+    check_stops(&rt, rt.alloc(), true)
 }
 
 #[test]
 fn the_database_fails_during_a_migration(rt: HostRuntime) -> Result<(), Fail> {
-    moving_stops(&rt, rt.alloc(), false)
+    check_stops(&rt, rt.alloc(), false)
 }
