@@ -12,10 +12,10 @@ use Rattle.reg_http.specs.declared.writing.WriteOutcome.{WriteOutcome}
 use Rattle.reg_http.specs.declared.writing.WriteOutcome.TheVariants.{Whole, CutShort, OutOfMemory as Unsent}
 use Rattle.reg_http.specs.declared.answering.Stop.{Stop}
 use Rattle.reg_http.specs.declared.answering.Stop.TheVariants.{Waiting, AtClose, AtFault, NotWritten, OutOfMemory}
-use Rattle.reg_messages.specs.Messages.{Message, IsMessage, ParsesInto, Follows, Faulty}
+use Rattle.reg_messages.specs.Messages.{Message, StartsWithMessage, ParsesInto, Follows, Faulty}
 use Rattle.reg_messages.specs.Closing.{closes}
 use Rattle.reg_messages.specs.Responses.{fault_response}
-use Rattle.reg_messages.proofs.Fronts.{IsMessage-more}
+use Rattle.reg_messages.proofs.Fronts.{StartsWithMessage-more}
 use Rattle.reg_routes.specs.Deliveries.{delivery_of}
 use Rattle.reg_http.specs.Output.{AnsweredMessage, response_to, exchange_of, exchanges, AreRejected, StayOpen, LastCloses, responses, IsPrefix, IsCutShort}
 use Rattle.reg_http.specs.Inside.Replying.{IsReplyTo}
@@ -50,7 +50,7 @@ ProcessesMessages-nil P w bytes none = record { leads = refl; rejected = tt; ser
 
 -- one message
 ProcessesMessages-one : (P : List Exchange → Type 0) (w w' : Option (List ℕ)) (bytes rest out : List ℕ) (m : Message) (reply : ReplyView)
-    → IsMessage bytes m rest → IsReplyTo P (delivery_of m) reply → Appends w w' out → ProcessesMessages P w w' bytes ((m, reply) ∷ []) rest out
+    → StartsWithMessage bytes m rest → IsReplyTo P (delivery_of m) reply → Appends w w' out → ProcessesMessages P w w' bytes ((m, reply) ∷ []) rest out
 ProcessesMessages-one P w w' bytes rest out m reply p r a = record {
   leads = (rest, p, refl);
   rejected = (r.rejected, tt);
@@ -160,7 +160,7 @@ AnswersAs-fault P w w' bytes code (Waiting needs) none f a = absurd a
 
 -- a whole message got its response, or a beginning of it
 pub Next-message : (P : List Exchange → Type 0) (w w' : Option (List ℕ)) (bytes : List ℕ) (size : ℕ) (m : Message) (reply : ReplyView)
-    (sent : WriteOutcome) (close : Bool) → IsMessage bytes m (drop size bytes) → IsReplyTo P (delivery_of m) reply → closes m ≡ close
+    (sent : WriteOutcome) (close : Bool) → StartsWithMessage bytes m (drop size bytes) → IsReplyTo P (delivery_of m) reply → closes m ≡ close
     → (part : List ℕ) → IsPrefix part (response_to m reply) → Appends w w' part → (sent ≡ Whole → Appends w w' (response_to m reply))
     → NextAs P w w' bytes (next_after sent close size)
 Next-message P w w' bytes size m reply Whole true is r c part front a whole = record {
@@ -195,7 +195,7 @@ Next-message P w w' bytes size m reply Unsent close is r c part front a whole = 
 
 ParsesInto-more : (bytes rest more : List ℕ) (ms : List Message) → ParsesInto bytes ms rest → ParsesInto (bytes ++ more) ms (rest ++ more)
 ParsesInto-more bytes rest more [] e = ap (λ t. t ++ more) e
-ParsesInto-more bytes rest more (m ∷ ms) p = (p.0 ++ more, IsMessage-more bytes p.0 more m p.1, ParsesInto-more p.0 rest more ms p.2)
+ParsesInto-more bytes rest more (m ∷ ms) p = (p.0 ++ more, StartsWithMessage-more bytes p.0 more m p.1, ParsesInto-more p.0 rest more ms p.2)
 
 -- more bytes were appended to the buffer
 pub AnsweredSoFar-more : (P : List Exchange → Type 0) (w w' : Option (List ℕ)) (bytes held more : List ℕ) → AnsweredSoFar P w w' bytes held → AnsweredSoFar P w w' (bytes ++ more) (held ++ more)

@@ -9,7 +9,7 @@ use Rattle.reg_core.specs.declared.delivery.Delivery.{Delivery}
 use Rattle.reg_service.specs.Deliveries.{Exchange}
 use Rattle.reg_messages.specs.Messages.{Message, Follows, Tail, End, Part, Faulty}
 use Rattle.reg_messages.specs.Closing.{closes}
-use Rattle.reg_messages.specs.Responses.{answer_bytes, fault_response}
+use Rattle.reg_messages.specs.Responses.{response_bytes, fault_response}
 use Rattle.reg_routes.specs.Deliveries.{Rejection, delivery_of, allow_field}
 
 -- a message and its reply
@@ -18,7 +18,7 @@ AnsweredMessage = Message × ReplyView
 
 -- the response to a whole message
 abbrev pub response_to : Message → ReplyView → List ℕ
-response_to message reply = answer_bytes reply (allow_field (delivery_of message) reply) (closes message)
+response_to message reply = response_bytes reply (allow_field (delivery_of message) reply) (closes message)
 
 -- the exchange of a message's delivery; none if the message has no delivery
 abbrev pub exchange_of : Result Delivery Rejection → ReplyView → List Exchange

@@ -2,7 +2,7 @@
 
 ghost use Rattle.std.specs.Prelude.{◌≡◌, ◌≤◌, ℕ, List, length, take, IsTrue, option_map};
 ghost use Rattle.std.specs.Io.KnownBytes.{Appends};
-ghost use Rattle.reg_messages.specs.Responses.{answer_bytes};
+ghost use Rattle.reg_messages.specs.Responses.{response_bytes};
 ghost use Rattle.reg_http.specs.Output.{IsPrefix};
 
 use reg_core::Reply;
@@ -52,10 +52,10 @@ pub fn send<W: Write>(
     close: bool,
 ) -> WriteOutcome
     ensures front { (part : List ℕ)
-        × IsPrefix part (answer_bytes reply.now (option_map (λ text. text.now) allow.entry) close)
+        × IsPrefix part (response_bytes reply.now (option_map (λ text. text.now) allow.entry) close)
         × Appends (W.contents writer.old) (W.contents writer.new) part }
     ensures whole { result ≡ WriteOutcome.Whole → Appends (W.contents writer.old) (W.contents writer.new)
-        (answer_bytes reply.now (option_map (λ text. text.now) allow.entry) close) }
+        (response_bytes reply.now (option_map (λ text. text.now) allow.entry) close) }
 {
     let Ok(text) = bytes_of(alloc, reply, allow, close) else {
         return WriteOutcome::OutOfMemory;

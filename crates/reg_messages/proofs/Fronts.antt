@@ -10,7 +10,7 @@ use Rattle.httparse.specs.Spans.{RequestExceeds, IsRequestAt, IsRequestWithin, I
 use Rattle.httparse.proofs.GrammarLemmas.{print_request-append}
 use Rattle.reg_core.specs.declared.code.Code.{Code}
 use Rattle.reg_messages.specs.Framing.{framing}
-use Rattle.reg_messages.specs.Messages.{Message, IsMessage, HasHead, HasNoHead, IsPartOfHead, Follows, Part, fields_of}
+use Rattle.reg_messages.specs.Messages.{Message, StartsWithMessage, HasHead, HasNoHead, IsPartOfHead, Follows, Part, fields_of}
 use Rattle.reg_messages.specs.ParseOutcomes.{IsWholeMessage, IsPartialUntil}
 
 -- if one list is split twice, the shorter front is a prefix of the longer one
@@ -156,8 +156,8 @@ HasHead-more bytes rest more head x = record {
   size = x.size;
 }
 
-pub IsMessage-more : (bytes rest more : List ℕ) (message : Message) → IsMessage bytes message rest → IsMessage (bytes ++ more) message (rest ++ more)
-IsMessage-more bytes rest more message x = record {
+pub StartsWithMessage-more : (bytes rest more : List ℕ) (message : Message) → StartsWithMessage bytes message rest → StartsWithMessage (bytes ++ more) message (rest ++ more)
+StartsWithMessage-more bytes rest more message x = record {
   head = subst (HasHead (bytes ++ more) message.head) (append_assoc message.body rest more) (HasHead-more bytes (message.body ++ rest) more message.head x.head);
   body = x.body;
 }

@@ -5,7 +5,7 @@ use Rattle.httparse.specs.Grammar.{lf, AllPass, is_token_byte, is_uri_byte, Requ
 use Rattle.httparse.proofs.GrammarLemmas.{request_unique, ReadsRequest-append}
 use Rattle.reg_core.specs.declared.code.Code.{Code}
 use Rattle.reg_messages.specs.Framing.{framing}
-use Rattle.reg_messages.specs.Messages.{Message, HasHead, NeverHasHead, IsMessage, ParsesInto, Follows, Agree, Messages, fields_of, Tail, End, Part, Faulty}
+use Rattle.reg_messages.specs.Messages.{Message, HasHead, NeverHasHead, StartsWithMessage, ParsesInto, Follows, Agree, Messages, fields_of, Tail, End, Part, Faulty}
 use Rattle.reg_messages.proofs.Fronts.{head_some}
 
 -- equal lists, split at the same position, have equal parts
@@ -33,8 +33,8 @@ ok_or_err n code a b e f g = cc
 abbrev framing_of : RequestHead → Result ℕ Code
 framing_of h = framing (fields_of h)
 
-IsMessage-unique : (bytes : List ℕ) (m k : Message) (r q : List ℕ) → IsMessage bytes m r → IsMessage bytes k q → (m ≡ k) × (r ≡ q)
-IsMessage-unique bytes m k r q x y =
+StartsWithMessage-unique : (bytes : List ℕ) (m k : Message) (r q : List ℕ) → StartsWithMessage bytes m r → StartsWithMessage bytes k q → (m ≡ k) × (r ≡ q)
+StartsWithMessage-unique bytes m k r q x y =
     let s = HasHead-unique bytes m.head k.head (m.body ++ r) (k.body ++ q) x.head y.head in
     let n = same_ok _ _ _ _ (ap framing_of s.0) x.body y.body in
     let t = same_split m.body r k.body q s.1 n in
@@ -53,7 +53,7 @@ no_bytes bytes rest head none x =
     omega (arith, some, e, length-append (print_request head) rest)
 
 -- the remainder doesn't begin with a message
-no_message : (bytes rest : List ℕ) (m : Message) (tail : Tail) → Follows bytes tail → IsMessage bytes m rest → ⊥
+no_message : (bytes rest : List ℕ) (m : Message) (tail : Tail) → Follows bytes tail → StartsWithMessage bytes m rest → ⊥
 no_message bytes rest m End f x = no_bytes bytes (m.body ++ rest) m.head f x.head
 no_message bytes rest m Part (inl f) x = f.none_yet m.head (m.body ++ rest) x.head.reads
 no_message bytes rest m Part (inr f) x =
@@ -146,7 +146,7 @@ ParsesInto-unique bytes [] [] r q t u a f b h = (refl, sym a ∙ b)
 ParsesInto-unique bytes [] (k ∷ ks) r q t u a f b h = absurd (no_message bytes b.0 k t (subst (λ (w : List ℕ). Follows w t) (sym a) f) b.1)
 ParsesInto-unique bytes (m ∷ ms) [] r q t u a f b h = absurd (no_message bytes a.0 m u (subst (λ (w : List ℕ). Follows w u) (sym b) h) a.1)
 ParsesInto-unique bytes (m ∷ ms) (k ∷ ks) r q t u a f b h =
-    let s = IsMessage-unique bytes m k a.0 b.0 a.1 b.1 in
+    let s = StartsWithMessage-unique bytes m k a.0 b.0 a.1 b.1 in
     let z = ParsesInto-unique a.0 ms ks r q t u a.2 f (subst (λ (w : List ℕ). ParsesInto w ks q) (sym s.1) b.2) h in
     ((λ i. s.0 i ∷ z.0 i), z.1)
 

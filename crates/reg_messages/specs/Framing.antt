@@ -29,10 +29,10 @@ length_of (text ∷ []) = body_length text
 length_of (text ∷ other ∷ more) = Err MalformedRequest
 
 -- A Transfer-Encoding is rejected, before any Content-Length is examined.
-abbrev pub length_unless_coded : List (List ℕ) → List (List ℕ) → Result ℕ Code
-length_unless_coded [] lengths = length_of lengths
-length_unless_coded (coding ∷ more) lengths = Err CodingNotSupported
+abbrev pub length_unless_transfer_coded : List (List ℕ) → List (List ℕ) → Result ℕ Code
+length_unless_transfer_coded [] lengths = length_of lengths
+length_unless_transfer_coded (coding ∷ more) lengths = Err CodingNotSupported
 
 -- the body's length, or the code of the first fault in the fields
 unfoldable pub framing : List HeaderField → Result ℕ Code
-framing fields = length_unless_coded (values_named (codes "Transfer-Encoding") fields) (values_named (codes "Content-Length") fields)
+framing fields = length_unless_transfer_coded (values_named (codes "Transfer-Encoding") fields) (values_named (codes "Content-Length") fields)

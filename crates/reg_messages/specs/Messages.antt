@@ -26,14 +26,14 @@ abbrev pub fields_of : RequestHead → List HeaderField
 fields_of head = map name_and_value head.fields
 
 -- the bytes are the message, followed by the rest
-pub record IsMessage (bytes : List ℕ) (message : Message) (rest : List ℕ) : Type 0 where
+pub record StartsWithMessage (bytes : List ℕ) (message : Message) (rest : List ℕ) : Type 0 where
   pub head : HasHead bytes message.head (message.body ++ rest)
   pub body : framing (fields_of message.head) ≡ Ok (length message.body)
 
 -- the bytes are these messages, followed by the rest
 abbrev pub ParsesInto : List ℕ → List Message → List ℕ → Type 0
 ParsesInto bytes [] rest = bytes ≡ rest
-ParsesInto bytes (m ∷ ms) rest = (mid : List ℕ) × IsMessage bytes m mid × ParsesInto mid ms rest
+ParsesInto bytes (m ∷ ms) rest = (mid : List ℕ) × StartsWithMessage bytes m mid × ParsesInto mid ms rest
 
 -- the bytes don't begin with a head within the size limit
 abbrev pub HasNoHead : List ℕ → Type 0

@@ -10,12 +10,12 @@ abbrev pub line_end : List ℕ
 line_end = 13 ∷ 10 ∷ []
 
 -- a status's reason phrase, from the table of `http`
-unfoldable pub phrase_of : ℕ → List ℕ
-phrase_of status = unwrap_or (reason_phrase status) []
+unfoldable pub reason_phrase_of : ℕ → List ℕ
+reason_phrase_of status = unwrap_or (reason_phrase status) []
 
 -- the status line (RFC 9112, section 4)
 abbrev pub status_line : ℕ → List ℕ
-status_line status = codes "HTTP/1.1 " ++ decimal status ++ codes " " ++ phrase_of status ++ line_end
+status_line status = codes "HTTP/1.1 " ++ decimal status ++ codes " " ++ reason_phrase_of status ++ line_end
 
 -- the body's media type (Schema Registry API reference, content types)
 abbrev pub type_line : List ℕ
@@ -27,19 +27,19 @@ allow_line None = []
 allow_line (Some methods) = codes "Allow: " ++ methods ++ line_end
 
 -- the body's length in bytes (RFC 9110, section 8.6)
-abbrev pub length_line : ℕ → List ℕ
-length_line length = codes "Content-Length: " ++ decimal length ++ line_end
+abbrev pub content_length_line : ℕ → List ℕ
+content_length_line length = codes "Content-Length: " ++ decimal length ++ line_end
 
 -- for a response after which the connection ends (RFC 9112, section 9.6)
-abbrev pub close_line : Bool → List ℕ
-close_line true = codes "Connection: close" ++ line_end
-close_line false = []
+abbrev pub connection_line : Bool → List ℕ
+connection_line true = codes "Connection: close" ++ line_end
+connection_line false = []
 
 -- a response: its lines in this order, an empty line, and the body
-unfoldable pub answer_bytes : ReplyView → Option (List ℕ) → Bool → List ℕ
-answer_bytes reply allow close =
-    status_line reply.status ++ type_line ++ allow_line allow ++ length_line (length reply.body) ++ close_line close ++ line_end ++ reply.body
+unfoldable pub response_bytes : ReplyView → Option (List ℕ) → Bool → List ℕ
+response_bytes reply allow close =
+    status_line reply.status ++ type_line ++ allow_line allow ++ content_length_line (length reply.body) ++ connection_line close ++ line_end ++ reply.body
 
 -- the response to a fault after the whole messages, which ends the connection
 abbrev pub fault_response : Code → List ℕ
-fault_response code = answer_bytes (fault code) None true
+fault_response code = response_bytes (fault code) None true

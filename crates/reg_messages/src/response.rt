@@ -2,19 +2,19 @@
 
 ghost use Rattle.std.specs.Prelude.{◌≡◌, IfOk, option_map, string_bytes};
 ghost use Rattle.http.specs.StatusCode.{IsStatusCode};
-ghost use Rattle.reg_messages.specs.Responses.{answer_bytes, status_line, length_line, allow_line, close_line, phrase_of};
+ghost use Rattle.reg_messages.specs.Responses.{response_bytes, status_line, content_length_line, allow_line, connection_line, reason_phrase_of};
 
 use http::StatusCode;
 use reg_core::{OutOfMemory, Reply};
 use std::alloc::Global;
 
 /// The line with the body's media type.
-const TYPE_LINE: &str = "Content-Type: application/vnd.schemaregistry.v1+json\r\n";
+const CONTENT_TYPE_LINE: &str = "Content-Type: application/vnd.schemaregistry.v1+json\r\n";
 
 /// The reason phrase of a status, from the table of `http`.
-fn phrase_of(status: u16) -> &'static str
+fn reason_phrase_of(status: u16) -> &'static str
     requires { IsStatusCode status }
-    ensures { result.now ≡ phrase_of status }
+    ensures { result.now ≡ reason_phrase_of status }
 {
     match StatusCode::from_u16(status) {
         Ok(status) => status.canonical_reason().unwrap_or(""),
@@ -27,13 +27,13 @@ fn status_line(alloc: Global, status: u16) -> Result<String, OutOfMemory>
     requires { IsStatusCode status }
     ensures { IfOk result (λ line. string_bytes line ≡ status_line status) }
 {
-    let phrase = phrase_of(status);
+    let phrase = reason_phrase_of(status);
     Ok(format!(in alloc; "HTTP/1.1 {status} {phrase}\r\n")?)
 }
 
 /// The line with the body's length in bytes.
-fn length_line(alloc: Global, length: usize) -> Result<String, OutOfMemory>
-    ensures { IfOk result (λ line. string_bytes line ≡ length_line length) }
+fn content_length_line(alloc: Global, length: usize) -> Result<String, OutOfMemory>
+    ensures { IfOk result (λ line. string_bytes line ≡ content_length_line length) }
 {
     Ok(format!(in alloc; "Content-Length: {length}\r\n")?)
 }
@@ -50,8 +50,8 @@ fn allow_line(alloc: Global, allow: Option<&str>) -> Result<String, OutOfMemory>
 }
 
 /// The line that announces the end of the connection, or nothing.
-fn close_line(close: bool) -> &'static str
-    ensures { result.now ≡ close_line close }
+fn connection_line(close: bool) -> &'static str
+    ensures { result.now ≡ connection_line close }
 {
     if close { "Connection: close\r\n" } else { "" }
 }
@@ -69,13 +69,13 @@ pub fn bytes_of(
     close: bool,
 ) -> Result<String, OutOfMemory>
     ensures { IfOk result (λ text. string_bytes text
-        ≡ answer_bytes reply.now (option_map (λ text. text.now) allow.entry) close) }
+        ≡ response_bytes reply.now (option_map (λ text. text.now) allow.entry) close) }
 {
     let mut text = status_line(alloc, reply.status())?;
-    text.push_str(TYPE_LINE)?;
+    text.push_str(CONTENT_TYPE_LINE)?;
     text.push_str(allow_line(alloc, allow)?.as_str())?;
-    text.push_str(length_line(alloc, reply.body().len())?.as_str())?;
-    text.push_str(close_line(close))?;
+    text.push_str(content_length_line(alloc, reply.body().len())?.as_str())?;
+    text.push_str(connection_line(close))?;
     text.push_str("\r\n")?;
     text.push_str(reply.body())?;
     Ok(text)

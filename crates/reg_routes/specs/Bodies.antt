@@ -15,8 +15,8 @@ abbrev pub string_member : List ℕ → Data → Option (List ℕ)
 string_member name value = option_and_then as_str (get name value)
 
 -- a string member of a body
-abbrev pub body_string : List ℕ → List ℕ → Option (List ℕ)
-body_string name body = option_and_then (string_member name) (body_json body)
+abbrev pub body_string_member : List ℕ → List ℕ → Option (List ℕ)
+body_string_member name body = option_and_then (string_member name) (body_json body)
 
 -- a supported `schemaType`: missing, null or AVRO
 abbrev pub is_avro : Option Data → Bool

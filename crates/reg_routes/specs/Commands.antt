@@ -9,7 +9,7 @@ use Rattle.reg_routes.specs.declared.resource.Operation.TheVariants as op
 use Rattle.reg_routes.specs.declared.command.RequestParts.{RequestParts}
 use Rattle.reg_routes.specs.Targets.{path_text, path_subject}
 use Rattle.reg_routes.specs.Queries.{is_on}
-use Rattle.reg_routes.specs.Bodies.{body_string, body_schema}
+use Rattle.reg_routes.specs.Bodies.{body_string_member, body_schema}
 
 -- a command with the subject in a part of the path
 abbrev pub for_subject : ℕ → List ℕ → (List ℕ → Option Command) → Option Command
@@ -21,7 +21,7 @@ for_text n path then = option_and_then then (path_text n path)
 
 -- a command with a string member of the body
 abbrev pub for_string : List ℕ → List ℕ → (List ℕ → Command) → Option Command
-for_string name body then = option_map then (body_string name body)
+for_string name body then = option_map then (body_string_member name body)
 
 -- a command with the level in the body
 abbrev pub for_level : List ℕ → (List ℕ → Command) → Option Command

@@ -8,10 +8,10 @@ abbrev pub form_text : List ℕ → List ℕ
 form_text bytes = utf8_lossy (decode bytes)
 
 -- whether the first pair of this name has the value `true`
-abbrev pub is_first_on : List (List ℕ × List ℕ) → List ℕ → Bool
-is_first_on [] name = false
-is_first_on (pair ∷ pairs) name = cond (bytes_eq (form_text pair.0) name) (bytes_eq (form_text pair.1) (codes "true")) (is_first_on pairs name)
+abbrev pub first_is_true : List (List ℕ × List ℕ) → List ℕ → Bool
+first_is_true [] name = false
+first_is_true (pair ∷ pairs) name = cond (bytes_eq (form_text pair.0) name) (bytes_eq (form_text pair.1) (codes "true")) (first_is_true pairs name)
 
 -- whether the first parameter of this name is `true`
 abbrev pub is_on : List ℕ → List ℕ → Bool
-is_on query name = is_first_on (raw_pairs query) name
+is_on query name = first_is_true (raw_pairs query) name

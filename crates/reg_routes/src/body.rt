@@ -3,7 +3,7 @@
 ghost use Rattle.std.specs.Prelude.{◌≡◌, IfOk, Some, option_and_then, option_map};
 ghost use Rattle.serde_json.specs.Find.{as_str};
 ghost use Rattle.serde_json.specs.View.{view};
-ghost use Rattle.reg_routes.specs.Bodies.{has_no_references, is_avro, is_supported, body_json, body_schema, string_member, body_string};
+ghost use Rattle.reg_routes.specs.Bodies.{has_no_references, is_avro, is_supported, body_json, body_schema, string_member, body_string_member};
 
 use reg_core::{OutOfMemory, Text};
 use serde_json::Value;
@@ -96,8 +96,12 @@ fn is_supported(value: &Value) -> bool
 /// # Errors
 ///
 /// `OutOfMemory` if an allocation fails.
-pub fn body_string(alloc: Global, name: &str, body: &[u8]) -> Result<Option<Text>, OutOfMemory>
-    ensures { IfOk result (λ text. text ≡ body_string name.now body.now) }
+pub fn body_string_member(
+    alloc: Global,
+    name: &str,
+    body: &[u8],
+) -> Result<Option<Text>, OutOfMemory>
+    ensures { IfOk result (λ text. text ≡ body_string_member name.now body.now) }
 {
     match body_json(alloc, body)? {
         Some(value) => Ok(string_member(name, value)),

@@ -4,7 +4,7 @@ ghost use Rattle.std.specs.Prelude.{◌≡◌, IfOk};
 ghost use Rattle.reg_routes.specs.Commands.{command_in};
 ghost use Rattle.reg_routes.specs.declared.resource.Operation.TheVariants as op;
 
-use crate::body::{SentSchema, body_schema, body_string};
+use crate::body::{SentSchema, body_schema, body_string_member};
 use crate::resource::Operation;
 use crate::target::Target;
 use reg_core::{Command, OutOfMemory};
@@ -21,7 +21,7 @@ impl<'a> RequestParts<'a> {
     fn set_global(&self, alloc: Global) -> Result<Option<Command>, OutOfMemory>
         ensures { IfOk result (λ command. command ≡ command_in op.SetGlobal self.now) }
     {
-        let Some(level) = body_string(alloc, "compatibility", self.body)? else {
+        let Some(level) = body_string_member(alloc, "compatibility", self.body)? else {
             return Ok(None);
         };
         Ok(Some(Command::SetGlobal { level }))
@@ -33,7 +33,7 @@ impl<'a> RequestParts<'a> {
         let Some(subject) = self.target.path_subject(alloc, 2)? else {
             return Ok(None);
         };
-        let Some(level) = body_string(alloc, "compatibility", self.body)? else {
+        let Some(level) = body_string_member(alloc, "compatibility", self.body)? else {
             return Ok(None);
         };
         Ok(Some(Command::SetLevel { subject, level }))
@@ -222,7 +222,7 @@ impl<'a> RequestParts<'a> {
     fn set_global_mode(&self, alloc: Global) -> Result<Option<Command>, OutOfMemory>
         ensures { IfOk result (λ command. command ≡ command_in op.SetGlobalMode self.now) }
     {
-        let Some(mode) = body_string(alloc, "mode", self.body)? else {
+        let Some(mode) = body_string_member(alloc, "mode", self.body)? else {
             return Ok(None);
         };
         Ok(Some(Command::SetGlobalMode { mode }))
@@ -234,7 +234,7 @@ impl<'a> RequestParts<'a> {
         let Some(subject) = self.target.path_subject(alloc, 2)? else {
             return Ok(None);
         };
-        let Some(mode) = body_string(alloc, "mode", self.body)? else {
+        let Some(mode) = body_string_member(alloc, "mode", self.body)? else {
             return Ok(None);
         };
         Ok(Some(Command::SetMode { subject, mode }))

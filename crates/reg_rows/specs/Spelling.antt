@@ -32,13 +32,13 @@ abbrev pub IsTextRow : ℕ × Text → Type 0
 IsTextRow row = IsIdentity (string_bytes row.1)
 
 -- the numbers are `first`, `first + 1`, .. in this order
-abbrev pub AreNumbered : ℕ → List ℕ → Type 0
-AreNumbered first [] = ⊤
-AreNumbered first (number ∷ numbers) = (number ≡ first) × AreNumbered (first + 1) numbers
+abbrev pub AreConsecutive : ℕ → List ℕ → Type 0
+AreConsecutive first [] = ⊤
+AreConsecutive first (number ∷ numbers) = (number ≡ first) × AreConsecutive (first + 1) numbers
 
 -- each row has the identity text of a schema, and the ids are 1, 2, .. in this order, up to the maximum
 pub record AreTexts (rows : List (ℕ × Text)) : Type 0 where
-  pub numbered : AreNumbered 1 (map (λ row. row.0) rows)
+  pub numbered : AreConsecutive 1 (map (λ row. row.0) rows)
   pub few : length rows ≤ max_number
   pub identities : AllByRecursion IsTextRow rows
 

@@ -3,7 +3,7 @@
 ghost use Rattle.std.specs.Prelude.{IfOk, IsTrue, ◌≡◌, ◌≤◌, ◌↔◌, length, map};
 ghost use Rattle.std.specs.List.{AllByRecursion};
 ghost use Rattle.reg_core.specs.Registry.{max_number};
-ghost use Rattle.reg_rows.specs.Spelling.{AreNumbered, AreTexts, IsIdentity, IsTextRow};
+ghost use Rattle.reg_rows.specs.Spelling.{AreConsecutive, AreTexts, IsIdentity, IsTextRow};
 
 use avro_schema::{Schema, SchemaError};
 use reg_core::{MAX_NUMBER, OutOfMemory};
@@ -40,14 +40,14 @@ fn are_identities(alloc: Global, rows: &[(u32, String)]) -> Result<bool, OutOfMe
 
 /// Whether the ids are 1, 2, .. in this order, and at most 2,147,483,647.
 pub fn are_ids(ids: &[u32]) -> bool
-    ensures { IsTrue result ↔ (AreNumbered 1 ids.now × (length ids.now ≤ max_number)) }
+    ensures { IsTrue result ↔ (AreConsecutive 1 ids.now × (length ids.now ≤ max_number)) }
 {
-    ids.len() <= MAX_NUMBER as usize && are_numbered(ids)
+    ids.len() <= MAX_NUMBER as usize && are_consecutive(ids)
 }
 
 /// Whether the numbers are 1, 2, .. in this order.
-fn are_numbered(numbers: &[u32]) -> bool
-    ensures { IsTrue result ↔ AreNumbered 1 numbers.now }
+fn are_consecutive(numbers: &[u32]) -> bool
+    ensures { IsTrue result ↔ AreConsecutive 1 numbers.now }
 {
     let mut next: u64 = 1;
     for number in numbers {

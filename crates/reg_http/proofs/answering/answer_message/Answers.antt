@@ -4,7 +4,7 @@ use denote.Ref.{Bor}
 use Rattle.std.specs.Io.KnownBytes.{Appends}
 use Rattle.reg_core.specs.declared.delivery.Delivery.{Delivery}
 use Rattle.reg_service.specs.Crashes.{ServesDurably}
-use Rattle.reg_messages.specs.Responses.{answer_bytes}
+use Rattle.reg_messages.specs.Responses.{response_bytes}
 use Rattle.reg_messages.specs.Closing.{closes}
 use Rattle.reg_routes.specs.Deliveries.{Rejection, allow_field}
 use Rattle.reg_http.specs.Output.{response_to}
@@ -25,8 +25,8 @@ returns-clause-next g c clean was over =
     let closing : closes m ≡ c.closes-close.result = sym (c.closes-close.ensures ∙ closes_of_borrowed request m borrowed) in
     let P : Result Delivery Rejection → Type 0 = λ requested. IsReplyTo (ServesDurably c.args.service.now c.reply_to-reply.new.service was r.stored) requested reply in
     let replies = subst P what r.holds in
-    let bytes : answer_bytes reply (option_map (λ (text : Bor (List ℕ)). text.now) c.reply_to-reply.result.1) c.closes-close.result ≡ response_to m reply =
-    (λ i. answer_bytes reply (c.reply_to-reply.ensures.allow i) (sym closing i)) ∙ ap (λ requested. answer_bytes reply (allow_field requested reply) (closes m)) what in
+    let bytes : response_bytes reply (option_map (λ (text : Bor (List ℕ)). text.now) c.reply_to-reply.result.1) c.closes-close.result ≡ response_to m reply =
+    (λ i. response_bytes reply (c.reply_to-reply.ensures.allow i) (sym closing i)) ∙ ap (λ requested. response_bytes reply (allow_field requested reply) (closes m)) what in
     let front = c.send-sent.ensures.front in
     let Q : List ℕ → Type 0 = λ out. Appends (g.W.Write.contents c.args.writer.now) (g.W.Write.contents c.send-sent.new.writer) out in
     let next = Next-message _ _ _ c.args.bytes.now (c.args.whole.head.len + c.args.whole.body) m reply c.send-sent.result c.closes-close.result

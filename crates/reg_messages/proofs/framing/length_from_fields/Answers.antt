@@ -3,13 +3,13 @@ use Rattle.std.specs.Prelude.{Err}
 use Rattle.httparse.specs.Spans.{header_bytes}
 use Rattle.reg_core.specs.declared.code.Code.TheVariants.{MalformedRequest, CodingNotSupported}
 use Rattle.reg_messages.specs.Fields.{values_named, HeaderField}
-use Rattle.reg_messages.specs.Framing.{framing, length_of, length_unless_coded}
+use Rattle.reg_messages.specs.Framing.{framing, length_of, length_unless_transfer_coded}
 use Rattle.reg_messages.proofs.framing.length_from_fields.Goals as goal
 
 framed : (fields : List HeaderField) (codings lengths : List (List ℕ)) → values_named (codes "Transfer-Encoding") fields ≡ codings
-    → values_named (codes "Content-Length") fields ≡ lengths → length_unless_coded codings lengths ≡ framing fields
+    → values_named (codes "Content-Length") fields ≡ lengths → length_unless_transfer_coded codings lengths ≡ framing fields
 unfolding framing
-framed fields codings lengths e f = λ i. length_unless_coded (sym e i) (sym f i)
+framed fields codings lengths e f = λ i. length_unless_transfer_coded (sym e i) (sym f i)
 
 coded : (fields : List HeaderField) (codings : List (List ℕ)) → values_named (codes "Transfer-Encoding") fields ≡ codings → 0 < length codings
     → Err CodingNotSupported ≡ framing fields
