@@ -1,27 +1,16 @@
 -- A SELECT without parameters over any database: the rows that it returns, and why it fails.
 use Rattle.std.proofs.Common.{◌≡◌, ◌⊎◌, inl, inr, ℕ, ◌+◌, List, [], map, Bool, true, false, Option, None, Some, Ok, Err, Result, codes, refl, sym, ap, subst, ◌∙◌}
-use Rattle.std.specs.Prelude.{IsSome, if◌then◌else◌}
+use Rattle.reg_tables.proofs.Kit.{IsSome, if◌then◌else◌, Statement, Parsed, Returning, InsertOr, CreateIndex, DropTable, DropIndex, Begin, Commit, Rollback, Savepoint, Release, RollbackTo, Nothing, CreateView, DropView, Rows, Compiled, NoSuchTable, Checked, and_then, first, small, with_command, Row, timed, Database, RefusesToRead, reads_listing, listing_schema, if_select, is_select, State, ShowsRows, FailsToShow, IsNoStatement, IsTooLate, Error, SqliteFailure}
 use Rattle.sqlite_ast.specs.declared.Select as written_select
-use Rattle.sqlite_ast.specs.declared.Statement.{Statement}
 use Rattle.sqlite_ast.specs.declared.Statement.TheVariants as written
-use Rattle.sqlite_syntax.specs.declared.statement.Parsed.{Parsed}
 use Rattle.sqlite_schema.specs.declared.schema.Schema.{Schema}
-use Rattle.sqlite_schema.specs.declared.command.Returning.{Returning}
 use Rattle.sqlite_schema.specs.declared.command.Command.{Command}
-use Rattle.sqlite_schema.specs.declared.command.Command.TheVariants.{Select, Insert, InsertOr, Update, Delete, CreateTable, CreateIndex, DropTable, DropIndex, Begin, Commit, Rollback, Savepoint, Release, RollbackTo, Nothing, CreateView, DropView, Rows}
-use Rattle.sqlite_resolve.specs.declared.compiled.Compiled.{Compiled}
-use Rattle.sqlite_resolve.specs.declared.error.CompileError.TheVariants.{NoSuchTable}
-use Rattle.sqlite_resolve.specs.Lowering.{Checked, and_then}
+use Rattle.sqlite_schema.specs.declared.command.Command.TheVariants.{Select, Insert, Update, Delete, CreateTable}
 use Rattle.sqlite_resolve.specs.Compile as compile
-use Rattle.sqlite_resolve.specs.Compile.{compiled, planned, meaning, returning, command, first, small, with_command}
+use Rattle.sqlite_resolve.specs.Compile.{compiled, planned, meaning, returning, command}
 use Rattle.sqlite_tied.specs.Compute.{everything}
-use Rattle.sqlite.specs.Order.{Row}
-use Rattle.sqlite.specs.Clock.{timed}
-use Rattle.sqlite.specs.Effect.{Database, RefusesToRead}
-use Rattle.sqlite.specs.Listing.{understood, reads_listing, listing_schema, if_select, is_select}
-use Rattle.sqlite.specs.State.{State, Shown, ShowsRows, FailsToQuery, FailsToShow, IsNoStatement, IsNotRun, IsTooLate}
-use Rattle.sqlite.specs.declared.error.Error.{Error}
-use Rattle.sqlite.specs.declared.error.Error.TheVariants.{SqliteFailure}
+use Rattle.sqlite.specs.Listing.{understood}
+use Rattle.sqlite.specs.State.{Shown, FailsToQuery, IsNotRun}
 use Rattle.sqlite.specs.declared.error.ErrorCode.TheVariants as code
 use Rattle.reg_tables.specs.FailedCalls.{IsFault, IsRefused, IsUnreadable}
 use Rattle.reg_tables.specs.Inside.FailedLists.{FailsToList}

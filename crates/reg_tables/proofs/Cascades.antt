@@ -1,26 +1,7 @@
--- What is left of the tables where the actions of foreign keys delete rows to which no other row refers.
+-- The tables after foreign-key actions have deleted rows that no other row refers to.
 use Rattle.std.proofs.Common.{◌≡◌, ◌≢◌, inl, inr, ℕ, zero, suc, ℤ, ◌+◌, List, [], ◌∷◌, ◌++◌, length, map, Bool, true, false, Some, Ok, Err, Option, refl, sym, ap, subst, ◌∙◌, append-nil}
-use Rattle.std.specs.Prelude.{MatchBool, nat_lt}
-use Rattle.std.specs.List.{list_any}
-use Rattle.std.proofs.lemmas.Bool.{both_ways, false_from_ne_true, cases_eq}
-use Rattle.sqlite.specs.declared.types.Value.TheVariants.{Int}
-use Rattle.sqlite.specs.Order.{Row}
-use Rattle.sqlite.specs.Tree.{Trees, IsAscending, rowid, without_rowid, with_tree}
-use Rattle.sqlite.specs.Table.{Table}
-use Rattle.sqlite.specs.Schema.{Schema}
-use Rattle.sqlite.specs.Edit.{edit_of, left_by, taken_by, without_all, id_in, IsRefused}
-use Rattle.sqlite.specs.Rowids.TheVariants.{Given}
-use Rattle.sqlite_schema.specs.declared.schema.Keys.TheVariants.{Enforced}
-use Rattle.sqlite_schema.specs.declared.schema.Constraint.TheVariants.{Datatype, NotNull, Check, PrimaryKey, Unique, ForeignKey}
-use Rattle.sqlite_schema.specs.Rules.{references_fit, Keeps}
-use Rattle.sqlite_rules.specs.declared.error.Refusal.{Refusal}
-use Rattle.sqlite_rules.specs.declared.error.Refusal.TheVariants.{Violates, Mismatch, NoRowid, BadReference, TooDeep}
+use Rattle.reg_tables.proofs.Kit.{MatchBool, nat_lt, list_any, both_ways, false_from_ne_true, cases_eq, Int, Row, Trees, IsAscending, rowid, without_rowid, with_tree, Table, Schema, edit_of, left_by, taken_by, without_all, id_in, IsRefused, Given, Enforced, Datatype, NotNull, Check, PrimaryKey, Unique, ForeignKey, references_fit, Keeps, Refusal, Violates, Mismatch, NoRowid, BadReference, TooDeep, End, Work, works, is_child_of, AreChildren, action_edit, max_depth, Acts, ActsOn, Leads, ids_of, Has, all_has, has_left, has_right, has_either, int_is, without_all_has}
 use Rattle.sqlite_rules.specs.declared.action.Deed.TheVariants.{Delete}
-use Rattle.sqlite_rules.specs.Action.{End, Work, works, is_child_of, AreChildren, action_edit, max_depth, Acts, ActsOn, Leads}
-use Rattle.sqlite_rules.specs.Calls.{ids_of}
-use Rattle.sqlite_rules.specs.Lists.{Has}
-use Rattle.sqlite_rules.proofs.ListLemmas.{all_has, has_left, has_right, has_either}
-use Rattle.sqlite_rules.proofs.TableLemmas.{int_is, without_all_has}
 use Rattle.reg_tables.specs.TableMaps.{HaveRowids}
 use Rattle.reg_tables.proofs.ListMembers.{has_mapped, maps_had}
 use Rattle.reg_tables.proofs.RowLemmas.{FindsRowids, rowids_left, left_fails, fails_left}
@@ -28,7 +9,7 @@ use Rattle.reg_tables.proofs.UniqueLemmas.{with_tree_there, with_tree_elsewhere,
 
 -- ---- the rows of one table
 
--- the rows of which this holds are gone, and no others
+-- exactly the rows for which this is true are deleted
 pub record Loses (Gone : Row → Type 0) (old new : List Row) : Type 0 where
   pub rowids : HaveRowids new
   pub was : (r : Row) → Has new r → Has old r × (Gone r → ⊥)
@@ -48,7 +29,7 @@ loses_found p rest rows found shaped finds = record {
   is = refl;
 }
 
--- rows that are taken out in two steps
+-- rows that are deleted in two steps
 without_both : (ids more : List ℤ) (rows : List Row) → without_all rows (ids ++ more) ≡ without_all (without_all rows ids) more
 without_both [] more rows = refl
 without_both (id ∷ ids) more rows = without_both ids more (without_rowid id rows)
@@ -72,15 +53,15 @@ loses_ids p rows ids shaped sound complete =
 -- ---- the rows of all tables
 
 module _ (schema : Schema) where
-  -- each table's rows have rowids of their own
+  -- no two rows of a table have the same rowid
   abbrev pub Shaped : Trees → Type 0
   Shaped db = (t : Table) → Has schema.tables t → HaveRowids (db t.tree)
 
-  -- one of these actions takes the row out of its table
+  -- one of these actions deletes the row
   abbrev pub Takes : List Work → ℕ → Row → Type 0
   Takes stack tree r = (w : Work) × Has stack w × (w.child.tree ≡ tree) × (list_any (is_child_of w r) w.moves ≡ true)
 
-  -- a table has lost what the actions take out of it
+  -- the table has lost exactly the rows that the actions delete
   pub record Left (stack : List Work) (tree : ℕ) (old new : List Row) : Type 0 where
     pub loses : Loses (Takes stack tree) old new
     pub same : ((w : Work) → Has stack w → w.child.tree ≡ tree → ⊥) → new ≡ old
@@ -88,7 +69,7 @@ module _ (schema : Schema) where
   abbrev pub AllLose : List Work → Trees → Trees → Type 0
   AllLose stack old new = (t : Table) → Has schema.tables t → Left stack t.tree (old t.tree) (new t.tree)
 
-  -- it deletes rows to which no other refers
+  -- the action deletes rows that no other row refers to
   pub record IsLeaf (w : Work) : Type 0 where
     pub deletes : w.deed ≡ Delete
     pub shallow : nat_lt w.depth max_depth ≡ true
@@ -96,7 +77,7 @@ module _ (schema : Schema) where
     pub keys : (gone : Bool) → references_fit schema w.child false gone ≡ true
     pub quiet : (olds : List Row) → works schema Enforced (w.depth + 1) w.child.tree olds [] ≡ []
 
-  -- ---- rows may be taken out
+  -- ---- rows may be deleted
 
   module _ (apart : IsAscending (λ (a : Table) (b : Table). a.tree ≡ b.tree → ⊥) schema.tables) where
     pub delete_allowed : (db : Trees) (table : Table) → Has schema.tables table → ((gone : Bool) → references_fit schema table false gone ≡ true) → Keeps Unique schema db
@@ -177,7 +158,7 @@ module _ (schema : Schema) where
 
     -- ---- all of them
 
-    -- what the actions leave
+    -- the tables after the actions
     pub leads_to : (n : ℕ) (db next : Trees) (stack : List Work) → ((w : Work) → Has stack w → IsLeaf w) → Shaped db → Leads schema Enforced n db stack (Ok next) → AllLose stack db next
     leads_to zero db next stack leaves shaped h = λ t known.
         let same : next ≡ db = (let e = h.1 in cc) in
@@ -219,7 +200,7 @@ module _ (schema : Schema) where
           same = λ none. later.same (λ v there. none v (front v there)) ∙ first.same (λ v there. none v (last v there));
         }
 
-    -- ---- none of them fails
+    -- ---- no action fails
 
     abbrev Fails : ℕ → Trees → List Work → Option Refusal → Work → Type 0
     Fails n db below why w = IsLeaf w → Keeps Unique schema db → Acts schema Enforced (Leads schema Enforced n) db w below (Err why) → (mid : Trees) × Keeps Unique schema mid × Leads schema Enforced n mid below (Err why)

@@ -1,14 +1,8 @@
--- The nodes of the check of `versions` stand for its term, and no others do.
+-- The nodes that denote the CHECK of `versions`, and no others.
 use Rattle.std.proofs.Common.{◌≡◌, ◌≢◌, inl, inr, ℕ, zero, suc, ℤ, pos, ◌<◌, ◌≤◌, ◌↔◌, length, List, [], ◌∷◌, get_or, refl, sym, ap, ◌∙◌, arith}
-use Rattle.std.proofs.lemmas.Bool.{cases_lt}
+use Rattle.reg_tables.proofs.Kit.{cases_lt, Null, Int, Term, lit, col, op2, Compare, Or, Eq, op_term, term_to, term_in, terms_in, Op, Literal, Column, Unary, Case}
 use Rattle.sqlite.specs.Collation.TheVariants as collation
-use Rattle.sqlite.specs.declared.types.Value.TheVariants.{Null, Int}
-use Rattle.sqlite.specs.Term.{Term, lit, col, op2}
-use Rattle.sqlite_sql.specs.declared.ops.BinaryOp.TheVariants.{Compare, Or}
-use Rattle.sqlite_sql.specs.declared.ops.CompareOp.TheVariants.{Eq}
-use Rattle.sqlite_schema.specs.Code.{op_term, term_to, term_in, terms_in}
-use Rattle.sqlite_schema.specs.declared.code.Op.{Op}
-use Rattle.sqlite_schema.specs.declared.code.Op.TheVariants.{Literal, Column, Unary, Binary, Case}
+use Rattle.sqlite_schema.specs.declared.code.Op.TheVariants.{Binary}
 use Rattle.reg_tables.specs.Layout.{is_number, versions}
 use Rattle.reg_tables.specs.Inside.Checks.{node_at, IsTestAt, IsCheckAt}
 
@@ -28,7 +22,7 @@ within nodes at x is other = elim (cases_lt at (length nodes)) [ inl low ↦ low
 apart : (nodes : List Op) (a b : ℕ) (x y : Op) → node_at nodes a ≡ x → node_at nodes b ≡ y → x ≢ y → a ≢ b
 apart nodes a b x y p q other same = other (sym p ∙ ap (node_at nodes) same ∙ q)
 
--- three nodes are there, so the depth is enough
+-- with three nodes, the recursion depth suffices
 three : (nodes : List Op) (at : ℕ) → IsCheckAt nodes at → 3 ≤ length nodes
 three nodes at it =
     let t = it.zero_test in
@@ -107,7 +101,7 @@ one_only [] d low high = absurd (omega arith)
 one_only (x ∷ []) d low high = refl
 one_only (x ∷ y ∷ more) d low high = absurd (omega arith)
 
--- the nodes of the one root tell the terms
+-- the nodes of the only root determine the terms
 pub root_tells : (nodes : List Op) (roots : List ℕ) (d : ℕ) (P : Type 0) (terms : List Term) → terms ≡ terms_in nodes roots → 1 ≤ length roots → length roots < 2 → P ↔ IsCheckAt nodes (get_or roots 0 d) → P ↔ (terms ≡ versions.checks)
 root_tells nodes roots d P terms is low high tells =
     let whole : terms ≡ terms_in nodes (get_or roots 0 d ∷ []) = is ∙ ap (terms_in nodes) (one_only roots d low high) in

@@ -1,27 +1,11 @@
--- What the count of the rows of `against` shows.
+-- The result of counting the rows of `against`.
 use Rattle.std.proofs.Common.{◌≡◌, inl, inr, ℕ, pos, suc, List, [], ◌∷◌, map, filter, flat_map, length, Option, None, Some, false, lit≤, codes, refl, sym, ap, subst, ◌∙◌, arith}
-use Rattle.std.specs.List.{AllZip, list_all}
-use Rattle.std.specs.Prelude.{All, Any, min, slice_get, option_map, unwrap_or}
-use Rattle.std.specs.List.Sorted.{IsPermutation}
-use Rattle.std.proofs.lemmas.List.{length-map}
-use Rattle.std.proofs.lemmas.List.Sorted.{length_permutation}
-use Rattle.sqlite.specs.declared.types.Value.{Value}
-use Rattle.sqlite.specs.declared.types.Value.TheVariants.{Null, Int}
-use Rattle.sqlite.specs.Collation.TheVariants.{Binary}
-use Rattle.sqlite.specs.Order.{Row, column}
-use Rattle.sqlite.specs.Term.{lit, col, Env, eval, holds}
-use Rattle.sqlite.specs.Query.{Query, Output, IsAnswer, inner, end, output}
-use Rattle.sqlite.specs.Tree.{Trees}
-use Rattle.sqlite.specs.Program.{overlay}
-use Rattle.sqlite.specs.State.{State, Shown}
+use Rattle.reg_tables.proofs.Kit.{AllZip, list_all, Any, min, slice_get, option_map, unwrap_or, IsPermutation, length-map, length_permutation, Value, Null, Int, Binary, Row, lit, col, Env, eval, holds, Query, Output, IsAnswer, inner, Trees, overlay, State, Shown, Has, any_has, Schema, Aggregate, Grouping, IsSummary, value_over, ProgramOverflows, CountRows}
+use Rattle.std.specs.Prelude.{All}
+use Rattle.sqlite.specs.Order.{column}
+use Rattle.sqlite.specs.Query.{end, output}
 use Rattle.sqlite.specs.Listing.{understood}
 use Rattle.sqlite_tied.specs.Compute.{everything}
-use Rattle.sqlite_rules.specs.Lists.{Has}
-use Rattle.sqlite_rules.proofs.ListLemmas.{any_has}
-use Rattle.sqlite.specs.Schema.{Schema}
-use Rattle.sqlite_sql.specs.Group.{Aggregate, Grouping, IsSummary, value_over}
-use Rattle.sqlite_sql.specs.Program.{ProgramOverflows}
-use Rattle.sqlite_sql.specs.declared.aggregate.AggregateOp.TheVariants.{CountRows}
 use Rattle.reg_tables.specs.Layout.{HasEightTables}
 use Rattle.reg_tables.specs.Contents.{Against}
 use Rattle.reg_tables.specs.Listings.{against_rows, greatest_integer, HasAgainstRows}
@@ -78,7 +62,7 @@ count_never tree db params (inl over) =
     none_is a group (inr later) none = absurd later
 count_never tree db params (inr fold) = (any_has _ _ fold).2
 
--- ---- what it shows
+-- ---- the result
 
 alone : {X : Type 0} (x : X) (ys : List X) → IsPermutation (x ∷ []) ys → ys ≡ x ∷ []
 alone {X} x ys same = go ys same (length_permutation (x ∷ []) ys same)
@@ -95,7 +79,7 @@ each_once (r ∷ rows) params = ap suc (each_once rows params)
 abbrev many : List Row → Value
 many rows = Int (pos (min (length rows) greatest_integer))
 
--- one row, with as many as there are
+-- one row, which has the number of rows
 module _ (tree : ℕ) (db : Trees) (found : List Row) (a : IsAnswer (count_query tree) db [] found) where
   abbrev order : List Env
   order = a.grouped.grouping.0
@@ -139,7 +123,7 @@ module _ (old new : State) (known : HasEightTables old.now.schema) (found : List
   pub counted : option_map (λ (row : Row). column row 0) (slice_get found 0) ≡ Some (many (against_rows old.now))
   counted = ap (λ (l : List Row). option_map (λ (row : Row). column row 0) (slice_get l 0)) count_found
 
--- the number that is read
+-- the number that the caller reads
 pub count_told : (old new : State) (found : List Row) → Shown count_sql [] old new found → (o : Option ℕ) → option_map (λ (row : Row). column row 0) (slice_get found 0) ≡ option_map (λ n. Int (pos n)) o → HasEightTables old.now.schema
     → HasAgainstRows old.now (unwrap_or o 0)
 count_told old new found h None read known = absurd (let e = sym read ∙ counted old new known found h in cc)

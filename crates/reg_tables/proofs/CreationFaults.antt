@@ -1,29 +1,12 @@
--- Why a table or an index is not made.
+-- Why CREATE TABLE and CREATE INDEX fail.
 use Rattle.std.proofs.Common.{◌≡◌, inl, inr, ℕ, ◌+◌, ◌*◌, ◌<◌, ◌^◌, List, [], length, lit<, lit≤, codes, true, false, Some, None, Ok, Err, Option, refl, sym, ap, subst, ◌∙◌, arith}
-use Rattle.std.specs.Prelude.{IsUtf8}
-use Rattle.std.specs.List.{AllByRecursion}
-use Rattle.std.proofs.lemmas.Bool.{both_ways, MatchBool-at_false}
-use Rattle.sqlite.specs.declared.types.Value.TheVariants.{Text}
+use Rattle.reg_tables.proofs.Kit.{IsUtf8, AllByRecursion, both_ways, MatchBool-at_false, Text, Table, Schema, is_used, is_reserved, automatics, next_tree, created, table_defined_by, CreateTable, Does, MakesSequence, lacks_sequence, Then, State, mode_of, ExecutesInside, Error, Index, table_reals, index_reals, is_formed, is_fit, RefusesTable, Invalid, NameTaken, BadName, TooBig, BadKey, BadText, Has, all_has}
 use Rattle.sqlite.specs.Order.{value_cmp}
-use Rattle.sqlite.specs.Table.{Table}
-use Rattle.sqlite.specs.Schema.{Schema}
-use Rattle.sqlite.specs.Change.{is_used, is_reserved, automatics, next_tree, created}
-use Rattle.sqlite.specs.Compile.{table_defined_by}
-use Rattle.sqlite.specs.Command.TheVariants.{CreateTable}
-use Rattle.sqlite.specs.Does.{Does, MakesTable as Makes, MakesSequence, lacks_sequence}
-use Rattle.sqlite.specs.Rows.{Then}
-use Rattle.sqlite.specs.State.{State, mode_of, ExecutesInside}
+use Rattle.sqlite.specs.Does.{MakesTable as Makes}
 use Rattle.sqlite.specs.Listing.{understood}
-use Rattle.sqlite.specs.declared.error.Error.{Error}
 use Rattle.sqlite_schema.specs.Names.{same_name}
-use Rattle.sqlite_schema.specs.declared.schema.Index.{Index}
-use Rattle.sqlite_schema.specs.Rules.{table_reals, index_reals}
-use Rattle.sqlite_catalog.specs.Listing.{is_formed, is_fit}
-use Rattle.sqlite_catalog.specs.Calls.{RefusesTable}
 use Rattle.sqlite_catalog.specs.declared.error.Refusal.{Refusal}
-use Rattle.sqlite_catalog.specs.declared.error.Refusal.TheVariants.{Invalid, NameTaken, BadName, TooBig, BadKey, BadText, Violates}
-use Rattle.sqlite_rules.specs.Lists.{Has}
-use Rattle.sqlite_rules.proofs.ListLemmas.{all_has}
+use Rattle.sqlite_catalog.specs.declared.error.Refusal.TheVariants.{Violates}
 use Rattle.sqlite_trees.specs.Sound.{same_name as same_word, begins, is_free_name, fits_kind}
 use Rattle.sqlite_tied.specs.Compute.{everything}
 use Rattle.reg_tables.specs.Layout.{no_schema, partial_layout_one, texts, versions, levels, kept, meta, modes, evidence, against, partial_layout_two}
@@ -32,7 +15,7 @@ use Rattle.reg_tables.specs.Inside.Statements.{IsOneStatement}
 use Rattle.reg_tables.proofs.Statements.{MakesTable, make_texts, make_versions, make_levels, make_kept, make_meta, make_modes, make_evidence, make_against}
 use Rattle.reg_tables.proofs.WriteFaults.{refused_by}
 
--- what SQLite asks of a table's name, keys and text
+-- SQLite's conditions on a table's name, keys and SQL text
 pub record CanBeMade (sql : List ℕ) (schema : Schema) (table : Table) : Type 0 where
   pub whole : IsOneStatement sql 0 (understood schema sql)
   pub text : IsUtf8 sql
@@ -132,7 +115,7 @@ meta_can_be = record {
   short = lit< tt;
 }
 
--- a table that can be made is not refused
+-- SQLite doesn't reject a table that meets these conditions
 module _ (sql : List ℕ) (before : Schema) (table : Table) (after : Schema) (m : MakesTable sql before table after) (can : CanBeMade sql before table) where
   its : (t : Table) → table_defined_by sql ≡ Ok t → t ≡ table
   its t is = let both : ◌≡◌ {A = _} (Ok t) (Ok table) = sym is ∙ m.defined in cc
@@ -162,7 +145,7 @@ module _ (sql : List ℕ) (before : Schema) (table : Table) (after : Schema) (m 
   unrefused (Violates rule) h = h
 
   module _ (old new : State) (declared : old.now.schema ≡ before) (e : Error) where
-    -- it fails for the store alone
+    -- it fails only because of the store
     pub make_fails : ExecutesInside 0 sql [] old new (Err e) → IsFault old new e
     make_fails h = elim (refused_by sql [] old new before declared CreateTable m.command can.whole (record { silent = refl; stays = refl }) e h) [
       | inl fault ↦ fault

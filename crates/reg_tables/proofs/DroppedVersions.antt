@@ -1,34 +1,8 @@
--- What the DELETE of a version makes of the tables of layout 2, and why it fails.
+-- How the DELETE of a version changes the tables of layout 2, and why it fails.
 use Rattle.std.proofs.Common.{◌≡◌, ◌≢◌, ◌≤◌, ◌+◌, slice_get, inl, inr, arith, ℕ, pos, List, [], ◌∷◌, Bool, true, false, not, cond, Some, None, Ok, Err, lit≤, refl, sym, ap, subst, ◌∙◌, Ordering}
-use Rattle.std.specs.Ordering.{is_eq}
-use Rattle.std.specs.FinMap.{FinMap, get, remove, get-remove, get-retain_keys}
-use Rattle.std.proofs.lemmas.Bool.{both_ways, cases_Bool}
-use Rattle.sqlite.specs.declared.types.Value.TheVariants.{Null, Int, Text}
-use Rattle.sqlite.specs.Order.{Row}
-use Rattle.sqlite.specs.Tree.{Trees}
-use Rattle.sqlite.specs.Table.{Table}
-use Rattle.sqlite.specs.Schema.{Schema}
-use Rattle.sqlite.specs.Term.{col}
-use Rattle.sqlite.specs.Edit.{Edit, edit_of, taken_by, IsRefused}
-use Rattle.sqlite.specs.Rowids.TheVariants.{Given}
-use Rattle.sqlite.specs.Command.TheVariants.{Delete}
-use Rattle.sqlite.specs.Effect.{Database, IsDatabase, Answers}
-use Rattle.sqlite.specs.State.{State, Executes, ExecutesInside}
+use Rattle.reg_tables.proofs.Kit.{is_eq, FinMap, get, remove, get-remove, get-retain_keys, both_ways, cases_Bool, Null, Int, Text, Row, Trees, Table, Schema, col, Edit, edit_of, taken_by, IsRefused, Given, Delete, Database, IsDatabase, Answers, State, Executes, ExecutesInside, Error, statement_of, runs_as, Enforced, All, Unique, ForeignKey, Index, Program, Obeys, Refers, Refusal, works, ids_of, Has, has_got}
 use Rattle.sqlite.specs.Listing.{understood}
-use Rattle.sqlite.specs.declared.error.Error.{Error}
-use Rattle.sqlite.proofs.Callers.{statement_of, runs_as}
-use Rattle.sqlite_schema.specs.declared.schema.Keys.TheVariants.{Enforced}
-use Rattle.sqlite_schema.specs.declared.schema.Among.TheVariants.{All}
-use Rattle.sqlite_schema.specs.declared.schema.Constraint.TheVariants.{Unique, ForeignKey}
-use Rattle.sqlite_schema.specs.declared.schema.Index.{Index}
-use Rattle.sqlite_schema.specs.declared.program.Program.{Program}
-use Rattle.sqlite_schema.specs.Rules.{Obeys, Refers}
-use Rattle.sqlite_rules.specs.declared.error.Refusal.{Refusal}
-use Rattle.sqlite_rules.specs.Action.{works}
 use Rattle.sqlite_rules.specs.Action as action
-use Rattle.sqlite_rules.specs.Calls.{ids_of}
-use Rattle.sqlite_rules.specs.Lists.{Has}
-use Rattle.sqlite_rules.proofs.ListLemmas.{has_got}
 use Rattle.sqlite_tied.specs.Compute.{everything}
 use Rattle.reg_tables.specs.Layout.{five_tables_then, texts, versions, levels, kept, meta, modes, added_tables}
 use Rattle.reg_tables.specs.TableMaps.{Form, ShowsMap, HaveRowids}
@@ -59,7 +33,7 @@ twice_not : (b : Bool) → b ≡ not (not b)
 twice_not true = refl
 twice_not false = refl
 
--- the map without the keys of the rows that are gone
+-- the map without the keys of the deleted rows
 module _ {K V : Type 0} (form : Form K V) (R : K → K → Ordering) (m later : FinMap R V) (named : Row → Bool) (old new : List Row) (shows : ShowsMap form old (get m)) (loses : Loses (λ r. named r ≡ true) old new)
     (stays : K → Bool) (test : (row : Row) (q : K) → form.key_of row ≡ form.key_cells q → named row ≡ not (stays q)) (kept : (q : K) → get later q ≡ cond (stays q) (get m q) None) where
   kept_if : (q : K) → stays q ≡ true → get later q ≡ get m q
@@ -110,8 +84,8 @@ module _ (first : ℕ) (high : 10 ≤ first) (indexes : List Index) (s : IsWellD
     versions_had : HasVersions (old.trees 2) (old.trees (first + 2))
     versions_had row there = let entry = (h.shows TableName.Evidence).sound row there in (entry.0, entry.3.0, had.evidence row there)
 
-    places_had : HasVersions (old.trees 2) (old.trees (first + 4))
-    places_had row there = let entry = (h.shows TableName.Against).sound row there in (entry.0.0, place_version row entry.0 entry.3.0, had.places row there)
+    positions_had : HasVersions (old.trees 2) (old.trees (first + 4))
+    positions_had row there = let entry = (h.shows TableName.Against).sound row there in (entry.0.0, place_version row entry.0 entry.3.0, had.places row there)
 
     shaped : (t : Table) → Has layout.tables t → HaveRowids (old.trees t.tree)
     shaped t (inl same) = subst (λ (t : Table). HaveRowids (old.trees t.tree)) (sym same) (h.shows TableName.Texts).rowids
@@ -124,18 +98,18 @@ module _ (first : ℕ) (high : 10 ≤ first) (indexes : List Index) (s : IsWellD
     shaped t (inr (inr (inr (inr (inr (inr (inr (inl same)))))))) = subst (λ (t : Table). HaveRowids (old.trees t.tree)) (sym same) (h.shows TableName.Against).rowids
     shaped t (inr (inr (inr (inr (inr (inr (inr (inr none)))))))) = absurd none
 
-    -- what a DELETE that is carried out leaves
+    -- the tables after a successful DELETE
     dropped : (found : List Row) (next : Trees) → Answers (record { schema = layout; trees = old.trees }) dropping (Text key.0 ∷ Int (pos key.1) ∷ []) found
         → action.Writes layout Enforced old.trees (edit_of old.trees versions (ids_of found) Given 0 []) (Ok next) → IsDropped first indexes named old.trees next
     dropped found next asked writes =
         let finds = finds_one version_form version_cmp version_order old.trees 2 contents.versions (h.shows TableName.Versions) key by_version (Text key.0 ∷ Int (pos key.1) ∷ []) (λ row q is. by_version_test row key q is) [] found (asked.answer Null) in
-        drops first high indexes s.apart old.trees next contents.versions (h.shows TableName.Versions) key found finds.finds shaped versions_had places_had writes
+        drops first high indexes s.apart old.trees next contents.versions (h.shows TableName.Versions) key found finds.finds shaped versions_had positions_had writes
 
     version_test : (row : Row) (q : List ℕ × ℕ) → HasVersionKey row q → named row ≡ not (not (is_eq (version_cmp q key)))
     version_test row q is = by_version_test row key q is ∙ twice_not _
 
     module _ (new : Database) (d : IsDropped first indexes named old.trees new.trees) where
-      -- the other tables stay
+      -- no other table changes
       same : (at : ℕ) (t : Table) → slice_get layout.tables at ≡ Some t → t.tree ≢ 2 → t.tree ≢ first + 2 → t.tree ≢ first + 4 → new.trees t.tree ≡ old.trees t.tree
       same at t there = d.others t (has_got layout.tables at t there)
 
@@ -156,14 +130,14 @@ module _ (first : ℕ) (high : 10 ≤ first) (indexes : List Index) (s : IsWellD
       holds_dropped : new.schema ≡ layout → IsDatabase new → HoldsContents layout new (without_version key contents)
       holds_dropped declared sound = record { declared = declared; sound = sound; shows = shows_dropped }
 
-    -- rows that are left have what they refer to: the rows that named what is gone are gone too
+    -- the remaining rows keep their parents: rows that referred to a deleted row are deleted too
     refers_dropped : (new : Trees) → IsDropped first indexes named old.trees new → Refers All layout new
     refers_dropped new d =
         let same : new 0 ≡ old.trees 0 = d.others texts (has_got layout.tables 0 texts refl) (λ e. omega (arith, e)) (λ e. omega (arith, e, high)) (λ e. omega (arith, e, high)) in
         refers_if first indexes new (record {
           versions = λ r there. subst (λ l. has_text_at 3 l r ≡ true) (sym same) (had.versions r (d.versions.was r there).0);
           evidence = λ r there. let was = d.evidence.was r there in still (old.trees (first + 2)) versions_had r was.0 was.1 (had.evidence r was.0);
-          places = λ r there. let was = d.against.was r there in still (old.trees (first + 4)) places_had r was.0 was.1 (had.places r was.0);
+          places = λ r there. let was = d.against.was r there in still (old.trees (first + 4)) positions_had r was.0 was.1 (had.places r was.0);
           seen = λ r there. subst (λ l. has_text_at 4 l r ≡ true) (sym same) (had.seen r (d.against.was r there).0);
         })
       where
@@ -187,7 +161,7 @@ module _ (first : ℕ) (high : 10 ≤ first) (indexes : List Index) (s : IsWellD
     abbrev cut_by : List Row → Edit
     cut_by found = edit_of old.now.trees versions (ids_of found) Given 0 []
 
-    -- the rows of evidence go without fail
+    -- deleting the rows of `evidence` doesn't fail
     ends : (found : List Row) → NeverStops layout old.now.trees (cut_by found)
     ends found next why applies settles =
         never_stops layout s.apart settles.0 next (works layout Enforced 0 2 (taken_by old.now.trees (cut_by found)) []) why (leaves first high indexes (taken_by old.now.trees (cut_by found))) (applies.fits.rules Unique (λ e. absurd (cc))) settles.1

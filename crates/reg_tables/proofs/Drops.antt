@@ -1,32 +1,12 @@
--- What the DELETE of a version takes out of each table.
+-- The rows that the DELETE of a version deletes from each table.
 use Rattle.std.proofs.Common.{◌≡◌, ◌≢◌, ◌≤◌, ◌+◌, ◌⊎◌, inl, inr, arith, ℕ, ℤ, pos, List, [], ◌∷◌, ◌++◌, Bool, true, false, Equal, cond, Some, None, Ok, Option, refl, sym, ap, subst, ◌∙◌}
-use Rattle.std.specs.List.{list_any, cons_option}
-use Rattle.std.specs.Prelude.{find, unwrap_or}
-use Rattle.std.specs.Ordering.{is_eq}
-use Rattle.std.specs.FinMap.{FinMap, get}
-use Rattle.std.proofs.lemmas.Bool.{cases_eq, both_ways, and_parts, and_from, or_cases}
-use Rattle.std.proofs.lemmas.Cmp.{tied_itself}
-use Rattle.sqlite.specs.declared.types.Value.TheVariants.{Int, Text}
-use Rattle.sqlite.specs.Order.{Row, column, value_cmp}
-use Rattle.sqlite.specs.Tree.{Trees, rowid, has_rowid}
-use Rattle.sqlite.specs.Table.{Table}
-use Rattle.sqlite.specs.Edit.{Edit, edit_of, id_in, taken_by, row_at, without_all}
-use Rattle.sqlite.specs.Rowids.TheVariants.{Given}
-use Rattle.sqlite_schema.specs.declared.schema.Keys.TheVariants.{Enforced}
+use Rattle.reg_tables.proofs.Kit.{list_any, cons_option, unwrap_or, is_eq, FinMap, get, cases_eq, both_ways, and_parts, and_from, or_cases, tied_itself, Int, Text, Row, value_cmp, Trees, rowid, has_rowid, Table, Edit, edit_of, id_in, taken_by, row_at, without_all, Given, Enforced, agree, has_null, references_fit, plain, value_cmp_total, Work, works, pairs, loses, is_child_of, ids_of, Has, no_heir, all_has, has_got, has_found, some_has, some_from, int_is, Schema, Index}
+use Rattle.std.specs.Prelude.{find}
+use Rattle.sqlite.specs.Order.{column}
 use Rattle.sqlite_schema.specs.Names.{same_name}
-use Rattle.sqlite_schema.specs.Rules.{agree, has_null, references_fit}
-use Rattle.sqlite_value.specs.Keys.{plain, joined}
-use Rattle.sqlite_value.proofs.OrderLemmas.{value_cmp_total}
+use Rattle.sqlite_value.specs.Keys.{joined}
 use Rattle.sqlite_rules.specs.declared.action.Deed.TheVariants.{Delete}
-use Rattle.sqlite_rules.specs.Action.{Work, works, pairs, loses, is_child_of}
 use Rattle.sqlite_rules.specs.Action as action
-use Rattle.sqlite_rules.specs.Calls.{ids_of}
-use Rattle.sqlite_rules.specs.Lists.{Has}
-use Rattle.sqlite_rules.proofs.ActionLemmas.{no_heir}
-use Rattle.sqlite_rules.proofs.ListLemmas.{all_has, has_got, has_found, some_has, some_from}
-use Rattle.sqlite_rules.proofs.TableLemmas.{int_is}
-use Rattle.sqlite.specs.Schema.{Schema}
-use Rattle.sqlite_schema.specs.declared.schema.Index.{Index}
 use Rattle.reg_tables.specs.Layout.{five_tables_then, versions, evidence, against, added_tables, to_versions}
 use Rattle.reg_tables.specs.Inside.KeyedLaws.{HaveOwnTrees}
 use Rattle.reg_tables.specs.TableMaps.{HaveRowids, ShowsMap}
@@ -44,11 +24,11 @@ use Rattle.reg_tables.proofs.Cascades.{Loses, loses_found, IsLeaf, Takes, AllLos
 
 -- ---- the actions
 
--- rows of the table that named a version which is gone are deleted
+-- rows that refer to a deleted version are deleted
 abbrev pub deletion_of : Table → List Row → Work
 deletion_of child olds = record { depth = 0; child = child; ref = to_versions; places = 1 ∷ 2 ∷ []; order = record { digits = 0 }; deed = Delete; moves = pairs olds [] }
 
--- a row had a key
+-- some deleted row had this key
 abbrev pub have_keys : List Row → Bool
 have_keys olds = list_any (loses (record { digits = 0 }) (1 ∷ 2 ∷ [])) (pairs olds [])
 
@@ -153,7 +133,7 @@ has_pair (o ∷ olds) old (inr later) = inr (has_pair olds old later)
 
 -- ---- the tables after the DELETE
 
--- the tables are as they were, but that the rows of a version are gone
+-- the tables are unchanged except that a version's rows are deleted
 pub record IsDropped (first : ℕ) (indexes : List Index) (named : Row → Bool) (old new : Trees) : Type 0 where
   pub others : (t : Table) → Has (five_tables_then (added_tables first) indexes).tables t → t.tree ≢ 2 → t.tree ≢ first + 2 → t.tree ≢ first + 4 → new t.tree ≡ old t.tree
   pub versions : Loses (λ r. named r ≡ true) (old 2) (new 2)
@@ -169,7 +149,7 @@ loses_same to from l = record {
   is = l.is;
 }
 
--- each row of the table has a version's key, and that version is there
+-- each row of the table has the key of a stored version
 abbrev pub HasVersions : List Row → List Row → Type 0
 HasVersions parents rows = (row : Row) → Has rows row → (key : (List ℕ × ℕ)) × HasVersionKey row key × (has_version parents row ≡ true)
 
@@ -214,7 +194,7 @@ module _ (first : ℕ) (high : 10 ≤ first) (indexes : List Index) (apart : Hav
     loses_key : (r : Row) → HasVersionKey r key → loses (record { digits = 0 }) (1 ∷ 2 ∷ []) (r, []) ≡ true
     loses_key r is = and_from _ _ (versions_tied r r key key is is ∙ tied_key version_cmp version_order key key refl) (sym (no_heir (record { digits = 0 }) (1 ∷ 2 ∷ []) r))
 
-    -- the children of what is gone are the rows of the version
+    -- the children of the deleted row are the version's rows
     module _ (child : Table) (rows : List Row) (have : HasVersions (db 2) rows) where
       taken_named : (r : Row) → Has rows r → list_any (is_child_of (deletion_of child gone) r) (pairs gone []) ≡ true → named r ≡ true
       taken_named r there is =
@@ -225,7 +205,7 @@ module _ (first : ℕ) (high : 10 ≤ first) (indexes : List Index) (apart : Hav
           let its = have r there in
           by_version_test r key its.0 its.1 ∙ sym (versions_tied r pair.0 its.0 key its.1 (had_key pair.0 pair.1)) ∙ agrees
 
-      -- a row of the version had it for a parent
+      -- the deleted row was the parent of a row of the version
       parent_of : (r : Row) → Has rows r → named r ≡ true → (s : Row) × Has gone s × HasVersionKey r key
       parent_of r there is =
           let its = have r there in

@@ -1,38 +1,9 @@
--- How the statement that marks a version as deleted fails.
+-- Why the statement that marks a version as deleted fails.
 use Rattle.std.proofs.Common.{arith, ◌≡◌, ◌⊎◌, ◌≤◌, Equal, Some, inl, inr, ℕ, ℤ, pos, drop, length, map, List, [], ◌∷◌, lit≤, Bool, true, false, Err, refl, sym, ap, subst, ◌∙◌}
-use Rattle.std.specs.List.{list_all}
-use Rattle.std.specs.FinMap.{get}
-use Rattle.std.specs.Ordering.{is_eq}
-use Rattle.std.proofs.lemmas.Bool.{both_ways, cases_Bool, and_from, not_from_false, false_from_ne_true}
-use Rattle.std.proofs.lemmas.List.{length-map}
-use Rattle.sqlite.specs.declared.types.Value.{Value}
-use Rattle.sqlite.specs.declared.types.Value.TheVariants.{Null, Int, Text}
-use Rattle.sqlite.specs.Order.{Row, column, value_cmp}
-use Rattle.sqlite.specs.Tree.{Trees, rowid, with_tree}
-use Rattle.sqlite.specs.Cast.{cast_row}
-use Rattle.sqlite.specs.Edit.{Edit, edit_of, edited, id_in, is_taken, are_fresh, without_all, Applies, IsRefused}
-use Rattle.sqlite.specs.Rowids.TheVariants.{Given}
-use Rattle.sqlite.specs.Term.{col, eval_all}
-use Rattle.sqlite.specs.Command.TheVariants.{Update}
-use Rattle.sqlite.specs.Effect.{Answers, edit_error}
-use Rattle.sqlite.specs.State.{State, ExecutesInside}
+use Rattle.reg_tables.proofs.Kit.{list_all, get, is_eq, both_ways, cases_Bool, and_from, not_from_false, false_from_ne_true, length-map, Value, Null, Int, Text, Row, value_cmp, Trees, rowid, with_tree, cast_row, Edit, edit_of, id_in, is_taken, are_fresh, without_all, Applies, IsRefused, Given, col, eval_all, Update, Answers, edit_error, State, ExecutesInside, Error, statement_of, Enforced, All, Datatype, NotNull, Check, PrimaryKey, Unique, ForeignKey, Schema, plain, Index, Program, agree, differ, Keeps, Obeys, Refers, Refusal, Violates, Mismatch, NoRowid, BadReference, TooDeep, ids_of, Has, all_has, has_got, test_from, some_has, int_is, without_all_has, put_all_has, put_all_adds, put_all_keeps}
+use Rattle.sqlite.specs.Order.{column}
+use Rattle.sqlite.specs.Edit.{edited}
 use Rattle.sqlite.specs.Listing.{understood}
-use Rattle.sqlite.specs.declared.error.Error.{Error}
-use Rattle.sqlite.proofs.Callers.{statement_of}
-use Rattle.sqlite_schema.specs.declared.schema.Keys.TheVariants.{Enforced}
-use Rattle.sqlite_schema.specs.declared.schema.Among.TheVariants.{All}
-use Rattle.sqlite_schema.specs.declared.schema.Constraint.TheVariants.{Datatype, NotNull, Check, PrimaryKey, Unique, ForeignKey}
-use Rattle.sqlite.specs.Schema.{Schema}
-use Rattle.sqlite_value.specs.Keys.{plain}
-use Rattle.sqlite_schema.specs.declared.schema.Index.{Index}
-use Rattle.sqlite_schema.specs.declared.program.Program.{Program}
-use Rattle.sqlite_schema.specs.Rules.{agree, differ, Keeps, Obeys, Refers}
-use Rattle.sqlite_rules.specs.declared.error.Refusal.{Refusal}
-use Rattle.sqlite_rules.specs.declared.error.Refusal.TheVariants.{Violates, Mismatch, NoRowid, BadReference, TooDeep}
-use Rattle.sqlite_rules.specs.Calls.{ids_of}
-use Rattle.sqlite_rules.specs.Lists.{Has}
-use Rattle.sqlite_rules.proofs.ListLemmas.{all_has, has_got, test_from, some_has}
-use Rattle.sqlite_rules.proofs.TableLemmas.{int_is, without_all_has, put_all_has, put_all_adds, put_all_keeps}
 use Rattle.sqlite_tied.specs.Compute.{everything}
 use Rattle.reg_tables.specs.Layout.{five_tables_then, added_tables, versions}
 use Rattle.reg_tables.specs.Contents.{Contents, HoldsContents, version_cmp, VersionEntryView, version_form, TableName}
@@ -52,21 +23,21 @@ use Rattle.reg_tables.proofs.WellDeclared.{IsWellDeclared, steady}
 use Rattle.reg_tables.proofs.TableFaults.{obeys as obeyed, differ_itself, plain_fits}
 use Rattle.reg_tables.proofs.FailedVersions.{version_keys, flag_passes}
 
--- at most one row, at a rowid that is not taken
+-- at most one row, at a free rowid
 fresh_if : (rows news : List Row) → length news ≤ 1 → ((x : Row) → Has news x → is_taken rows x ≡ true → ⊥) → are_fresh rows news ≡ true
 fresh_if rows [] few free = refl
 fresh_if rows (x ∷ []) few free = and_from _ _ (not_from_false _ (false_from_ne_true _ (free x (inl refl)))) refl
 fresh_if rows (x ∷ y ∷ more) few free = absurd (omega arith)
 
--- versions of one id have their text alike
+-- versions with the same id have the same text
 same_text : (texts : List Row) (a b : Row) → column a 3 ≡ column b 3 → has_text_at 3 texts a ≡ has_text_at 3 texts b
 same_text texts a b same = let with_id : Value → Bool = λ v. has_text_at 3 texts (Null ∷ Null ∷ Null ∷ v ∷ []) in ap with_id same
 
--- rows of one key agree with the same rows on it
+-- rows with the same key agree with the same rows on it
 same_agreement : (r a b : Row) → column a 1 ≡ column b 1 → column a 2 ≡ column b 2 → agree plain (1 ∷ 2 ∷ []) a (1 ∷ 2 ∷ []) r ≡ agree plain (1 ∷ 2 ∷ []) b (1 ∷ 2 ∷ []) r
 same_agreement r a b subject number = let of_key : Value → Value → Bool = λ v w. agree plain (1 ∷ 2 ∷ []) (Null ∷ v ∷ w ∷ []) (1 ∷ 2 ∷ []) r in λ i. of_key (subject i) (number i)
 
--- the row that the UPDATE makes of a version's
+-- the new row that the UPDATE writes for a version
 abbrev marked_row : ℤ → List ℕ × ℕ → ℕ → Row
 marked_row place key id = Int place ∷ Text key.0 ∷ Int (pos key.1) ∷ Int (pos id) ∷ Int (pos 1) ∷ []
 
@@ -92,11 +63,11 @@ module _ (first : ℕ) (indexes : List Index) (high : 10 ≤ first) (s : IsWellD
   obeys : Obeys layout db
   obeys = obeyed layout old.now h.declared h.sound
 
-  -- a row that passes is the version's
+  -- a row that passes the tests is the version's
   its_version : (r : Row) → Has (db 2) r → named r ≡ true → (v : VersionEntryView) × (get contents.versions key ≡ Some v) × IsEntry version_form r key v
   its_version = own_row version_form version_cmp version_order db 2 contents.versions (h.shows TableName.Versions) key by_version params (λ row q is. by_version_test row key q is)
 
-  -- the rows that were found are the version's, if there is one
+  -- the rows found are the version's row, or none
   abbrev IsFound : List Row → Type 0
   IsFound found = FindsLayoutOne named rest (db 2) found
 
@@ -116,7 +87,7 @@ module _ (first : ℕ) (indexes : List Index) (high : 10 ≤ first) (s : IsWellD
     abbrev source : Row → Row
     source s = cast_row versions (drop 1 s)
 
-    -- a new row is the version's, marked
+    -- a new row is the version's, marked as deleted
     record IsNew (x : Row) : Type 0 where
       was : Row
       there : Has (db 2) was
@@ -142,15 +113,15 @@ module _ (first : ℕ) (indexes : List Index) (high : 10 ≤ first) (s : IsWellD
     each : (p : Row → Bool) → ((place : ℤ) (id : ℕ) → p (marked_row place key id) ≡ true) → list_all p edit.news ≡ false → ⊥
     each p good fails = both_ways _ fails (test_from p edit.news (λ x new. let it = is_new x new in ap p it.is ∙ good (id_in (rowid it.was)) it.version.id))
 
-    ordinal_of : (x : Row) (it : IsNew x) → rowid x ≡ rowid it.was
-    ordinal_of x it = ap (λ (r : Row). rowid r) it.is ∙ sym (int_is (rowid it.was) (all_has _ (db 2) it.was (h.shows TableName.Versions).rowids.1 it.there))
+    same_rowid : (x : Row) (it : IsNew x) → rowid x ≡ rowid it.was
+    same_rowid x it = ap (λ (r : Row). rowid r) it.is ∙ sym (int_is (rowid it.was) (all_has _ (db 2) it.was (h.shows TableName.Versions).rowids.1 it.there))
 
     untaken : (x : Row) → Has edit.news x → is_taken left x ≡ true → ⊥
     untaken x new taken =
         let it = is_new x new in
         let r = some_has (λ y. is_eq (value_cmp (rowid y) (rowid x))) left taken in
         let stood = left_fails named rest (db 2) found (h.shows TableName.Versions).rowids f.finds r.0 r.1 in
-        let tie = subst (λ v. value_cmp (rowid r.0) v ≡ Equal) (ordinal_of x it) (equal_of _ r.2) in
+        let tie = subst (λ v. value_cmp (rowid r.0) v ≡ Equal) (same_rowid x it) (equal_of _ r.2) in
         let same : r.0 ≡ it.was = same_if_tied (db 2) r.0 it.was (h.shows TableName.Versions).rowids stood.0 it.there tie in
         both_ways _ stood.1 (ap named same ∙ it.passing)
 
@@ -161,7 +132,7 @@ module _ (first : ℕ) (indexes : List Index) (high : 10 ≤ first) (s : IsWellD
         let few = f.few in
         fresh_if left edit.news (omega arith) untaken
 
-    -- the key of a new row was that of the row that it replaces
+    -- a new row has the key of the row that it replaces
     came : (r : Row) → Has (after 2) r → Has edit.news r ⊎ Has left r
     came r there = put_all_has edit.news left r (subst (λ l. Has l r) (with_tree_there db 2 (edited db edit)) there)
 
@@ -172,7 +143,7 @@ module _ (first : ℕ) (indexes : List Index) (high : 10 ≤ first) (s : IsWellD
           | inl also ↦
               let that = is_new r also in
               let same : that.was ≡ it.was = (h.shows TableName.Versions).once that.was it.was that.there it.there (that.entry.0 ∙ sym it.entry.0) in
-              let place : rowid r ≡ rowid fresh = ordinal_of r that ∙ ap (λ (x : Row). rowid x) same ∙ sym (ordinal_of fresh it) in
+              let place : rowid r ≡ rowid fresh = same_rowid r that ∙ ap (λ (x : Row). rowid x) same ∙ sym (same_rowid fresh it) in
               both_ways _ (differ_itself (rowid fresh)) (subst (λ v. differ v (rowid fresh) ≡ true) place differs)
           | inr stays ↦
               let stood = left_fails named rest (db 2) found (h.shows TableName.Versions).rowids f.finds r stays in
@@ -190,7 +161,7 @@ module _ (first : ℕ) (indexes : List Index) (high : 10 ≤ first) (s : IsWellD
         (λ i known on r fresh there new agrees differs. apart r fresh there new (on_columns indexes versions (1 ∷ 2 ∷ []) (s.on TableName.Versions) i known on r fresh agrees) differs)
         (obeys.rules Unique)
 
-    -- a version that was there has a row of its key still
+    -- each stored version still has a row with its key
     marks : (was : Row) → Has (db 2) was → named was ≡ true → (x : Row) × Has edit.news x
     marks was there is = (source (rowid was ∷ rest was), subst (λ l. Has l (source (rowid was ∷ rest was))) (sym (given_as_is left (map source found))) (maps_had source found (rowid was ∷ rest was) (f.finds.complete was there is)))
 
@@ -209,7 +180,7 @@ module _ (first : ℕ) (indexes : List Index) (high : 10 ≤ first) (s : IsWellD
       | inr other ↦ (was, subst (λ l. Has l was) (sym applies.rows) (put_all_keeps edit.news left was fresh (fails_left named rest (db 2) found (h.shows TableName.Versions).rowids f.finds was there other)), agrees)
     ]
 
-    -- the row keeps its id and its key, so it has its text still, and its evidence has it
+    -- the row keeps its id and its key, so its own reference and those of its evidence stay valid
     refers : (next : Trees) → Applies layout Enforced db edit next → Refers All layout next
     refers next applies =
         let texts_same : next 0 ≡ db 0 = applies.tables.0 (λ e. omega (arith, e)) in
@@ -223,7 +194,7 @@ module _ (first : ℕ) (indexes : List Index) (high : 10 ≤ first) (s : IsWellD
           | inr stays ↦ had row (without_all_has (ids_of found) (db 2) row stays)
         ])) (obeys.rules ForeignKey)
 
-    -- the row may be marked, where its rowid is one that SQLite has
+    -- the row may be marked if its rowid is valid
     allowed : (why : Refusal) → IsRefused layout Enforced db edit why → why ≡ NoRowid
     allowed (Violates Datatype) r = absurd (each _ (λ place id. refl) r)
     allowed (Violates NotNull) r = absurd (each _ (λ place id. refl) r)

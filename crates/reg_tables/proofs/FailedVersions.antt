@@ -1,31 +1,9 @@
--- How the statements that write texts and versions fail.
+-- Why the statements that write texts and versions fail.
 use Rattle.std.proofs.Common.{arith, ◌≡◌, ◌≤◌, ◌/◌, not, length, ◌<◌, ◌^◌, inl, inr, ℕ, pos, List, [], ◌∷◌, lit≤, true, false, Bool, ◌&&◌, None, Some, Err, Option, refl, sym, ap, subst, ◌∙◌}
-use Rattle.std.specs.FinMap.{get, int_cmp-IsAntisymmetric}
-use Rattle.std.specs.Ordering.{is_eq, int_cmp}
-use Rattle.std.proofs.lemmas.Bool.{both_ways, lt-ltb}
-use Rattle.std.proofs.lemmas.Cmp.{int_cmp_total}
-use Rattle.sqlite.specs.declared.types.Value.{Value}
-use Rattle.sqlite.specs.declared.types.Value.TheVariants.{Null, Int, Text}
-use Rattle.sqlite.specs.Order.{Row, column, value_cmp}
-use Rattle.sqlite.specs.Tree.{rowid}
-use Rattle.sqlite.specs.Edit.{Edit, edit_of}
-use Rattle.sqlite.specs.Rowids.TheVariants.{Chosen}
-use Rattle.sqlite.specs.Rows.{stamped}
-use Rattle.sqlite.specs.Effect.{value_rows}
-use Rattle.sqlite.specs.Collation.TheVariants.{Binary}
-use Rattle.sqlite_sql.specs.declared.ops.BinaryOp.TheVariants.{Compare, Or}
-use Rattle.sqlite_sql.specs.declared.ops.CompareOp.TheVariants.{Eq}
-use Rattle.sqlite.specs.State.{State, ExecutesInside}
+use Rattle.reg_tables.proofs.Kit.{get, int_cmp-IsAntisymmetric, is_eq, int_cmp, both_ways, lt-ltb, int_cmp_total, Value, Null, Int, Text, Row, rowid, Edit, edit_of, Chosen, stamped, value_rows, Binary, Compare, Or, Eq, State, ExecutesInside, Error, Has, some_has, all_from, put_all_keeps, Schema, Index, agree, is_true, is_false, from_truth, value_cmp-Text, value_cmp-Int}
+use Rattle.sqlite.specs.Order.{column, value_cmp}
 use Rattle.sqlite.specs.Listing.{understood}
-use Rattle.sqlite.specs.declared.error.Error.{Error}
-use Rattle.sqlite_rules.specs.Lists.{Has}
-use Rattle.sqlite_rules.proofs.ListLemmas.{some_has, all_from}
-use Rattle.sqlite_rules.proofs.TableLemmas.{put_all_keeps}
-use Rattle.sqlite.specs.Schema.{Schema}
-use Rattle.sqlite_schema.specs.declared.schema.Index.{Index}
-use Rattle.sqlite_schema.specs.Rules.{agree}
-use Rattle.sqlite_sql.specs.Ops.{binary, is_true, is_false, from_truth}
-use Rattle.sqlite_value.proofs.OrderLemmas.{value_cmp-Text, value_cmp-Int}
+use Rattle.sqlite_sql.specs.Ops.{binary}
 use Rattle.sqlite_value.specs.Keys.{first_key}
 use Rattle.sqlite_tied.specs.Compute.{everything}
 use Rattle.reg_tables.specs.Layout.{five_tables_then, added_tables, texts}
@@ -40,7 +18,7 @@ use Rattle.reg_tables.proofs.WellDeclared.{IsWellDeclared}
 use Rattle.reg_tables.proofs.UniqueLemmas.{on_columns}
 use Rattle.reg_tables.proofs.TableFaults.{IsFree, insert_fails}
 
--- rows that agree on a text have one text
+-- rows that agree on their text have the same text
 text_agrees : (place : ℕ) (row r : Row) (t k : List ℕ) → column row place ≡ Text k → column r place ≡ Text t → agree (record { digits = 0 }) (place ∷ []) r (place ∷ []) row ≡ true → t ≡ k
 unfolding first_key binary
 text_agrees place row r t k its is same = same_key text_cmp text_order t k (sym (truth (is_eq (text_cmp t k))) ∙ (rw (its, is, value_cmp-Text t k) at same))
@@ -49,7 +27,7 @@ text_agrees place row r t k its is same = same_key text_cmp text_order t k (sym 
     truth true = refl
     truth false = refl
 
--- rows that agree on a version's key have one key
+-- rows that agree on a version's key have the same key
 pub version_keys : (first : Value) (rest r : Row) (q k : List ℕ × ℕ) → column r 1 ∷ column r 2 ∷ [] ≡ version_key_cells q
     → agree (record { digits = 0 }) (1 ∷ 2 ∷ []) r (1 ∷ 2 ∷ []) (first ∷ Text k.0 ∷ Int (pos k.1) ∷ rest) ≡ true → q ≡ k
 unfolding first_key

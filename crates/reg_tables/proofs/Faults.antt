@@ -1,37 +1,16 @@
--- How a query of the five tables fails: for the store, or at the limit on steps.
+-- A query of the five tables fails only because of the store or the step limit.
 use Rattle.std.proofs.Common.{◌≡◌, ◌≢◌, ◌⊎◌, inl, inr, ℕ, List, [], length, ◌≤◌, append-nil, true, Option, None, Some, Ok, Err, Result, sym, ap, subst, ◌∙◌}
-use Rattle.std.specs.Prelude.{IsSome, IfErr, IsErrAnd, IsTrue}
-use Rattle.std.proofs.lemmas.Bool.{both_ways, cases_Bool}
-use Rattle.sqlite.specs.declared.types.Value.{Value}
-use Rattle.sqlite.specs.Order.{Row}
-use Rattle.sqlite.specs.Command.TheVariants.{Select}
+use Rattle.reg_tables.proofs.Kit.{IsSome, IfErr, IsErrAnd, IsTrue, both_ways, cases_Bool, Value, Row, Select, Error, SqliteFailure, InvalidColumnIndex, InvalidColumnType, IntegralValueOutOfRange, Utf8Error, IsReadError, type_of, OutOfMemory, Database, RefusesToRead, IsSourceOf, State, FailsToShow, IsStatement, IsTooLate, timed, IsPlain, command_of, Returning, Compiled, accepts_program, any_has, Query, Trees, ProgramOverflows, Schema}
 use Rattle.sqlite.specs.declared.error.ErrorCode.TheVariants as code
-use Rattle.sqlite.specs.declared.error.Error.{Error}
-use Rattle.sqlite.specs.declared.error.Error.TheVariants.{SqliteFailure, InvalidColumnIndex, InvalidColumnType, IntegralValueOutOfRange, Utf8Error}
-use Rattle.sqlite.specs.Reading.{IsReadError}
-use Rattle.sqlite.specs.Values.{type_of}
-use Rattle.sqlite_trees.specs.declared.error.StoreError.TheVariants.{OutOfMemory}
-use Rattle.sqlite.specs.Effect.{Database, RefusesToRead}
-use Rattle.sqlite.specs.Listing.{IsSourceOf}
-use Rattle.sqlite.specs.State.{State, FailsToQuery, FailsToShow, IsStatement, IsNotRun, IsTooLate}
-use Rattle.sqlite.specs.Clock.{timed}
-use Rattle.sqlite.proofs.Callers.{IsPlain, command_of}
-use Rattle.sqlite_schema.specs.declared.command.Returning.{Returning}
-use Rattle.sqlite_resolve.specs.declared.compiled.Compiled.{Compiled}
-use Rattle.sqlite_typing.specs.Types.{accepts_program}
-use Rattle.sqlite_rules.proofs.ListLemmas.{any_has}
+use Rattle.sqlite.specs.State.{FailsToQuery, IsNotRun}
 use Rattle.reg_tables.specs.Layout.{HasFiveTables}
 use Rattle.reg_tables.specs.Reads.{CanBeRead}
 use Rattle.reg_tables.specs.FailedCalls.{IsFault}
-use Rattle.sqlite.specs.Query.{Query}
-use Rattle.sqlite.specs.Tree.{Trees}
-use Rattle.sqlite_sql.specs.Program.{ProgramOverflows}
 use Rattle.reg_tables.specs.Inside.Statements.{IsOneStatement, IsSelect, TakesSelect, Takes, TableQuery, body_of, IsQuery}
-use Rattle.sqlite.specs.Schema.{Schema}
 use Rattle.reg_tables.proofs.Reasons.{reason_of, reason_if_shut, reason_by, fault_until}
 use Rattle.reg_tables.proofs.Statements.{IsAsked}
 
--- in this schema the text is a query that takes the parameters
+-- in this schema the SQL text is a query that takes these parameters
 pub record Asks (sql : List ℕ) (params : Row) (schema : Schema) : Type 0 where
   pub names : List (List ℕ)
   pub body : Query
@@ -39,7 +18,7 @@ pub record Asks (sql : List ℕ) (params : Row) (schema : Schema) : Type 0 where
   pub is : IsSelect sql names body schema
   pub takes : TakesSelect sql body params schema
 
--- a query of one table, which sums nothing up
+-- a query of one table without aggregates
 pub asks : (q : TableQuery) (params : Row) (schema : Schema) → IsQuery q schema → Takes q params schema → Asks q.sql params schema
 asks q params schema is takes = record { names = q.names; body = body_of q; never = λ db values over. elim over [ inl none ↦ none | inr some ↦ (any_has _ _ some).2 ]; is = is; takes = takes }
 
@@ -50,9 +29,9 @@ pub read_fault_until : (old mid new : State) → mid.faults ≤ new.faults → (
 read_fault_until old mid new up e (inl store) = inl (store.0, store.1, reason_by old mid old new (fault_until old mid new up) store.0 store.2)
 read_fault_until old mid new up e (inr stopped) = inr stopped
 
--- a query that is known while the connection is open
+-- while the connection is open, the statement is this query
 module _ (sql : List ℕ) (params : Row) (old new : State) (known : IsTrue old.is_open → Asks sql params old.now.schema) where
-  -- a connection that is shut has no other error than the store's
+  -- a closed connection returns only errors of the store
   open_or_fault : (c : Compiled) (values : Row) (e : Error) (o : Option Returning) → FailsToShow old new sql c values e o → IsTrue old.is_open ⊎ IsFault old new e
   open_or_fault c values e None s = inl s.3.0.was_open
   open_or_fault c values e (Some what) (inl s) = inl s.1.0.was_open
@@ -89,7 +68,7 @@ module _ (sql : List ℕ) (params : Row) (old new : State) (known : IsTrue old.i
       let bare = subst IsPlain late.1.is (known late.5.0.was_open).is.command.plain in
       absurd (let none = subst IsSome bare.0 late.2 in cc)
 
--- what can be read is read, but for want of memory
+-- reading a readable value fails only if allocation fails
 pub memory_if_readable : (at : ℕ) (value : Value) (e : Error) (P : Type 0) → P → IsReadError at value e → (e ≢ SqliteFailure code.OutOfMemory → ¬ P) → e ≡ SqliteFailure code.OutOfMemory
 memory_if_readable at value e P readable named kind =
     let other = λ (x : Error) (is : e ≡ x) (apart : x ≢ SqliteFailure code.OutOfMemory). kind (λ h. apart (sym is ∙ h)) readable in
@@ -107,11 +86,11 @@ memory_if_readable at value e P readable named kind =
 pub memory_is_fault : (old new : State) (e : Error) → e ≡ SqliteFailure code.OutOfMemory → IsFault old new e
 memory_is_fault old new e is = inl (OutOfMemory, is, tt)
 
--- of readable contents a read fails with a fault alone
+-- over readable contents a read fails only with a fault
 abbrev pub FailsByFault : {X : Type 0} → State → State → Result X Error → Type 0
 FailsByFault old new r = IfErr r (λ e. CanBeRead old → IsFault old new e)
 
--- an error that `?` passes on
+-- an error that `?` returns
 pub if_passed : {X : Type 0} (P : Error → Type 0) (r : Result X Error) (first : Error) → IsErrAnd r (λ e. e ≡ first) → P first → IfErr r P
 if_passed P (Ok x) first is h = tt
 if_passed P (Err e) first is h = subst P (sym is) h

@@ -1,22 +1,8 @@
--- The first version that passes, as a query in the order of subjects and numbers shows it.
+-- A query ordered by subject and number returns the first version that passes its tests.
 use Rattle.std.proofs.Common.{◌≡◌, ◌&&◌, ℕ, pos, List, [], ◌∷◌, map, take, filter, find, All, Bool, true, false, cond, Option, Some, slice_get, Less, refl, sym, ap, subst, ◌∙◌}
-use Rattle.std.specs.Prelude.{bytes_eq, IsUtf8, ◌<◌, ◌^◌, option_map}
-use Rattle.std.specs.FinMap.{entries, get}
-use Rattle.std.specs.Ordering.{is_eq, is_gt, nat_cmp}
-use Rattle.std.proofs.lemmas.Option.{slice_get-map}
-use Rattle.std.proofs.lemmas.Simd.{map-map}
-use Rattle.sqlite.specs.declared.types.Value.TheVariants.{Int, Text}
-use Rattle.sqlite.specs.Order.{Row, column}
-use Rattle.sqlite.specs.Program.{overlay}
-use Rattle.sqlite.specs.Query.{Output, IsAnswer}
-use Rattle.sqlite.specs.State.{State, Shown}
-use Rattle.sqlite.specs.Schema.{Schema}
-use Rattle.sqlite.specs.Term.{eval_all}
-use Rattle.sqlite_rules.specs.Lists.{Has}
-use Rattle.sqlite_rules.proofs.ListLemmas.{has_filtered, has_kept}
-use Rattle.sqlite_sql.specs.Ops.{binary, is_true, from_truth}
-use Rattle.sqlite_trees.proofs.ListLemmas.{ascending-filter, ascending_weaker}
-use Rattle.sqlite_value.proofs.OrderLemmas.{value_cmp-Int, value_cmp-Text}
+use Rattle.reg_tables.proofs.Kit.{bytes_eq, IsUtf8, ◌<◌, ◌^◌, option_map, entries, get, is_eq, is_gt, nat_cmp, slice_get-map, map-map, Int, Text, Row, overlay, Output, IsAnswer, State, Shown, Schema, eval_all, Has, has_filtered, has_kept, is_true, from_truth, ascending-filter, ascending_weaker, value_cmp-Int, value_cmp-Text}
+use Rattle.sqlite.specs.Order.{column}
+use Rattle.sqlite_sql.specs.Ops.{binary}
 use Rattle.reg_tables.specs.Layout.{HasFiveTables}
 use Rattle.reg_tables.specs.TableMaps.{IsEntry, ShowsMap}
 use Rattle.reg_tables.specs.Contents.{text_cmp, version_cmp, version_key_cells, version_form, Contents, AreReadable, HoldsContents}
@@ -31,11 +17,11 @@ use Rattle.reg_tables.proofs.ListMembers.{has_mapped, has_taken}
 use Rattle.reg_tables.proofs.OrderedQueries.{entries_rise, entry_got, got_entry, in_order_as}
 use Rattle.reg_tables.proofs.Queries.{passes}
 use Rattle.reg_tables.proofs.Tables.{five}
-use Rattle.reg_tables.proofs.Statements.{in_order, first_row, laid_out, by_later_subject, find_behind, asks_behind, by_later_number, find_next, asks_next}
+use Rattle.reg_tables.proofs.Statements.{in_order, first_row, laid_out, by_later_subject, find_after, asks_after, by_later_number, find_next, asks_next}
 use Rattle.reg_tables.proofs.TableLines.{all_if_each}
 use Rattle.reg_tables.proofs.VersionLists.{Entry, ranks, distinct_numbered, same_text, entry_cells, entry_shown, readable_entry}
 
--- ---- the first that passes
+-- ---- the first row that passes
 
 first_kept : {A : Type 0} (p : A → Bool) (xs : List A) → slice_get (filter p xs) 0 ≡ find p xs
 first_kept p [] = refl
@@ -51,7 +37,7 @@ find-filter q p (x ∷ xs) =
     elim (p x) as (λ b. find q (cond b (x ∷ filter p xs) (filter p xs)) ≡ cond (b && q x) (Some x) (find (λ y. p y && q y) xs))
     [ true ↦ ap (λ o. cond (q x) (Some x) o) (find-filter q p xs) | false ↦ find-filter q p xs ]
 
--- the query shows its columns of the first version that passes
+-- the query returns its columns of the first version that passes
 module _ (q : TableQuery) (ordered : body_of q ≡ ordered_query 2 q.tests q.shown in_order first_row) (params : Row) (old new : State) (it : IsQuery q old.now.schema) (found : List Row) (h : Shown q.sql params old new found) (contents : Contents)
     (shows : ShowsMap version_form (old.now.trees 2) (get contents.versions)) (p : Entry → Bool) (test : (row : Row) (e : Entry) → IsEntry version_form row e.0 e.1 → passes q.tests params row ≡ p e) (cells : Entry → Row)
     (whole : (row : Row) (e : Entry) → IsEntry version_form row e.0 e.1 → eval_all q.shown (params ∷ row ∷ []) ≡ cells e) where
@@ -78,18 +64,18 @@ module _ (q : TableQuery) (ordered : body_of q ≡ ordered_query 2 q.tests q.sho
   pub shows_first : slice_get found 0 ≡ option_map cells (find p (entries contents.versions))
   shows_first = ap (λ (l : List Row). slice_get l 0) first_of_passed ∙ first_taken (map cells passed) ∙ slice_get-map cells passed 0 ∙ ap (option_map cells) (first_kept p (entries contents.versions))
 
-  -- of readable contents what is shown is readable
+  -- over readable contents the returned rows are readable
   pub readable_first : (is_readable : Row → Type 0) → ((e : Entry) → IsUtf8 e.0.0 × (e.0.1 < 2 ^ 32) × (e.1.id < 2 ^ 32) → is_readable (cells e)) → AreReadable contents → All is_readable found
   readable_first is_readable can readable = all_if_each is_readable found (λ x there.
       let e = has_mapped cells passed x (has_taken 1 (map cells passed) x (subst (λ l. Has l x) first_of_passed there)) in
       let kept = has_filtered p (entries contents.versions) e.0 e.1 in
       subst is_readable (sym e.2) (can e.0 (readable.versions e.0.0 e.0.1 (entry_got version_cmp version_order contents.versions e.0 kept.0))))
 
--- ---- behind a subject, and behind a version of one
+-- ---- after a subject, and after a version of a subject
 
-by_behind : (subject : List ℕ) (row : Row) (e : Entry) → IsEntry version_form row e.0 e.1 → passes by_later_subject (Text subject ∷ []) row ≡ is_gt (text_cmp e.0.0 subject)
+by_after : (subject : List ℕ) (row : Row) (e : Entry) → IsEntry version_form row e.0 e.1 → passes by_later_subject (Text subject ∷ []) row ≡ is_gt (text_cmp e.0.0 subject)
 unfolding binary
-by_behind subject row e is = let key : column row 1 ≡ Text e.0.0 = (let k = is.0 in cc) in rw (key, value_cmp-Text e.0.0 subject) (truth (is_gt (text_cmp e.0.0 subject)))
+by_after subject row e is = let key : column row 1 ≡ Text e.0.0 = (let k = is.0 in cc) in rw (key, value_cmp-Text e.0.0 subject) (truth (is_gt (text_cmp e.0.0 subject)))
   where
     truth : (b : Bool) → (is_true (from_truth (Some b)) && true) ≡ b
     truth true = refl
@@ -109,27 +95,27 @@ by_next subject number row e is =
     truth false true = refl
     truth false false = refl
 
--- what a line reads of a row with its subject
+-- the columns that are read from a row with its subject
 abbrev keyed_columns : Row → Row
 keyed_columns row = column row 0 ∷ column row 1 ∷ column row 2 ∷ column row 3 ∷ []
 
 module _ (old new : State) (schema : Schema) (contents : Contents) (h : HoldsContents schema old.now contents) (first : HasFiveTables schema) (subject : List ℕ) (found : List Row) where
-  module _ (shown : Shown find_behind.sql (Text subject ∷ []) old new found) where
-    abbrev is_behind : Entry → Bool
-    is_behind e = is_gt (text_cmp e.0.0 subject)
+  module _ (shown : Shown find_after.sql (Text subject ∷ []) old new found) where
+    abbrev is_after : Entry → Bool
+    is_after e = is_gt (text_cmp e.0.0 subject)
 
-    its : IsQuery find_behind old.now.schema
-    its = (asks_behind subject).is old.now.schema (laid_out h first)
+    its : IsQuery find_after old.now.schema
+    its = (asks_after subject).is old.now.schema (laid_out h first)
 
-    pub line_behind : (line : Option ListedVersion) → option_map keyed_columns (slice_get found 0) ≡ option_map (λ (line : ListedVersion). listed_version_cells (listed_version_view line)) line
-        → option_map listed_version_view line ≡ find is_behind (entries contents.versions)
-    line_behind line read =
-        let first = shows_first find_behind refl (Text subject ∷ []) old new its found shown contents (five h first).versions is_behind (by_behind subject) listed_version_cells keyed_shown in
-        same_shown listed_version_cells distinct_keyed (option_map listed_version_view line) (find is_behind (entries contents.versions))
-        (map_twice listed_version_cells listed_version_view line ∙ sym read ∙ ap (option_map keyed_columns) first ∙ map_twice keyed_columns listed_version_cells (find is_behind (entries contents.versions)))
+    pub line_after : (line : Option ListedVersion) → option_map keyed_columns (slice_get found 0) ≡ option_map (λ (line : ListedVersion). listed_version_cells (listed_version_view line)) line
+        → option_map listed_version_view line ≡ find is_after (entries contents.versions)
+    line_after line read =
+        let first = shows_first find_after refl (Text subject ∷ []) old new its found shown contents (five h first).versions is_after (by_after subject) listed_version_cells keyed_shown in
+        same_shown listed_version_cells distinct_keyed (option_map listed_version_view line) (find is_after (entries contents.versions))
+        (map_twice listed_version_cells listed_version_view line ∙ sym read ∙ ap (option_map keyed_columns) first ∙ map_twice keyed_columns listed_version_cells (find is_after (entries contents.versions)))
 
-    pub readable_behind : AreReadable contents → All IsReadableListedVersion found
-    readable_behind = readable_first find_behind refl (Text subject ∷ []) old new its found shown contents (five h first).versions is_behind (by_behind subject) listed_version_cells keyed_shown IsReadableListedVersion can_be_held
+    pub readable_after : AreReadable contents → All IsReadableListedVersion found
+    readable_after = readable_first find_after refl (Text subject ∷ []) old new its found shown contents (five h first).versions is_after (by_after subject) listed_version_cells keyed_shown IsReadableListedVersion can_be_held
 
   module _ (number : ℕ) (shown : Shown find_next.sql (Text subject ∷ Int (pos number) ∷ []) old new found) where
     abbrev is_next : Entry → Bool

@@ -1,28 +1,20 @@
--- What the foreign keys of layout 2 ask of the rows.
+-- What the foreign keys of layout 2 require of the rows.
 use Rattle.std.proofs.Common.{◌≡◌, ◌≢◌, ◌≤◌, inl, inr, ℕ, ◌+◌, arith, List, [], ◌∷◌, Bool, true, refl, sym, subst, ◌||◌, ◌&&◌}
-use Rattle.std.specs.List.{AllByRecursion, list_any}
-use Rattle.std.proofs.lemmas.Bool.{and_from, and_parts, or_cases, or_left, or_right}
-use Rattle.sqlite.specs.Order.{Row}
-use Rattle.sqlite.specs.Tree.{Trees}
-use Rattle.sqlite_schema.specs.declared.schema.Among.TheVariants.{All}
-use Rattle.sqlite_schema.specs.declared.schema.Index.{Index}
+use Rattle.reg_tables.proofs.Kit.{AllByRecursion, list_any, and_from, and_parts, or_cases, or_left, or_right, Row, Trees, All, Index, agree, has_null, Refers, plain, Has, all_has, all_from, some_has, some_from}
 use Rattle.sqlite_schema.specs.Names.{same_name}
-use Rattle.sqlite_schema.specs.Rules.{agree, has_null, Refers}
-use Rattle.sqlite_value.specs.Keys.{plain, joined}
-use Rattle.sqlite_rules.specs.Lists.{Has}
-use Rattle.sqlite_rules.proofs.ListLemmas.{all_has, all_from, some_has, some_from}
+use Rattle.sqlite_value.specs.Keys.{joined}
 use Rattle.reg_tables.specs.Layout.{five_tables_then, added_tables}
 use Rattle.reg_tables.specs.Inside.KeyedLaws.{KeepsOthers}
 
--- the id in this column is that of a text
+-- the id in this column is the id of a text
 abbrev pub has_text_at : ℕ → List Row → Row → Bool
 has_text_at place parents row = has_null (place ∷ []) row || list_any (λ parent. agree plain (0 ∷ []) parent (place ∷ []) row) parents
 
--- the first two columns are those of a version
+-- the first two columns are the key of a version
 abbrev pub has_version : List Row → Row → Bool
 has_version parents row = has_null (1 ∷ 2 ∷ []) row || list_any (λ parent. agree plain (1 ∷ 2 ∷ []) parent (1 ∷ 2 ∷ []) row) parents
 
--- more parents are enough for what fewer were
+-- a reference stays valid when parents are added
 pub more_versions : (old new : List Row) (row : Row) → ((s : Row) → Has old s → agree plain (1 ∷ 2 ∷ []) s (1 ∷ 2 ∷ []) row ≡ true → (t : Row) × Has new t × (agree plain (1 ∷ 2 ∷ []) t (1 ∷ 2 ∷ []) row ≡ true))
     → has_version old row ≡ true → has_version new row ≡ true
 more_versions old new row kept had = elim (or_cases _ _ had) [
@@ -33,14 +25,13 @@ more_versions old new row kept had = elim (or_cases _ _ had) [
       or_right _ _ (some_from (λ parent. agree plain (1 ∷ 2 ∷ []) parent (1 ∷ 2 ∷ []) row) new t.0 t.1 t.2)
 ]
 
--- and more texts
+-- likewise when texts are added
 pub more_texts : (old new : List Row) → ((r : Row) → Has old r → Has new r) → (place : ℕ) (row : Row) → has_text_at place old row ≡ true → has_text_at place new row ≡ true
 more_texts old new kept place row had = elim (or_cases _ _ had) [
   | inl null ↦ or_left _ _ null
   | inr some ↦ let r = some_has (λ parent. agree plain (0 ∷ []) parent (place ∷ []) row) old some in or_right _ _ (some_from (λ parent. agree plain (0 ∷ []) parent (place ∷ []) row) new r.0 (kept r.0 r.1) r.2)
 ]
 
--- the references of each table, one by one
 pub record Refer (first : ℕ) (db : Trees) : Type 0 where
   pub versions : (r : Row) → Has (db 2) r → has_text_at 3 (db 0) r ≡ true
   pub evidence : (r : Row) → Has (db (first + 2)) r → has_version (db 2) r ≡ true
@@ -53,12 +44,12 @@ module _ (first : ℕ) (indexes : List Index) where
   refer_if db h =
       let of_versions : AllByRecursion (λ row. (has_text_at 3 (db 0) row && true) ≡ true) (db 2) = h.1.0 in
       let of_evidence : AllByRecursion (λ row. (has_version (db 2) row && true) ≡ true) (db (first + 2)) = h.1.1.1.1.1.1.0 in
-      let of_places : AllByRecursion (λ row. (has_text_at 4 (db 0) row && (has_version (db 2) row && true)) ≡ true) (db (first + 4)) = h.1.1.1.1.1.1.1.0 in
+      let of_positions : AllByRecursion (λ row. (has_text_at 4 (db 0) row && (has_version (db 2) row && true)) ≡ true) (db (first + 4)) = h.1.1.1.1.1.1.1.0 in
       record {
         versions = λ r there. (and_parts _ _ (all_has (λ row. (has_text_at 3 (db 0) row && true) ≡ true) (db 2) r of_versions there)).0;
         evidence = λ r there. (and_parts _ _ (all_has (λ row. (has_version (db 2) row && true) ≡ true) (db (first + 2)) r of_evidence there)).0;
-        places = λ r there. (and_parts _ _ (and_parts _ _ (all_has (λ row. (has_text_at 4 (db 0) row && (has_version (db 2) row && true)) ≡ true) (db (first + 4)) r of_places there)).1).0;
-        seen = λ r there. (and_parts _ _ (all_has (λ row. (has_text_at 4 (db 0) row && (has_version (db 2) row && true)) ≡ true) (db (first + 4)) r of_places there)).0;
+        places = λ r there. (and_parts _ _ (and_parts _ _ (all_has (λ row. (has_text_at 4 (db 0) row && (has_version (db 2) row && true)) ≡ true) (db (first + 4)) r of_positions there)).1).0;
+        seen = λ r there. (and_parts _ _ (all_has (λ row. (has_text_at 4 (db 0) row && (has_version (db 2) row && true)) ≡ true) (db (first + 4)) r of_positions there)).0;
       }
 
   pub refers_if : (db : Trees) → Refer first db → Refers All (five_tables_then (added_tables first) indexes) db
@@ -66,15 +57,15 @@ module _ (first : ℕ) (indexes : List Index) where
   refers_if db h =
       let of_versions : AllByRecursion (λ row. (has_text_at 3 (db 0) row && true) ≡ true) (db 2) = all_from _ (db 2) (λ r there. and_from _ _ (h.versions r there) refl) in
       let of_evidence : AllByRecursion (λ row. (has_version (db 2) row && true) ≡ true) (db (first + 2)) = all_from _ (db (first + 2)) (λ r there. and_from _ _ (h.evidence r there) refl) in
-      let of_places : AllByRecursion (λ row. (has_text_at 4 (db 0) row && (has_version (db 2) row && true)) ≡ true) (db (first + 4)) =
+      let of_positions : AllByRecursion (λ row. (has_text_at 4 (db 0) row && (has_version (db 2) row && true)) ≡ true) (db (first + 4)) =
       all_from _ (db (first + 4)) (λ r there. and_from _ _ (h.seen r there) (and_from _ _ (h.places r there) refl)) in
-      (each (db 0), (of_versions, (each (db 4), (each (db 6), (each (db 8), (each (db first), (of_evidence, (of_places, tt))))))))
+      (each (db 0), (of_versions, (each (db 4), (each (db 6), (each (db 8), (each (db first), (of_evidence, (of_positions, tt))))))))
     where
       each : (rows : List Row) → AllByRecursion (λ (row : Row). true ≡ true) rows
       each [] = tt
       each (row ∷ rows) = (refl, each rows)
 
-  -- a write to one of the five tables breaks none, if what was a reference's parent has one in its place
+  -- a write to one of the five tables breaks no reference if each parent is still there or has a replacement
   pub kept_refers : (tree : ℕ) → 10 ≤ first → tree ≤ 9 → (old new : Trees) → KeepsOthers (five_tables_then (added_tables first) indexes) tree old new → ((place : ℕ) (row : Row) → has_text_at place (old 0) row ≡ true → has_text_at place (new 0) row ≡ true)
       → ((row : Row) → has_version (old 2) row ≡ true → has_version (new 2) row ≡ true)
       → (((row : Row) → Has (old 2) row → has_text_at 3 (old 0) row ≡ true) → (row : Row) → Has (new 2) row → has_text_at 3 (new 0) row ≡ true) → Refers All (five_tables_then (added_tables first) indexes) old → Refers All (five_tables_then (added_tables first) indexes) new
@@ -89,7 +80,7 @@ module _ (first : ℕ) (indexes : List Index) where
         seen = λ r there. of_texts 4 r (had.seen r (subst (λ l. Has l r) against there));
       })
 
-  -- a write to a table that refers to nothing, and to which nothing refers, breaks none
+  -- a write to a table without references in either direction breaks no reference
   pub beside_refers : (tree : ℕ) → 0 ≢ tree → 2 ≢ tree → first + 2 ≢ tree → first + 4 ≢ tree → (old new : Trees) → KeepsOthers (five_tables_then (added_tables first) indexes) tree old new → Refers All (five_tables_then (added_tables first) indexes) old → Refers All (five_tables_then (added_tables first) indexes) new
   beside_refers tree not_texts not_versions not_evidence not_against old new same h =
       let had = refer_if old h in

@@ -1,35 +1,14 @@
--- What the making of the index leaves, and why it is not made.
+-- The tables after CREATE INDEX, and why it fails.
 use Rattle.std.proofs.Common.{◌≡◌, inl, inr, ℕ, pos, ◌+◌, ◌<◌, ◌^◌, List, [], ◌∷◌, ◌++◌, ◌&&◌, not, length, lit<, lit≤, codes, Some, None, Ok, Err, Option, false, true, refl, sym, ap, subst, subst₂, ◌∙◌, arith}
-use Rattle.std.specs.Prelude.{IsUtf8, IsTrue}
-use Rattle.std.proofs.lemmas.Bool.{both_ways}
-use Rattle.sqlite.specs.declared.types.Value.{Value}
-use Rattle.sqlite.specs.declared.types.Value.TheVariants.{Null, Int, Real, Text, Blob}
-use Rattle.sqlite.specs.Order.{column, value_cmp, Row}
-use Rattle.sqlite.specs.Tree.{Trees, rowid}
-use Rattle.sqlite.specs.Table.{Table}
-use Rattle.sqlite.specs.Schema.{Schema}
-use Rattle.sqlite.specs.Change.{is_used, is_reserved, next_tree, indexed, KeepsRows}
-use Rattle.sqlite.specs.Compile.{index_defined_by}
+use Rattle.reg_tables.proofs.Kit.{IsUtf8, IsTrue, both_ways, Value, Null, Int, Real, Text, Blob, Row, Trees, rowid, Table, Schema, is_used, is_reserved, next_tree, indexed, KeepsRows, index_defined_by, Tally, Does, Database, IsDatabase, State, Executes, ExecutesInside, Writes, mode_of, Error, runs_as, statement_of, Unique, Index, table_reals, index_reals, guards, clashes, Keeps, entry_of, is_fit, RefusesIndex, Invalid, NameTaken, BadName, TooBig, BadKey, BadText, Has, all_has, test_push, keeps_at, keeps_from, IsStorable}
+use Rattle.sqlite.specs.Order.{column, value_cmp}
 use Rattle.sqlite.specs.Command.TheVariants.{CreateIndex}
-use Rattle.sqlite.specs.Does.{Tally, Does, MakesIndex as MakesOne}
-use Rattle.sqlite.specs.Effect.{Database, IsDatabase}
-use Rattle.sqlite.specs.State.{State, Executes, ExecutesInside, Writes, mode_of}
+use Rattle.sqlite.specs.Does.{MakesIndex as MakesOne}
 use Rattle.sqlite.specs.Listing.{understood}
-use Rattle.sqlite.specs.declared.error.Error.{Error}
-use Rattle.sqlite.proofs.Callers.{runs_as, statement_of}
 use Rattle.sqlite_schema.specs.Names.{same_name}
-use Rattle.sqlite_schema.specs.declared.schema.Constraint.TheVariants.{Unique}
-use Rattle.sqlite_schema.specs.declared.schema.Index.{Index}
-use Rattle.sqlite_schema.specs.Rules.{table_reals, index_reals, guards, clashes, Keeps}
-use Rattle.sqlite_sql.specs.Catalog.{entry_of}
-use Rattle.sqlite_catalog.specs.Listing.{is_fit}
-use Rattle.sqlite_catalog.specs.Calls.{RefusesIndex}
 use Rattle.sqlite_catalog.specs.declared.error.Refusal.{Refusal}
-use Rattle.sqlite_catalog.specs.declared.error.Refusal.TheVariants.{Invalid, NameTaken, BadName, TooBig, BadKey, BadText, Violates}
-use Rattle.sqlite_rules.specs.Lists.{Has}
-use Rattle.sqlite_rules.proofs.ListLemmas.{all_has, test_push}
-use Rattle.sqlite_rules.proofs.RuleLemmas.{keeps_at, keeps_from}
-use Rattle.sqlite_trees.specs.View.{is_int, IsStorable}
+use Rattle.sqlite_catalog.specs.declared.error.Refusal.TheVariants.{Violates}
+use Rattle.sqlite_trees.specs.View.{is_int}
 use Rattle.sqlite_trees.specs.Sound.{same_name as same_word, begins as begins_with, is_free_name, fits_kind}
 use Rattle.sqlite_tied.specs.Compute.{everything}
 use Rattle.reg_tables.specs.Layout.{five_tables_then, layout_one_unindexed, versions, versions_of_id, added_tables, layout_two_unindexed, GetsIndex}
@@ -44,7 +23,6 @@ use Rattle.reg_tables.proofs.Writes.{went, same_value}
 abbrev pub make_versions_of_id : List ℕ
 make_versions_of_id = codes "CREATE INDEX versions_of_id ON versions (id)"
 
--- the index, in this tree
 abbrev in_tree : ℕ → Index
 in_tree tree = record versions_of_id { tree = tree }
 
@@ -55,7 +33,7 @@ index_defined = refl
 its_index : (i : Index) → index_defined_by versions make_versions_of_id ≡ Ok i → i ≡ in_tree 0
 its_index i is = let both : ◌≡◌ {A = _} (Ok i) (Ok (in_tree 0)) = sym is ∙ index_defined in cc
 
--- what the CREATE INDEX makes of tables that begin with the five, and what SQLite asks of the index's name, columns and text
+-- how CREATE INDEX changes a schema that begins with the five tables, and SQLite's conditions on the index's name, columns and SQL text
 record MakesIndex (tables : List Table) (indexes : List Index) (tree : ℕ) : Type 0 where
   command : IsCommand (five_tables_then tables indexes) make_versions_of_id (CreateIndex 1)
   text : statement_of make_versions_of_id (understood (five_tables_then tables indexes) make_versions_of_id) ≡ make_versions_of_id
@@ -72,7 +50,7 @@ two_makes : MakesIndex (added_tables 10) layout_two_unindexed.indexes 16
 unfolding understood everything same_name same_word begins_with
 two_makes = record { command = record { is = refl; plain = (refl, refl) }; text = refl; is = refl; whole = (lit≤ tt, refl); room = lit< tt; unused = refl }
 
--- what SQLite asks whatever the tables
+-- SQLite's conditions, with any tables
 record CanBeIndexed : Type 0 where
   text : IsUtf8 make_versions_of_id
   named : IsUtf8 versions_of_id.name
@@ -105,14 +83,14 @@ two_numbers (Real x) b first second = absurd (cc)
 two_numbers (Text x) b first second = absurd (cc)
 two_numbers (Blob x) b first second = absurd (cc)
 
--- the ids and the rowids of versions are numbers
+-- the ids and the rowids of versions are integers
 storable_if_held : (tables : List Table) (indexes : List Index) (db : Database) (contents : Contents) → HoldsContents (five_tables_then tables indexes) db contents → AreStorable db.trees
 storable_if_held tables indexes db contents holds = λ row there.
     let it = (holds.shows TableName.Versions).sound row there in
     let id : column row 3 ≡ Int (pos it.1.id) = (let v = it.3.1 in cc) in
     two_numbers (column row 3) (rowid row) (ap is_int id) (all_has (λ r. IsTrue (is_int (rowid r))) (db.trees versions.tree) row (holds.shows TableName.Versions).rowids.1 there)
 
--- the index is there too, and each table has the rows that it had
+-- the schema has the index too, and each table keeps its rows
 record IsIndexed (tables : List Table) (indexes : List Index) (tree : ℕ) (old new : Database) : Type 0 where
   declared : new.schema ≡ five_tables_then tables (indexes ++ in_tree tree ∷ [])
   sound : IsDatabase new
@@ -138,13 +116,13 @@ module _ (tables : List Table) (indexes : List Index) (tree : ℕ) (m : MakesInd
         rows = subst (λ (d : Database). KeepsRows before.tables old.now.trees d.trees) (sym now) made.rows;
       }
 
-  -- the tables hold what they held
+  -- the tables keep their contents
   holds_indexed : (old new : State) (count : ℕ) (contents : Contents) → HoldsContents before old.now contents → Executes make_versions_of_id [] old new (Ok count) → HoldsContents after new.now contents
   holds_indexed old new count contents holds ran =
       let it = is_indexed old new count holds.declared ran in
       record { declared = it.declared; sound = it.sound; shows = all_still before.tables old.now.trees new.now.trees contents it.rows holds.shows }
 
-  -- an index that is not unique asks nothing of the rows
+  -- a non-unique index puts no condition on the rows
   unique_with_index : (db : Trees) → Keeps Unique before db → Keeps Unique after db
   unique_with_index db keeps =
       keeps_from Unique after db (λ t row listed there. test_push (λ i. not (guards i t && clashes i.order i.columns (db t.tree) row)) indexes (in_tree tree) (keeps_at Unique before db t row keeps listed there) refl)
@@ -202,7 +180,7 @@ module _ (tables : List Table) (indexes : List Index) (tree : ℕ) (m : MakesInd
         refused (inl stopped) = made stopped.0 (let same = stopped.2 in cc) stopped.1
         refused (inr done) = let e = done.2 in cc
 
-  -- over the tables of a sound database, the index fails for the store alone
+  -- over the tables of a sound database, CREATE INDEX fails only because of the store
   fails_if_sound : (old new : State) (contents : Contents) → HoldsContents before old.now contents → (e : Error) → ExecutesInside 0 make_versions_of_id [] old new (Err e) → IsFault old new e
   fails_if_sound old new contents holds e =
       let obeys = (subst (λ s. IsDatabase (record { schema = s; trees = old.now.trees })) holds.declared holds.sound).obeys in
@@ -210,7 +188,7 @@ module _ (tables : List Table) (indexes : List Index) (tree : ℕ) (m : MakesInd
 
 -- ---- the layouts
 
--- tables that lack the index, and the index that they get
+-- the schemas before and after the index is made
 record IsUnindexed (before after : Schema) : Type 0 where
   tables : List Table
   indexes : List Index

@@ -1,10 +1,6 @@
--- What the look-up of a key shows of a table that has one row for each key, and why it fails.
+-- What a lookup by key returns, and why it fails.
 use Rattle.std.proofs.Common.{ℕ, ◌≡◌, inl, subst₂, List, [], ◌∷◌, Option, Some, None, MatchOption, slice_get, refl, sym, ap, subst, ◌∙◌}
-use Rattle.std.specs.Prelude.{option_map}
-use Rattle.std.specs.FinMap.{get}
-use Rattle.sqlite.specs.Order.{Row}
-use Rattle.sqlite.specs.Schema.{Schema}
-use Rattle.sqlite.specs.State.{State, Shown}
+use Rattle.reg_tables.proofs.Kit.{option_map, get, Row, Schema, State, Shown}
 use Rattle.reg_tables.specs.Contents.{TableName, HasTable, table_in, KeyOf, ValueOf, cmp_of, form_of, map_of, Contents, HoldsContents}
 use Rattle.reg_tables.specs.Inside.Keyed.{tests_of}
 use Rattle.reg_tables.specs.Inside.KeyedLaws.{FindsRow, find_query}
@@ -28,7 +24,7 @@ module _ (schema : Schema) (name : TableName) (known : HasTable name schema) (sq
       (λ row q is. (key_laws name).test row key q is) (λ row. f.whole row key) shown
 
   module _ {L Cells : Type 0} (shown_as : Row → Cells) (cells : L → Cells) (value_of : L → ValueOf name) (reads : (line : L) (value : ValueOf name) → shown_as ((form_of name).value_cells value) ≡ cells line → value_of line ≡ value) where
-    -- the line of the first row that is shown is the key's value
+    -- the value read from the first returned row is the key's value
     pub line_found : (found : List Row) → Shown sql ((form_of name).key_cells key) old new found
         → (o : Option L) → option_map shown_as (slice_get found 0) ≡ option_map cells o → MatchOption o (get (map_of name contents) key ≡ None) (λ line. get (map_of name contents) key ≡ Some (value_of line))
     line_found found shown o same = go found (value_found found shown) o same
@@ -51,7 +47,6 @@ module _ (schema : Schema) (name : TableName) (known : HasTable name schema) (sq
         subst is_readable (sym its.2) (readable key its.0 its.1)),
   )
 
--- a value that is told by cases is the one that is mapped
 pub mapped_if : {A B : Type 0} (f : A → B) (o : Option A) (value : Option B) → MatchOption o (value ≡ None) (λ a. value ≡ Some (f a)) → option_map f o ≡ value
 mapped_if f None value is = sym is
 mapped_if f (Some a) value is = sym is

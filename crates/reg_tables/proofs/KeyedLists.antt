@@ -1,23 +1,8 @@
--- What the queries of versions with their subjects list, and what the query of one shows.
+-- What the queries of versions with their subjects return.
 use Rattle.std.proofs.Common.{◌≡◌, ◌≢◌, ◌==◌, ◌&&◌, inl, inr, ℕ, pos, List, [], ◌∷◌, length, map, All, Bool, true, false, Option, None, Some, MatchOption, slice_get, refl, sym, ap, subst, ◌∙◌}
-use Rattle.std.specs.Cmp.{unsigned_Decides}
-use Rattle.std.specs.FinMap.{entries, get}
-use Rattle.std.specs.Prelude.{IsUtf8, ◌<◌, ◌^◌, option_map}
-use Rattle.std.specs.Ordering.{is_eq, nat_cmp}
-use Rattle.std.proofs.lemmas.Bool.{cases_Bool, both_ways, false_from_ne_true}
-use Rattle.std.proofs.lemmas.List.{length-map}
-use Rattle.std.proofs.lemmas.Simd.{map-map}
-use Rattle.sqlite.specs.declared.types.Value.TheVariants.{Int, Text}
-use Rattle.sqlite.specs.Order.{Row, column}
-use Rattle.sqlite.specs.Program.{overlay}
-use Rattle.sqlite.specs.Query.{Output, IsAnswer}
-use Rattle.sqlite.specs.Schema.{Schema}
-use Rattle.sqlite.specs.State.{State, Shown}
-use Rattle.sqlite_rules.specs.Lists.{Has}
-use Rattle.sqlite_rules.proofs.ListLemmas.{contains_had, has_contained, has_filtered, has_kept}
-use Rattle.sqlite_sql.specs.Ops.{binary, is_true, from_truth}
-use Rattle.sqlite_trees.proofs.ListLemmas.{all_of, filter_all}
-use Rattle.sqlite_value.proofs.OrderLemmas.{value_cmp-Int}
+use Rattle.reg_tables.proofs.Kit.{unsigned_Decides, entries, get, IsUtf8, ◌<◌, ◌^◌, option_map, is_eq, nat_cmp, cases_Bool, both_ways, false_from_ne_true, length-map, map-map, Int, Text, Row, overlay, Output, IsAnswer, Schema, State, Shown, Has, contains_had, has_contained, has_filtered, has_kept, is_true, from_truth, all_of, filter_all, value_cmp-Int}
+use Rattle.sqlite.specs.Order.{column}
+use Rattle.sqlite_sql.specs.Ops.{binary}
 use Rattle.reg_tables.specs.Layout.{HasFiveTables}
 use Rattle.reg_tables.specs.TableMaps.{IsEntry}
 use Rattle.reg_tables.specs.Contents.{VersionEntryView, version_cells, version_cmp, version_form, Contents, AreReadable, HoldsContents}
@@ -52,7 +37,7 @@ whole row e is =
 pub can_be_held : (e : ListedVersionView) → IsUtf8 e.0.0 × (e.0.1 < 2 ^ 32) × (e.1.id < 2 ^ 32) → IsReadableListedVersion (listed_version_cells e)
 can_be_held e can = record { subject = e.0.0; number = e.0.1; version = e.1; is = refl; utf8 = can.0; low = can.1; low_id = can.2 }
 
--- the lines that were read are what the rows spell
+-- the values read are those of the rows
 keyed_lines : (es : List ListedVersionView) (found : List Row) → found ≡ map listed_version_cells es → (lines : List ListedVersion)
     → map (λ (row : Row). column row 0 ∷ column row 1 ∷ column row 2 ∷ column row 3 ∷ []) found ≡ map (λ (line : ListedVersion). listed_version_cells (listed_version_view line)) lines → map listed_version_view lines ≡ es
 keyed_lines es found is lines read = same_cells listed_version_cells distinct_keyed (map listed_version_view lines) es
@@ -101,7 +86,7 @@ module _ (old new : State) (schema : Schema) (contents : Contents) (h : HoldsCon
     pub all_readable : AreReadable contents → All IsReadableListedVersion found
     all_readable = readable_versions list_versions refl [] old new it found shown contents (five h first).versions (λ e. true) (λ row e is. refl) listed_version_cells whole IsReadableListedVersion can_be_held
 
--- ---- one of the id
+-- ---- one version of the id
 
 module _ (old new : State) (schema : Schema) (contents : Contents) (h : HoldsContents schema old.now contents) (first : HasFiveTables schema) (found : List Row) (id : ℕ) (shown : Shown find_one_of_id.sql (Int (pos id) ∷ []) old new found) where
   answer : IsAnswer (body_of find_one_of_id) (overlay old.now.trees []) (Int (pos id) ∷ []) found
@@ -145,7 +130,7 @@ module _ (old new : State) (schema : Schema) (contents : Contents) (h : HoldsCon
   pub readable_one : AreReadable contents → All IsReadableListedVersion found
   readable_one readable = all_if_each IsReadableListedVersion found (λ row there. let it = is_of row there in subst IsReadableListedVersion (sym it.3) (can_be_held it.0 (readable.versions it.0.0 it.0.1 it.1)))
 
--- ---- some of the id, and all where they are few
+-- ---- some versions of the id, and all if there are few
 
 module _ (old new : State) (schema : Schema) (contents : Contents) (h : HoldsContents schema old.now contents) (first : HasFiveTables schema) (found : List Row) (id : ℕ) (shown : Shown find_some_of_id.sql (Int (pos id) ∷ []) old new found) where
   some_answer : IsAnswer (body_of find_some_of_id) (overlay old.now.trees []) (Int (pos id) ∷ []) found

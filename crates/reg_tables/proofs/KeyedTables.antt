@@ -1,38 +1,10 @@
--- What the statements of one table make of the map that it shows, by the key of its rows.
+-- How the statements on one table change the map that its rows show.
 use Rattle.std.proofs.Common.{T, arith, ◌≤◌, ◌+◌, ◌≡◌, inl, ◌&&◌, ℕ, ℤ, length, map, drop, List, [], ◌∷◌, ◌/◌, Option, Some, None, Bool, true, false, cond, Ok, MatchOption, slice_get, refl, sym, ap, subst, ◌∙◌, Ordering, Less, Equal, Greater, pos, nat_le, ◌^◌}
-use Rattle.std.specs.Cmp.{int_cmp_is}
-use Rattle.std.specs.Prelude.{◌<ℤ◌, ◌<◌}
-use Rattle.std.specs.Ordering.{is_eq, nat_cmp, int_cmp, ordering_then, MatchOrdering}
-use Rattle.std.specs.FinMap.{FinMap, get, insert, remove, slice_cmp-IsAntisymmetric, nat_cmp-IsAntisymmetric, IsAntisymmetric}
-use Rattle.std.proofs.lemmas.Cmp.{ranked, nat_list_cmp_total, nat_cmp_total, on_total, then_total}
-use Rattle.std.proofs.lemmas.Bool.{lt-ltb, and_parts, not-true}
-use Rattle.sqlite.specs.declared.types.Value.{Value}
-use Rattle.sqlite.specs.declared.types.Value.TheVariants.{Null, Int, Text}
-use Rattle.sqlite.specs.Order.{Row, column}
-use Rattle.sqlite.specs.Tree.{Trees, put_row, rowid}
-use Rattle.sqlite.specs.View.{is_int}
-use Rattle.sqlite.specs.Kind.TheVariants.{Integer}
+use Rattle.reg_tables.proofs.Kit.{int_cmp_is, ◌<ℤ◌, ◌<◌, is_eq, nat_cmp, int_cmp, ordering_then, MatchOrdering, FinMap, get, remove, slice_cmp-IsAntisymmetric, nat_cmp-IsAntisymmetric, IsAntisymmetric, ranked, nat_list_cmp_total, nat_cmp_total, on_total, then_total, lt-ltb, and_parts, not-true, Value, Null, Int, Text, Row, Trees, put_row, rowid, is_int, Integer, cast, cast_row, ids_of, edit_of, is_taken, put_all, are_fresh, have_rowids, without_all, numbered, next_rowid, Chosen, Given, Term, col, eval_all, Table, Query, IsAnswer, overlay, Insert, Update, Delete, Select, Values, value_rows, stamped, State, Executes, Shown, understood, statement_of, runs_as, reads_as, value_cmp-Text, value_cmp-Int, is_true, from_truth, Program, Has, Schema}
+use Rattle.std.specs.FinMap.{insert}
+use Rattle.sqlite.specs.Order.{column}
 use Rattle.sqlite.specs.Ops.{unary}
-use Rattle.sqlite.specs.Cast.{cast, cast_row}
-use Rattle.sqlite_rules.specs.Calls.{ids_of}
-use Rattle.sqlite.specs.Edit.{edit_of, is_taken, put_all, are_fresh, have_rowids, without_all, numbered, next_rowid}
-use Rattle.sqlite.specs.Rowids.TheVariants.{Chosen, Given}
-use Rattle.sqlite.specs.Term.{Term, col, eval_all}
-use Rattle.sqlite.specs.Table.{Table}
-use Rattle.sqlite.specs.Query.{Query, IsAnswer}
-use Rattle.sqlite.specs.Program.{overlay}
-use Rattle.sqlite.specs.Command.TheVariants.{Insert, Update, Delete, Select}
-use Rattle.sqlite.specs.Source.TheVariants.{Values}
-use Rattle.sqlite.specs.Effect.{value_rows}
-use Rattle.sqlite.specs.Rows.{stamped}
-use Rattle.sqlite.specs.State.{State, Executes, Shown}
-use Rattle.sqlite.specs.Listing.{understood}
-use Rattle.sqlite.proofs.Callers.{statement_of, runs_as, reads_as}
-use Rattle.sqlite_value.proofs.OrderLemmas.{value_cmp-Text, value_cmp-Int}
-use Rattle.sqlite_sql.specs.Ops.{binary, is_true, from_truth}
-use Rattle.sqlite_schema.specs.declared.program.Program.{Program}
-use Rattle.sqlite_rules.specs.Lists.{Has}
-use Rattle.sqlite.specs.Schema.{Schema}
+use Rattle.sqlite_sql.specs.Ops.{binary}
 use Rattle.reg_tables.specs.TableMaps.{Form, IsEntry, ShowsMap}
 use Rattle.reg_tables.specs.Changes.{altered}
 use Rattle.reg_tables.specs.Rooms.{HasRoom}
@@ -47,7 +19,7 @@ use Rattle.reg_tables.proofs.RowLemmas.{FindsRowids, shows_inserted, shows_remov
 use Rattle.reg_tables.proofs.Statements.{by_text}
 use Rattle.reg_tables.proofs.Writes.{inserted, updated, deleted}
 
--- ---- values that a column keeps as they are
+-- ---- values that a column stores unchanged
 
 either : (b : Bool) (x : Value) → cond b x x ≡ x
 either true x = refl
@@ -69,7 +41,7 @@ text_order = record { total = nat_list_cmp_total; antisymmetric = slice_cmp-IsAn
 pub distinct_texts : (a b : List ℕ) → text_cells a ≡ text_cells b → a ≡ b
 distinct_texts a b h = cc
 
--- a row passes by its key
+-- a row passes if it has the key
 pub by_key_test : (row : Row) (k q : List ℕ) → column row 1 ∷ [] ≡ text_cells q → passes by_key (Text k ∷ []) row ≡ is_eq (text_cmp q k)
 unfolding binary
 by_key_test row k q is = let its : column row 1 ≡ Text q = cc in rw (its, value_cmp-Text q k) (truth (is_eq (text_cmp q k)))
@@ -78,7 +50,7 @@ by_key_test row k q is = let its : column row 1 ≡ Text q = cc in rw (its, valu
     truth true = refl
     truth false = refl
 
--- a row passes by its text
+-- a row passes if it has the text
 pub by_text_test : (row : Row) (k q : List ℕ) → column row 2 ∷ [] ≡ text_cells q → passes by_text (Text k ∷ []) row ≡ is_eq (text_cmp q k)
 unfolding binary
 by_text_test row k q is = let its : column row 2 ≡ Text q = cc in rw (its, value_cmp-Text q k) (truth (is_eq (text_cmp q k)))
@@ -115,7 +87,7 @@ distinct_versions a b h =
 pub cast-flag : (b : Bool) → cast Integer (flag_cell b) ≡ flag_cell b
 cast-flag b = cast-Int (cond b (pos 1) (pos 0))
 
--- integers that are no less than 0 are ordered as numbers
+-- integers that are at least 0 are ordered as natural numbers
 pub int_order : (a b : ℕ) → int_cmp (pos a) (pos b) ≡ nat_cmp a b
 int_order a b = sym (int_cmp_is (pos a) (pos b) (nat_cmp a b) (go (nat_cmp a b) (ranked a b (nat_cmp a b) refl)))
   where
@@ -127,7 +99,7 @@ int_order a b = sym (int_cmp_is (pos a) (pos b) (nat_cmp a b) (go (nat_cmp a b) 
 pub same_pos : (q k : ℕ) → is_eq (int_cmp (pos q) (pos k)) ≡ is_eq (nat_cmp q k)
 same_pos q k = ap is_eq (int_order q k)
 
--- a row passes by its rowid
+-- a row passes if it has the rowid
 pub by_id_test : (row : Row) (k q : ℕ) → rowid row ∷ [] ≡ number_cells q → passes by_id (Int (pos k) ∷ []) row ≡ is_eq (nat_cmp q k)
 unfolding binary
 by_id_test row k q is = let its : rowid row ≡ Int (pos q) = cc in rw (its, value_cmp-Int (pos q) (pos k), same_pos q k) (truth (is_eq (nat_cmp q k)))
@@ -136,7 +108,7 @@ by_id_test row k q is = let its : rowid row ≡ Int (pos q) = cc in rw (its, val
     truth true = refl
     truth false = refl
 
--- a row passes by its subject and its number
+-- a row passes if it has the subject and the number
 pub by_version_test : (row : Row) (k q : List ℕ × ℕ) → column row 1 ∷ column row 2 ∷ [] ≡ version_key_cells q → passes by_version (Text k.0 ∷ Int (pos k.1) ∷ []) row ≡ is_eq (version_cmp q k)
 unfolding binary
 by_version_test row k q is =
@@ -165,26 +137,26 @@ with_nothing db tree = rw (no_table (nat_le (2 ^ 31) tree))
     no_table true = refl
     no_table false = refl
 
--- a row that has its rowid keeps it
+-- a row keeps a rowid that it already has
 pub given_as_is : (rows news : List Row) → numbered Given rows news ≡ news
 given_as_is rows [] = refl
 given_as_is rows (r ∷ news) = ap (λ l. r ∷ l) (given_as_is (put_row r rows) news)
 
--- what a row that is put in has
+-- the cells of an inserted row
 pub record IsRowOf {K V : Type 0} (form : Form K V) (row : Row) (key : K) (value : V) : Type 0 where
   pub has_id : is_int (rowid row) ≡ true
   pub has_key : form.key_of row ≡ form.key_cells key
   pub has_value : form.value_of row ≡ form.value_cells value
 
--- the rows that pass are found, and there is one at most
+-- the query finds the rows that pass, at most one
 pub record FindsLayoutOne (p : Row → Bool) (rest : Row → Row) (rows found : List Row) : Type 0 where
   pub finds : FindsRowids p rest rows found
   pub few : length found ≤ 1
 
--- a query that tests the key
+-- the rows that a query by key finds
 module _ {K V : Type 0} (form : Form K V) (R : K → K → Ordering) (order : IsKeyOrder R) (db : Trees) (tree : ℕ) (m : FinMap R V) (shows : ShowsMap form (db tree) (get m)) (k : K) (tests : List Term) (params : Row)
     (test : (row : Row) (q : K) → form.key_of row ≡ form.key_cells q → passes tests params row ≡ is_eq (R q k)) where
-  -- a row that passes is the key's
+  -- a row that passes has the key
   pub own_row : (row : Row) → Has (db tree) row → passes tests params row ≡ true → (v : V) × (get m k ≡ Some v) × IsEntry form row k v
   own_row row there is =
       let entry = shows.sound row there in
@@ -232,7 +204,7 @@ module _ (schema : Schema) {K V : Type 0} (form : Form K V) (R : K → K → Ord
       let rows : new.now.trees table.tree ≡ put_row new_row (db table.tree) = step.applies.rows ∙ ap (put_all (db table.tree)) news in
       subst (λ r. HasRoom r n) (sym rows) (room_after (db table.tree) n room new_row its)
 
-  -- the query of the DELETE tests the key
+  -- the DELETE finds its rows by key
   pub removes : HasNoForeignKeyAction schema table.tree → (tests : List Term) → IsCommand schema sql (Delete at (record { lets = []; body = plain_query table.tree tests (col 1 0 ∷ []) }))
       → ((row : Row) (q : K) → form.key_of row ≡ form.key_cells q → passes tests params row ≡ is_eq (R q k)) → Executes sql params old new (Ok count)
       → ReplacesMap schema form table.tree old.now new.now (get (remove m k))
@@ -255,7 +227,7 @@ module _ (schema : Schema) {K V : Type 0} (form : Form K V) (R : K → K → Ord
         others = step.applies.tables;
       }
 
-  -- the query of the UPDATE tests the key, and shows the rowid and then the new row
+  -- the UPDATE finds its rows by key, and returns the rowid and then the new row
   pub alters : HasNoUpdateAction schema table → (tests shown : List Term) (change : V → V) → IsCommand schema sql (Update at (record { lets = []; body = plain_query table.tree tests (col 1 0 ∷ shown) }))
       → ((row : Row) (q : K) → form.key_of row ≡ form.key_cells q → passes tests params row ≡ is_eq (R q k))
       → ((row : Row) (v : V) → IsEntry form row k v → IsEntry form (cast_row table (eval_all shown (params ∷ row ∷ []))) k (change v)) → Executes sql params old new (Ok count)
@@ -288,18 +260,18 @@ module _ (schema : Schema) {K V : Type 0} (form : Form K V) (R : K → K → Ord
         others = step.applies.tables;
       }
 
--- ---- a look-up by the key
+-- ---- a lookup by key
 
--- the rows that a look-up shows are the value of the key, if it has one
+-- a lookup returns the row of the key's value, or no row
 pub record FindsValue {K V : Type 0} (form : Form K V) (value : Option V) (found : List Row) : Type 0 where
   pub sound : (x : Row) → Has found x → (v : V) × (value ≡ Some v) × (x ≡ form.value_cells v)
   pub complete : (v : V) → value ≡ Some v → Has found (form.value_cells v)
 
--- what a query shows is its answer
+-- the returned rows are the query's result
 pub select_answered : (sql : List ℕ) (names : List (List ℕ)) (body : Query) (params : Row) (old new : State) → IsSelect sql names body old.now.schema → (found : List Row) → Shown sql params old new found → IsAnswer body (overlay old.now.trees []) params found
 select_answered sql names body params old new it found h = (reads_as sql params old new old.now.schema refl (Select (record { lets = []; body = body }) names) it.command.is it.command.plain it.unlisted found h).answer Null
 
--- what is shown is what passes
+-- the returned rows are those that pass
 module _ (q : TableQuery) (params : Row) (old new : State) (it : IsQuery q old.now.schema) (found : List Row) (h : Shown q.sql params old new found) where
   pub answered : IsAnswer (body_of q) (overlay old.now.trees []) params found
   answered = select_answered q.sql q.names (body_of q) params old new it found h
@@ -334,7 +306,7 @@ pub none_of : {X : Type 0} (o : Option X) → ((x : X) → o ≡ Some x → ⊥)
 none_of None f = refl
 none_of (Some x) f = absurd (f x refl)
 
--- by the first of the rows
+-- the value in the first returned row
 pub first_found : {K V : Type 0} (form : Form K V) (value : Option V) (found : List Row) → FindsValue form value found → (o : Option Row) → o ≡ slice_get found 0
     → MatchOption o (value ≡ None) (λ row. (v : V) × (value ≡ Some v) × (row ≡ form.value_cells v))
 first_found form value [] f None is = none_of value (λ v there. f.complete v there)

@@ -1,19 +1,7 @@
--- What a put and a drop make of a table that has one row for each key, and why they fail.
+-- How inserting and deleting by key change a table, and why they fail.
 use Rattle.std.proofs.Common.{subst, sym, ◌≡◌, ◌⊎◌, inl, inr, ◌+◌, ℕ, true, List, [], ◌∷◌, Option, Ok, Err, refl, ap, ◌∙◌}
-use Rattle.std.specs.Prelude.{IsTrue}
-use Rattle.std.specs.FinMap.{get, insert, remove}
-use Rattle.sqlite.specs.Order.{Row}
-use Rattle.sqlite.specs.Schema.{Schema}
-use Rattle.sqlite.specs.Edit.{next_rowid}
-use Rattle.sqlite.specs.Table.{Table}
-use Rattle.sqlite.specs.State.{State, Executes, ExecutesInside}
-use Rattle.sqlite.specs.declared.error.Error.{Error}
-use Rattle.sqlite_schema.specs.Rules.{agree, guards}
-use Rattle.sqlite_rules.specs.Lists.{Has}
-use Rattle.sqlite_schema.specs.declared.schema.Index.{Index}
-use Rattle.sqlite_rules.specs.Edit.{IsOversized}
-use Rattle.sqlite_rules.proofs.ListLemmas.{all_from}
-use Rattle.sqlite_rules.proofs.TableLemmas.{put_all_has, put_all_keeps}
+use Rattle.reg_tables.proofs.Kit.{IsTrue, get, remove, Row, Schema, next_rowid, Table, State, Executes, ExecutesInside, Error, agree, guards, Has, Index, IsOversized, all_from, put_all_has, put_all_keeps}
+use Rattle.std.specs.FinMap.{insert}
 use Rattle.reg_tables.specs.FailedCalls.{IsFault, IsInsertFault}
 use Rattle.reg_tables.specs.Rooms.{HasRoom}
 use Rattle.reg_tables.specs.Contents.{TableName, ordinal_of, table_in, KeyOf, ValueOf, cmp_of, form_of, MapOf, map_of, with_map, Contents, ShowsIn, HoldsContents}
@@ -30,7 +18,7 @@ use Rattle.reg_tables.proofs.MapLemmas.{get-remove-same, insert-remove}
 the_one : (rows : List Row) (r row : Row) → rows ≡ row ∷ [] → Has rows r → r ≡ row
 the_one rows r row is there = elim (subst (λ l. Has l r) is there) [ inl same ↦ same | inr none ↦ absurd none ]
 
--- a key that was dropped is free, and a put then sets its value
+-- after a delete the key is free, so that an insert sets its value
 pub free_once_dropped : (name : TableName) (contents : Contents) (key : KeyOf name) → IsFreeKey name key (without_entry name key contents)
 free_once_dropped name contents key = ap (λ m. get m key) (its_map name (remove (map_of name contents) key) contents) ∙ get-remove-same (cmp_of name) (key_laws name).order (map_of name contents) key
 
@@ -44,7 +32,7 @@ module _ (schema : Schema) (name : TableName) (its : IsKeyed schema name) where
   abbrev table : Table
   table = table_in schema name
 
-  -- rows that agree where an index guards the table have one key
+  -- rows that agree on a unique index have the same key
   same_entry : (i : Index) → Has schema.indexes i → guards i table ≡ true → (a b : Row) (q k : KeyOf name) → (form_of name).key_of a ≡ (form_of name).key_cells q → (form_of name).key_of b ≡ (form_of name).key_cells k → agree i.order i.columns a i.columns b ≡ true → q ≡ k
   same_entry i known on a b q k of_a of_b same = its.agrees a b q k of_a of_b (on_columns schema.indexes table table.primary its.guarded i known on a b same)
 

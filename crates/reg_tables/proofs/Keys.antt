@@ -1,14 +1,9 @@
 -- The keys and the values of each table, and how rows are found by their keys.
 use Rattle.std.proofs.Common.{◌≡◌, ◌&&◌, ℕ, pos, List, [], ◌∷◌, Bool, true, false, Some, refl, sym, ◌∙◌, Ordering, Less, Equal, Greater}
-use Rattle.std.specs.Ordering.{is_eq, nat_cmp, ordering_then}
-use Rattle.std.specs.FinMap.{IsAntisymmetric, nat_cmp-IsAntisymmetric}
-use Rattle.std.proofs.lemmas.Cmp.{nat_cmp_total, on_total, then_total}
-use Rattle.sqlite.specs.declared.types.Value.TheVariants.{Int, Text}
-use Rattle.sqlite.specs.Order.{Row, column}
-use Rattle.sqlite_schema.specs.Rules.{agree}
-use Rattle.sqlite_sql.specs.Ops.{binary, is_true, from_truth}
+use Rattle.reg_tables.proofs.Kit.{is_eq, nat_cmp, ordering_then, IsAntisymmetric, nat_cmp-IsAntisymmetric, nat_cmp_total, on_total, then_total, Int, Text, Row, agree, is_true, from_truth, value_cmp-Int, value_cmp-Text}
+use Rattle.sqlite.specs.Order.{column}
+use Rattle.sqlite_sql.specs.Ops.{binary}
 use Rattle.sqlite_value.specs.Keys.{first_key}
-use Rattle.sqlite_value.proofs.OrderLemmas.{value_cmp-Int, value_cmp-Text}
 use Rattle.reg_tables.specs.Contents.{text_cmp, version_cmp, PositionKey, position_cmp, position_cells, VersionEntryView, KeptReplyView, text_cells, number_cells, version_key_cells, flag_cell, version_cells, kept_cells, against_form, TableName, Texts, Versions, Levels, Kept, Meta, Modes, Evidence, Against, KeyOf, ValueOf, cmp_of, form_of}
 use Rattle.reg_tables.specs.Inside.Statements.{by_position}
 use Rattle.reg_tables.specs.Inside.Keyed.{tests_of}
@@ -17,10 +12,10 @@ use Rattle.reg_tables.proofs.MapLemmas.{same_key, tied_key}
 use Rattle.reg_tables.proofs.Queries.{passes}
 use Rattle.reg_tables.proofs.KeyedTables.{text_order, distinct_texts, by_key_test, number_order, distinct_numbers, by_id_test, version_order, distinct_versions, by_version_test, same_pos}
 
--- ---- places
+-- ---- positions
 
-same_places : IsAntisymmetric position_cmp
-same_places a b h = go (version_cmp a.0 b.0) refl h
+same_positions : IsAntisymmetric position_cmp
+same_positions a b h = go (version_cmp a.0 b.0) refl h
   where
     go : (o : Ordering) → version_cmp a.0 b.0 ≡ o → ordering_then o (nat_cmp a.1 b.1) ≡ Equal → a ≡ b
     go Less e h = absurd (cc)
@@ -28,7 +23,7 @@ same_places a b h = go (version_cmp a.0 b.0) refl h
     go Greater e h = absurd (cc)
 
 pub position_order : IsKeyOrder position_cmp
-position_order = record { total = then_total (on_total (λ (key : PositionKey). key.0) version_order.total) (on_total (λ (key : PositionKey). key.1) nat_cmp_total); antisymmetric = same_places }
+position_order = record { total = then_total (on_total (λ (key : PositionKey). key.0) version_order.total) (on_total (λ (key : PositionKey). key.1) nat_cmp_total); antisymmetric = same_positions }
 
 pub distinct_positions : (a b : PositionKey) → position_cells a ≡ position_cells b → a ≡ b
 distinct_positions a b h =
@@ -37,7 +32,7 @@ distinct_positions a b h =
     let position : a.1 ≡ b.1 = cc in
     λ i. ((subject i, number i), position i)
 
--- a row passes by its subject, its number and its position
+-- a row passes if it has the subject, the number and the position
 by_position_test : (row : Row) (k q : PositionKey) → against_form.key_of row ≡ position_cells q → passes by_position (position_cells k) row ≡ is_eq (position_cmp q k)
 unfolding binary
 by_position_test row k q is =
@@ -117,7 +112,7 @@ key_columns Modes = 1 ∷ []
 key_columns Evidence = 1 ∷ 2 ∷ []
 key_columns Against = 1 ∷ 2 ∷ 3 ∷ []
 
--- the key's columns tell a row's key, which the tests test, and the other columns its value
+-- a row's key is in the key columns, which the tests compare, and its value is in the others
 pub record HasKey (name : TableName) : Type 0 where
   pub order : IsKeyOrder (cmp_of name)
   pub distinct : (a b : KeyOf name) → (form_of name).key_cells a ≡ (form_of name).key_cells b → a ≡ b
@@ -135,10 +130,10 @@ key_laws Modes = record { order = text_order; distinct = distinct_texts; distinc
 key_laws Evidence = record { order = version_order; distinct = distinct_versions; distinct_values = distinct_texts; test = λ row k q is. by_version_test row k q is; tied = λ a b q k x y. versions_tied a b q k x y }
 key_laws Against = record { order = position_order; distinct = distinct_positions; distinct_values = distinct_numbers; test = λ row k q is. by_position_test row k q is; tied = λ a b q k x y. positions_tied a b q k x y }
 
--- rows that agree on their keys have one
+-- rows that agree on their key columns have the same key
 pub one_key : (name : TableName) (a b : Row) (q k : KeyOf name) → (form_of name).key_of a ≡ (form_of name).key_cells q → (form_of name).key_of b ≡ (form_of name).key_cells k → agree (record { digits = 0 }) (key_columns name) a (key_columns name) b ≡ true → q ≡ k
 one_key name a b q k of_a of_b same = same_key (cmp_of name) (key_laws name).order q k (sym ((key_laws name).tied a b q k of_a of_b) ∙ same)
 
--- and rows of one key agree
+-- rows with the same key agree on their key columns
 pub keys_agree : (name : TableName) (a b : Row) (q : KeyOf name) → (form_of name).key_of a ≡ (form_of name).key_cells q → (form_of name).key_of b ≡ (form_of name).key_cells q → agree (record { digits = 0 }) (key_columns name) a (key_columns name) b ≡ true
 keys_agree name a b q of_a of_b = (key_laws name).tied a b q q of_a of_b ∙ tied_key (cmp_of name) (key_laws name).order q q refl

@@ -1,22 +1,7 @@
--- The greatest id, as the query of it shows it.
+-- The query of the greatest id returns it.
 use Rattle.std.proofs.Common.{◌≡◌, ◌≤◌, inl, inr, ℕ, pos, List, [], ◌∷◌, map, take, Option, None, Some, MatchOption, slice_get, false, Ordering, Less, Equal, Greater, refl, sym, ap, subst, ◌∙◌, arith}
-use Rattle.std.specs.Prelude.{IsSome}
-use Rattle.std.specs.Cmp.{IsTotalOrder}
-use Rattle.std.specs.FinMap.{get}
-use Rattle.std.specs.List.Sorted.{IsSorted}
-use Rattle.std.specs.Ordering.{is_gt, nat_cmp, ordering_then}
-use Rattle.std.proofs.lemmas.Cmp.{on_total}
-use Rattle.std.proofs.lemmas.Map.Keys.{le_from_not_gt}
-use Rattle.sqlite.specs.Order.{Row, column}
-use Rattle.sqlite.specs.Program.{overlay}
-use Rattle.sqlite.specs.Query.{Output, IsAnswer, output_cmp}
-use Rattle.sqlite.specs.Schema.{Schema}
-use Rattle.sqlite.specs.State.{State, Shown}
-use Rattle.sqlite.specs.Term.{Term}
-use Rattle.sqlite_rules.specs.Lists.{Has}
-use Rattle.sqlite_rules.proofs.ListLemmas.{all_has}
-use Rattle.sqlite_value.specs.declared.keys.Key.{Key}
-use Rattle.sqlite_value.proofs.OrderLemmas.{value_cmp-Int}
+use Rattle.reg_tables.proofs.Kit.{IsSome, IsTotalOrder, get, IsSorted, is_gt, nat_cmp, ordering_then, on_total, le_from_not_gt, Row, overlay, Output, IsAnswer, output_cmp, Schema, State, Shown, Term, Has, all_has, Key, value_cmp-Int}
+use Rattle.sqlite.specs.Order.{column}
 use Rattle.reg_tables.specs.Layout.{HasFiveTables}
 use Rattle.reg_tables.specs.Contents.{number_cells, Contents, HoldsContents}
 use Rattle.reg_tables.specs.Inside.Statements.{body_of}
@@ -37,7 +22,7 @@ module _ (old new : State) (schema : Schema) (contents : Contents) (h : HoldsCon
   abbrev out : ℕ → Output
   out id = (number_cells id, number_cells id)
 
-  -- what is ordered are the ids
+  -- the ids are ordered
   is_id : (o : Output) → Has answer.ordered o → (id : ℕ) × IsSome (get contents.texts id) × (o ≡ out id)
   is_id o there =
       let r = ordered_has [] [] 0 find_last.shown find_last.order find_last.limit (overlay old.now.trees []) found answer o there in
@@ -51,7 +36,7 @@ module _ (old new : State) (schema : Schema) (contents : Contents) (h : HoldsCon
       subst (Has answer.ordered) (λ i. (r.2.0 i, r.2.0 i))
       (has_ordered [] [] 0 find_last.shown find_last.order find_last.limit (overlay old.now.trees []) found answer r.0 (subst (λ l. Has l r.0) (sym (with_nothing old.now.trees 0)) r.1) refl)
 
-  -- from the greatest on
+  -- in descending order
   no_greater : (id other : ℕ) → is_gt (cmp (out id) (out other)) ≡ false → other ≤ id
   no_greater id other below = le_from_not_gt other id (alone (nat_cmp other id) (rw (value_cmp-Int (pos other) (pos id), int_order other id) at below))
     where

@@ -1,26 +1,9 @@
--- The last version that passes, as a query from the greatest on shows it.
+-- A query in descending order returns the last version that passes its tests.
 use Rattle.std.proofs.Common.{◌≡◌, ◌&&◌, ◌==◌, ℕ, pos, List, [], ◌∷◌, map, take, reverse, filter, All, Bool, true, false, not, cond, Option, None, Some, slice_get, Less, refl, sym, ap, subst, ◌∙◌}
-use Rattle.std.specs.Prelude.{◌||◌, bytes_eq, IsUtf8, ◌<◌, ◌^◌, option_map}
-use Rattle.std.specs.List.{AllByRecursion, last_or}
-use Rattle.std.specs.FinMap.{entries, get}
-use Rattle.std.specs.Ordering.{is_eq, is_le, int_cmp, nat_cmp}
+use Rattle.reg_tables.proofs.Kit.{◌||◌, bytes_eq, IsUtf8, ◌<◌, ◌^◌, option_map, AllByRecursion, last_or, entries, get, is_eq, is_le, int_cmp, nat_cmp, slice_get-map, map-map, Int, Text, Row, overlay, Output, IsAnswer, key_cmp, State, Shown, Schema, Term, eval_all, IsAscending, Has, has_filtered, has_kept, is_true, from_truth, all_of, all_both, ascending-filter, ascending_weaker, filter-map, Key, value_cmp-Int, value_cmp-Text}
 use mathlib.Core.List.{reverse_aux}
-use Rattle.std.proofs.lemmas.Option.{slice_get-map}
-use Rattle.std.proofs.lemmas.Simd.{map-map}
-use Rattle.sqlite.specs.declared.types.Value.TheVariants.{Int, Text}
-use Rattle.sqlite.specs.Order.{Row, column}
-use Rattle.sqlite.specs.Program.{overlay}
-use Rattle.sqlite.specs.Query.{Output, IsAnswer, key_cmp}
-use Rattle.sqlite.specs.State.{State, Shown}
-use Rattle.sqlite.specs.Schema.{Schema}
-use Rattle.sqlite.specs.Term.{Term, eval_all}
-use Rattle.sqlite.specs.Tree.{IsAscending}
-use Rattle.sqlite_rules.specs.Lists.{Has}
-use Rattle.sqlite_rules.proofs.ListLemmas.{has_filtered, has_kept}
-use Rattle.sqlite_sql.specs.Ops.{binary, is_true, from_truth}
-use Rattle.sqlite_trees.proofs.ListLemmas.{all_of, all_both, ascending-filter, ascending_weaker, filter-map}
-use Rattle.sqlite_value.specs.declared.keys.Key.{Key}
-use Rattle.sqlite_value.proofs.OrderLemmas.{value_cmp-Int, value_cmp-Text}
+use Rattle.sqlite.specs.Order.{column}
+use Rattle.sqlite_sql.specs.Ops.{binary}
 use Rattle.reg_tables.specs.Layout.{HasFiveTables}
 use Rattle.reg_tables.specs.TableMaps.{IsEntry, ShowsMap}
 use Rattle.reg_tables.specs.Contents.{text_cmp, version_cmp, version_key_cells, version_form, flag_cell, Contents, AreReadable, HoldsContents}
@@ -71,14 +54,14 @@ filter_both q p (x ∷ xs) =
     elim (p x) as (λ b. filter q (cond b (x ∷ filter p xs) (filter p xs)) ≡ cond (b && q x) (x ∷ filter (λ y. p y && q y) xs) (filter (λ y. p y && q y) xs))
     [ true ↦ ap (λ l. cond (q x) (x ∷ l) l) (filter_both q p xs) | false ↦ filter_both q p xs ]
 
--- values are told apart by their cells
+-- values with the same cells are equal
 pub same_shown : {A : Type 0} (f : A → Row) → ((a b : A) → f a ≡ f b → a ≡ b) → (a b : Option A) → option_map f a ≡ option_map f b → a ≡ b
 same_shown f distinct None None h = refl
 same_shown f distinct None (Some b) h = absurd (cc)
 same_shown f distinct (Some a) None h = absurd (cc)
 same_shown f distinct (Some a) (Some b) h = let first : f a ≡ f b = cc in ap Some (distinct a b first)
 
--- the query shows its columns of the last version that passes
+-- the query returns its columns of the last version that passes
 module _ (q : TableQuery) (ordered : body_of q ≡ ordered_query 2 q.tests q.shown from_greatest first_row) (params : Row) (old new : State) (it : IsQuery q old.now.schema) (found : List Row) (h : Shown q.sql params old new found) (contents : Contents)
     (shows : ShowsMap version_form (old.now.trees 2) (get contents.versions)) (p : Entry → Bool) (test : (row : Row) (e : Entry) → IsEntry version_form row e.0 e.1 → passes q.tests params row ≡ p e) (cells : Entry → Row)
     (whole : (row : Row) (e : Entry) → IsEntry version_form row e.0 e.1 → eval_all q.shown (params ∷ row ∷ []) ≡ cells e) where
@@ -108,7 +91,7 @@ module _ (q : TableQuery) (ordered : body_of q ≡ ordered_query 2 q.tests q.sho
       ap (λ (l : List Row). slice_get l 0) first_of_reversed ∙ first_taken (map cells (reverse passed)) ∙ slice_get-map cells (reverse passed) 0
       ∙ ap (option_map cells) (first_onto passed [])
 
-  -- of readable contents what is shown is readable
+  -- over readable contents the returned rows are readable
   pub readable_last : (is_readable : Row → Type 0) → ((e : Entry) → IsUtf8 e.0.0 × (e.0.1 < 2 ^ 32) × (e.1.id < 2 ^ 32) → is_readable (cells e)) → AreReadable contents → All is_readable found
   readable_last is_readable can readable = all_if_each is_readable found (λ x there.
       let e = has_mapped cells (reverse passed) x (has_taken 1 (map cells (reverse passed)) x (subst (λ l. Has l x) first_of_reversed there)) in
@@ -120,11 +103,11 @@ module _ (q : TableQuery) (ordered : body_of q ≡ ordered_query 2 q.tests q.sho
 abbrev pub entry_version : Entry → SubjectVersionView
 entry_version e = (e.0.1, e.1)
 
--- what a line reads of a row
+-- the columns that are read from a row
 abbrev pub line_columns : Row → Row
 line_columns row = column row 0 ∷ column row 1 ∷ column row 2 ∷ []
 
--- the line that was read is what the row spells
+-- the value read is the row's
 numbered_line : (es : List Entry) (found : List Row) → slice_get found 0 ≡ option_map entry_cells (last_or None es) → (line : Option SubjectVersion)
     → option_map line_columns (slice_get found 0) ≡ option_map (λ (line : SubjectVersion). subject_version_cells (subject_version_view line)) line
     → option_map subject_version_view line ≡ last_or None (map entry_version es)
@@ -132,7 +115,7 @@ numbered_line es found is line read = same_shown subject_version_cells distinct_
     (map_twice subject_version_cells subject_version_view line ∙ sym read ∙ ap (option_map line_columns) is ∙ map_twice line_columns entry_cells (last_or None es)
     ∙ sym (map_twice subject_version_cells entry_version (last_or None es)) ∙ ap (option_map subject_version_cells) (sym (last_mapped entry_version None es)))
 
--- a row passes by its subject and its mark
+-- a row passes by its subject and its deleted flag
 by_live_subject : (subject : List ℕ) (row : Row) (e : Entry) → IsEntry version_form row e.0 e.1 → passes by_live_key (Text subject ∷ []) row ≡ (bytes_eq e.0.0 subject && not e.1.deleted)
 unfolding binary
 by_live_subject subject row e is =
@@ -147,7 +130,7 @@ by_live_subject subject row e is =
     truth false true = refl
     truth false false = refl
 
--- and by its id
+-- likewise, and by its id
 by_shown_subject : (subject : List ℕ) (id : ℕ) (deleted : Bool) (row : Row) (e : Entry) → IsEntry version_form row e.0 e.1
     → passes by_shown_id (Text subject ∷ Int (pos id) ∷ flag_cell deleted ∷ []) row ≡ (bytes_eq e.0.0 subject && ((deleted || not e.1.deleted) && (e.1.id == id)))
 unfolding binary

@@ -1,23 +1,9 @@
--- The tables that rows are put into: those of layout 2, and `meta` of layout 1, as it is made.
+-- The tables that take rows: those of layout 2, and `meta` of layout 1 while it is made.
 use Rattle.std.proofs.Common.{◌≡◌, ◌≤◌, ◌+◌, inl, inr, ℕ, pos, List, [], ◌∷◌, ◌&&◌, ◌==◌, length, Bool, true, false, cond, Option, None, Some, refl, sym, ap, subst, subst₂, arith, lit≤, ◌∙◌}
-use Rattle.std.specs.Prelude.{String, string_bytes, IsSome, is_some}
-use Rattle.std.specs.declared.alloc.Global.{Global}
-use Rattle.std.specs.FinMap.{get}
-use Rattle.std.specs.List.{AllByRecursion}
-use Rattle.std.specs.Ordering.{nat_cmp}
-use Rattle.std.proofs.lemmas.Bool.{and_parts, or_right}
-use Rattle.sqlite.specs.declared.types.Value.TheVariants.{Text, Int}
-use Rattle.sqlite.specs.Order.{Row, column}
-use Rattle.sqlite.specs.Tree.{Trees}
-use Rattle.sqlite.specs.Schema.{Schema}
-use Rattle.sqlite_schema.specs.declared.schema.Among.TheVariants.{All}
-use Rattle.sqlite_schema.specs.declared.schema.Action.TheVariants.{NoAction}
-use Rattle.sqlite_schema.specs.declared.schema.Index.{Index}
+use Rattle.reg_tables.proofs.Kit.{String, string_bytes, IsSome, is_some, Global, get, AllByRecursion, nat_cmp, and_parts, or_right, Text, Int, Row, Trees, Schema, All, NoAction, Index, agree, Refers, plain, Has, some_from}
+use Rattle.sqlite.specs.Order.{column}
 use Rattle.sqlite_schema.specs.Names.{same_name}
-use Rattle.sqlite_schema.specs.Rules.{agree, Refers}
-use Rattle.sqlite_value.specs.Keys.{plain, joined, first_key}
-use Rattle.sqlite_rules.specs.Lists.{Has}
-use Rattle.sqlite_rules.proofs.ListLemmas.{some_from}
+use Rattle.sqlite_value.specs.Keys.{joined, first_key}
 use Rattle.reg_tables.specs.declared.kept.KeptReply.{KeptReply}
 use Rattle.reg_tables.specs.declared.versions.VersionEntry.{VersionEntry}
 use Rattle.reg_tables.specs.Layout.{five_tables_then, layout_one, meta, added_tables, IsLayoutTwo, TakesMeta}
@@ -35,11 +21,11 @@ pub value_of : {X : Type 0} (o : Option X) → IsSome o → (x : X) × (o ≡ So
 value_of None h = absurd (cc)
 value_of (Some x) h = (x, refl)
 
--- a row of the version's key is its parent
+-- the row with the version's key is the parent
 pub version_there : (parents : List Row) (s row : Row) (key : List ℕ × ℕ) → Has parents s → column s 1 ∷ column s 2 ∷ [] ≡ version_key_cells key → column row 1 ∷ column row 2 ∷ [] ≡ version_key_cells key → has_version parents row ≡ true
 version_there parents s row key there is its = or_right _ _ (some_from (λ parent. agree plain (1 ∷ 2 ∷ []) parent (1 ∷ 2 ∷ []) row) parents s there (keys_agree Versions s row key is its))
 
--- the row of an id is the text of a row that names it
+-- the text with the id is the parent of a row with that id
 pub text_there : (place : ℕ) (texts : List Row) (text row : Row) (id : ℕ) → Has texts text → column text 0 ∷ [] ≡ number_cells id → column row place ≡ Int (pos id) → has_text_at place texts row ≡ true
 unfolding first_key
 text_there place texts text row id there is its =
@@ -155,7 +141,7 @@ evidence_keyed = in_layout_two (λ schema. IsKeyed schema Evidence) evidence_in
 pub against_keyed : (schema : Schema) → IsLayoutTwo schema → IsKeyed schema Against
 against_keyed = in_layout_two (λ schema. IsKeyed schema Against) against_in
 
--- ---- `meta`, in layout 1 too
+-- ---- `meta` in both layouts
 
 abbrev VersionsRefer : List Row → List Row → Type 0
 VersionsRefer texts rows = AllByRecursion (λ row. (has_text_at 3 texts row && true) ≡ true) rows
@@ -189,8 +175,8 @@ one_keyed = record {
   put_refers = λ db contents h key value refers row is next others came stays. one_refers db.trees next others;
 }
 
-pub one_idle : (tree : ℕ) → HasNoForeignKeyAction layout_one tree
-one_idle tree olds news = rw (no_action (length news == 0)) refl
+pub one_no_action : (tree : ℕ) → HasNoForeignKeyAction layout_one tree
+one_no_action tree olds news = rw (no_action (length news == 0)) refl
   where
     no_action : (b : Bool) → cond b NoAction NoAction ≡ NoAction
     no_action true = refl
@@ -203,7 +189,7 @@ in_both P first each schema (inr second) = in_layout_two P each schema second
 pub meta_keyed : (schema : Schema) → TakesMeta schema → IsKeyed schema Meta
 meta_keyed = in_both (λ schema. IsKeyed schema Meta) one_keyed meta_in
 
--- ---- the lines that hold a value's columns
+-- ---- the values that are read from a row
 
 pub text_is_read : (found : String Global) (value : List ℕ) → column (text_cells value) 0 ∷ [] ≡ text_cells (string_bytes found) → string_bytes found ≡ value
 text_is_read found value is = let same : Text value ≡ Text (string_bytes found) = cc in cc

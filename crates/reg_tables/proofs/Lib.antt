@@ -1,3 +1,4 @@
+pub mod Kit
 pub mod ListMembers
 pub mod Queries
 pub mod MapLemmas

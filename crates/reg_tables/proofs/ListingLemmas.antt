@@ -1,22 +1,7 @@
--- Between the list of a table's rows and the map that the table shows: a list whose rowids and keys are distinct is that of a map, and the list of a map is such a list.
+-- A list with distinct rowids and keys is the list of a map, and the list of a map is such a list.
 use Rattle.std.proofs.Common.{◌≡◌, ◌≢◌, inl, inr, ℤ, List, [], ◌∷◌, map, Option, Some, None, Bool, false, cond, refl, sym, ap, subst, ◌∙◌, Ordering, Less, Equal, Greater}
-use Rattle.std.specs.Ordering.{is_eq, int_cmp, eq_by_cmp, ordering_reverse}
-use Rattle.std.specs.FinMap.{FinMap, get, from_entries, get-from_entries, find, same_map}
-use Rattle.std.specs.List.{IsDistinct, AllByRecursion}
-use Rattle.std.specs.List.Sorted.{IsPermutation}
-use Rattle.std.proofs.lemmas.List.Sorted.{IsPermutation-sym, IsPermutation-map}
-use Rattle.std.proofs.lemmas.Map.Keys.{IsDistinct-IsPermutation}
-use Rattle.std.proofs.lemmas.Cmp.{tied_itself, int_cmp_total}
-use Rattle.std.proofs.lemmas.Bool.{cases_Bool, both_ways}
-use Rattle.std.proofs.lemmas.Simd.{map-map}
-use Rattle.sqlite.specs.declared.types.Value.{Value}
-use Rattle.sqlite.specs.declared.types.Value.TheVariants.{Int}
-use Rattle.sqlite.specs.Order.{Row, value_cmp}
-use Rattle.sqlite.specs.Tree.{IsAscending, rowid}
-use Rattle.sqlite.specs.View.{is_int}
-use Rattle.sqlite_value.proofs.OrderLemmas.{value_cmp_total, value_cmp-Int}
-use Rattle.sqlite_rules.specs.Lists.{Has}
-use Rattle.sqlite_rules.proofs.ListLemmas.{all_from, all_has}
+use Rattle.reg_tables.proofs.Kit.{is_eq, int_cmp, eq_by_cmp, ordering_reverse, FinMap, get, from_entries, get-from_entries, find, same_map, AllByRecursion, IsPermutation, IsPermutation-sym, IsPermutation-map, IsDistinct-IsPermutation, tied_itself, int_cmp_total, cases_Bool, both_ways, map-map, Value, Int, Row, value_cmp, IsAscending, rowid, is_int, value_cmp_total, value_cmp-Int, Has, all_from, all_has}
+use Rattle.std.specs.List.{IsDistinct}
 use Rattle.reg_tables.specs.TableMaps.{Form, HaveOwnRowids, HaveRowids, ShowsMap}
 use Rattle.reg_tables.specs.Listings.{RowParts, parts_of, entry_parts, Lists, HasNoDuplicates, without_rowid}
 use Rattle.reg_tables.specs.Inside.KeyedLaws.{IsKeyOrder}
@@ -89,7 +74,7 @@ module _ {K V : Type 0} (R : K → K → Ordering) (order : IsKeyOrder R) where
     | inr other ↦ let it = find_had es k v (rw other at h) in (it.0, inr it.1, it.2, it.3)
   ]
 
-  -- keys are distinct where ids are, and a key has one id
+  -- keys are distinct if the ids are and each key has one id
   pub keys_distinct : (es : List (ℤ × K × V)) → ((e f : ℤ × K × V) → Has es e → Has es f → e.1 ≡ f.1 → e.0 ≡ f.0) → IsDistinct (eq_by_cmp int_cmp) (map (λ e. e.0) es) → IsDistinct (eq_by_cmp R) (map (λ e. e.1) es)
   unfolding IsDistinct
   keys_distinct [] one ids = tt
@@ -146,7 +131,7 @@ module _ {K V : Type 0} (form : Form K V) (R : K → K → Ordering) (order : Is
         all_from _ rows (λ row h. let e = listed row h in ap is_int (ap (λ (p : RowParts). p.0) e.2)),
       )
 
-  -- what a list of a map has
+  -- the members of a map's list
   pub record IsListOf (m : FinMap R V) : Type 0 where
     pub apart : HasNoDuplicates R es
     pub is : m ≡ from_entries (map without_rowid es)

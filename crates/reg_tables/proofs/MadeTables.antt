@@ -1,14 +1,6 @@
--- What the making of the tables leaves.
+-- The database after CREATE TABLE.
 use Rattle.std.proofs.Common.{◌≡◌, ℕ, List, [], slice_get, None, false, Ok, refl, sym, ap, subst, ◌∙◌}
-use Rattle.sqlite.specs.Tree.{Trees}
-use Rattle.sqlite.specs.Table.{Table}
-use Rattle.sqlite.specs.Schema.{Schema}
-use Rattle.sqlite.specs.Change.{created, next_tree, KeepsRows}
-use Rattle.sqlite.specs.Command.TheVariants.{CreateTable}
-use Rattle.sqlite.specs.Does.{Tally, lacks_sequence}
-use Rattle.sqlite.specs.Effect.{Database, IsDatabase}
-use Rattle.sqlite.specs.State.{State, Executes, Writes}
-use Rattle.sqlite.proofs.Callers.{runs_as}
+use Rattle.reg_tables.proofs.Kit.{Trees, Table, Schema, created, next_tree, KeepsRows, CreateTable, Tally, lacks_sequence, Database, IsDatabase, State, Executes, Writes, runs_as}
 use Rattle.reg_tables.specs.Layout.{no_schema}
 use Rattle.reg_tables.specs.Contents.{TableName, Texts, Versions, Levels, Kept, Meta, Modes, Evidence, Against, ordinal_of, form_of, map_of, Contents, ShowsIn, ShowsAll, HoldsContents}
 use Rattle.reg_tables.specs.Changes.{no_contents}
@@ -16,7 +8,7 @@ use Rattle.reg_tables.proofs.Statements.{MakesTable}
 use Rattle.reg_tables.proofs.Tables.{shows_made}
 use Rattle.reg_tables.proofs.Writes.{went, same_value}
 
--- one more table is there, with no row, and the others have the rows that they had
+-- the schema has one more table, which is empty, and the others keep their rows
 pub record MakesMore (before : Schema) (after : Schema) (old new : Database) : Type 0 where
   pub declared : new.schema ≡ after
   pub sound : IsDatabase new
@@ -43,7 +35,7 @@ makes_more sql before table after m old new count declared h =
       empty = subst (λ (d : Database). d.trees (next_tree before) ≡ []) (sym now) last;
     }
 
--- the others hold what they held
+-- all other tables keep their contents
 pub holds_more : (sql : List ℕ) (before : Schema) (table : Table) (after : Schema) → MakesTable sql before table after → (old new : State) (count : ℕ) (contents : Contents) → ShowsAll before old.now.trees contents → old.now.schema ≡ before
     → Executes sql [] old new (Ok count) → HoldsContents after new.now contents
 holds_more sql before table after m old new count contents shows declared ran =
@@ -55,11 +47,10 @@ holds_more sql before table after m old new count contents shows declared ran =
           (λ name. shows_made (form_of name) (map_of name contents) before.tables (record table { tree = next_tree before }) old.now.trees new.now.trees made.others made.empty (ordinal_of name) (shows name));
     }
 
--- so one table after the other is made
 pub makes : (sql : List ℕ) (before : Schema) (table : Table) (after : Schema) → MakesTable sql before table after → (old new : State) (count : ℕ) (contents : Contents) → HoldsContents before old.now contents → Executes sql [] old new (Ok count) → HoldsContents after new.now contents
 makes sql before table after m old new count contents holds ran = holds_more sql before table after m old new count contents holds.shows holds.declared ran
 
--- a database without tables holds nothing
+-- a database without tables has empty contents
 pub holds_nothing : (trees : Trees) (name : TableName) → ShowsIn (form_of name) trees (slice_get no_schema.tables (ordinal_of name)) (map_of name no_contents)
 holds_nothing trees Texts = refl
 holds_nothing trees Versions = refl

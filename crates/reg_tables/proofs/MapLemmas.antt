@@ -1,12 +1,9 @@
--- What an insertion, a removal and another value make of a finite map, key by key.
+-- A finite map after an insertion, a removal or a replacement, key by key.
 use Rattle.std.proofs.Common.{◌≡◌, ◌≢◌, ◌⊎◌, inl, inr, Option, Some, None, option_map, true, false, cond, Ordering, Less, Equal, Greater, refl, sym, ap, ◌∙◌}
-use Rattle.std.specs.Prelude.{unwrap_or}
-use Rattle.std.specs.Ordering.{is_eq}
-use Rattle.std.specs.FinMap.{FinMap, get, insert, remove, get-insert, get-remove, same_map}
-use Rattle.std.proofs.lemmas.Cmp.{tied_itself}
+use Rattle.reg_tables.proofs.Kit.{unwrap_or, is_eq, FinMap, get, remove, get-insert, get-remove, same_map, tied_itself, cases_Bool, both_ways, false_from_ne_true}
+use Rattle.std.specs.FinMap.{insert}
 use Rattle.reg_tables.specs.Changes.{altered}
 use Rattle.reg_tables.specs.Inside.KeyedLaws.{IsKeyOrder}
-use Rattle.std.proofs.lemmas.Bool.{cases_Bool, both_ways, false_from_ne_true}
 
 pub equal_of : (o : Ordering) → is_eq o ≡ true → o ≡ Equal
 equal_of Less h = absurd (cc)
@@ -53,7 +50,7 @@ module _ {K : Type 0} (R : K → K → Ordering) (order : IsKeyOrder R) where
     pub get-remove-other : (q : K) → q ≢ k → get (remove m k) q ≡ get m q
     get-remove-other q other = get-remove order.total m k q ∙ ap (λ b. cond b None (get m q)) (other_key q k other)
 
-  -- a value that is put in place of another
+  -- a value replaces another
   pub insert-remove : {V : Type 0} (m : FinMap R V) (k : K) (v : V) → insert (remove m k) k v ≡ insert m k v
   insert-remove m k v = same_map order.total order.antisymmetric _ _ (λ q. elim (same_or_not q k) [
     | inl e ↦ ap (get (insert (remove m k) k v)) e ∙ get-insert-same (remove m k) k v ∙ sym (get-insert-same m k v) ∙ ap (get (insert m k v)) (sym e)

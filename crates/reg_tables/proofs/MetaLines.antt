@@ -1,14 +1,8 @@
--- What the lines of `meta` tell of the contents.
+-- What the rows of `meta` say about the contents.
 use Rattle.std.proofs.Common.{◌≡◌, inl, inr, ℕ, List, [], ◌∷◌, map, Bool, true, false, Option, option_map, refl, sym, ap, ◌∙◌}
-use Rattle.std.specs.Prelude.{bytes_eq, string_bytes}
+use Rattle.reg_tables.proofs.Kit.{bytes_eq, string_bytes, is_eq, get, get-from_entries, false_from_ne_true, bytes_eq-Decides, Schema, Database}
 use Rattle.std.specs.List.{find}
-use Rattle.std.specs.Ordering.{is_eq}
-use Rattle.std.specs.FinMap.{get, get-from_entries}
 use Rattle.std.specs.FinMap.Entries.{find as find_key}
-use Rattle.std.proofs.lemmas.Bool.{false_from_ne_true}
-use Rattle.std.proofs.lemmas.Slice.Eq.{bytes_eq-Decides}
-use Rattle.sqlite.specs.Schema.{Schema}
-use Rattle.sqlite.specs.Effect.{Database}
 use Rattle.reg_tables.specs.declared.meta.RawMeta.{RawMeta}
 use Rattle.reg_tables.specs.Layout.{meta, HasFiveTables}
 use Rattle.reg_tables.specs.Contents.{text_cmp, pair_form, Contents, HoldsContents}
@@ -18,7 +12,7 @@ use Rattle.reg_tables.proofs.KeyedTables.{text_order, distinct_texts}
 use Rattle.reg_tables.proofs.Tables.{five}
 use Rattle.reg_tables.proofs.ListingLemmas.{listed_if_shown}
 
--- the value of the first line of a name
+-- the value of the first row with this name
 abbrev pub value_in : List ℕ → List RawMeta → Option (List ℕ)
 value_in name lines = option_map (λ (line : RawMeta). string_bytes line.value) (find (λ (line : RawMeta). bytes_eq (string_bytes line.name) name) lines)
 
@@ -34,7 +28,7 @@ value_found name (line ∷ lines) = elim (same_or_not text_cmp text_order name (
     go rest true here there = rw (here, there) refl
     go rest false here there = rw (here, there) rest
 
--- where `meta` holds some contents, it is what they have under the name
+-- if the tables hold some contents, this is their value under the name
 pub value_read : (schema : Schema) (db : Database) → HasFiveTables schema → (contents : Contents) → HoldsContents schema db contents → (lines : List RawMeta) → ListsMeta db lines → (name : List ℕ) → value_in name lines ≡ get contents.meta name
 value_read schema db first contents holds lines lists name =
     let shown = listed_if_shown pair_form text_cmp text_order distinct_texts (db.trees meta.tree) (map meta_entry lines) lists contents.meta distinct_texts (five holds first).meta in

@@ -1,12 +1,7 @@
--- The lists of the tables say what the database holds.
+-- The lists of the tables determine the contents.
 use Rattle.std.proofs.Common.{◌≡◌, inl, inr, ℕ, ℤ, List, [], map, Option, None, Some, slice_get, refl, sym, ap, subst, ◌∙◌}
-use Rattle.std.specs.FinMap.{from_entries, empty}
-use Rattle.std.specs.Prelude.{IsSome, unwrap_or}
+use Rattle.reg_tables.proofs.Kit.{from_entries, empty, IsSome, unwrap_or, Schema, Table, Trees, Database, IsDatabase}
 use Rattle.std.specs.List.{IsDistinct}
-use Rattle.sqlite.specs.Schema.{Schema}
-use Rattle.sqlite.specs.Table.{Table}
-use Rattle.sqlite.specs.Tree.{Trees}
-use Rattle.sqlite.specs.Effect.{Database, IsDatabase}
 use Rattle.reg_tables.specs.Layout.{five_tables_then, texts, versions, levels, kept, meta, IsLayoutOne, HasFiveTables}
 use Rattle.reg_tables.specs.Contents.{text_form, version_form, pair_form, kept_form, evidence_form, against_form, TableName, Texts, Versions, Levels, Kept, Meta, Modes, Evidence, Against, ordinal_of, KeyOf, ValueOf, cmp_of, form_of, MapOf, map_of, Contents, ShowsIn, ShowsAll, HoldsContents}
 use Rattle.reg_tables.specs.TableMaps.{Form}
@@ -26,12 +21,12 @@ map_of_lines Evidence lines = refl
 map_of_lines Against lines = refl
 
 module _ (name : TableName) (trees : Trees) (entries : List (ℤ × KeyOf name × ValueOf name)) where
-  -- entries in which no rowid and no key comes twice are those of the map that they spell
+  -- entries without duplicate rowids or keys are those of the map that they make up
   shows_listed : HasNoDuplicates (cmp_of name) entries → (table : Option Table) → ListsIn (form_of name) trees table entries → ShowsIn (form_of name) trees table (from_entries {R = cmp_of name} (map without_rowid entries))
   shows_listed apart None none = ap (λ (es : List (ℤ × KeyOf name × ValueOf name)). from_entries {R = cmp_of name} (map without_rowid es)) none
   shows_listed apart (Some table) lists = shows_if_listed (form_of name) (cmp_of name) (key_laws name).order (key_laws name).distinct (trees table.tree) entries lists apart
 
-  -- the entries of a table are such a list, and spell the map that it shows
+  -- the entries of a table are such a list, and make up the map that it shows
   pub record AreOf (held : MapOf name) : Type 0 where
     pub apart : HasNoDuplicates (cmp_of name) entries
     pub is : held ≡ from_entries (map without_rowid entries)
@@ -47,7 +42,7 @@ module _ (name : TableName) (trees : Trees) (entries : List (ℤ × KeyOf name �
       record { apart = it.apart; is = it.is }
 
 module _ (schema : Schema) (db : Database) (lines : RawRows) (lists : ListsAll schema db.trees lines) where
-  -- lists in which no rowid and no key comes twice are those of the contents that they spell
+  -- lists without duplicate rowids or keys are those of the contents that they make up
   pub holds_if_listed : db.schema ≡ schema → IsDatabase db → HaveNoDuplicates lines → HoldsContents schema db (contents_of lines)
   holds_if_listed declared sound apart = record {
     declared = declared;
@@ -56,7 +51,7 @@ module _ (schema : Schema) (db : Database) (lines : RawRows) (lists : ListsAll s
         (shows_listed name db.trees (map (entry_of name) (lines name)) (apart name) (slice_get schema.tables (ordinal_of name)) (lists name));
   }
 
-  -- the lists of what the database holds are such lists, and spell just that
+  -- the lists of some contents are such lists, and make up these contents
   module _ (contents : Contents) (h : HoldsContents schema db contents) where
     of_table : (name : TableName) → AreOf name db.trees (map (entry_of name) (lines name)) (map_of name contents)
     of_table name = listed_shown name db.trees (map (entry_of name) (lines name)) (map_of name contents) (slice_get schema.tables (ordinal_of name)) (lists name) (h.shows name)
@@ -78,12 +73,12 @@ module _ (schema : Schema) (db : Database) (lines : RawRows) (lists : ListsAll s
 
 -- ---- the lists of each table by name
 
--- where there is a table, its list is one of its rows
+-- if the schema has the table, its list is of the table's rows
 pub listed_in : {K V : Type 0} (form : Form K V) (trees : Trees) (other : Table) (table : Option Table) (entries : List (ℤ × K × V)) → IsSome table → Lists form (trees (unwrap_or table other).tree) entries → ListsIn form trees table entries
 listed_in form trees other None entries there lists = absurd (cc)
 listed_in form trees other (Some table) entries there lists = lists
 
--- layout 1 has no list of the tables that layout 2 adds
+-- in layout 1 the lists of the tables that layout 2 adds are empty
 abbrev pub ListsNoMore : Trees → Schema → Type 0
 ListsNoMore trees schema = ListsIn pair_form trees (slice_get schema.tables 5) [] × ListsIn evidence_form trees (slice_get schema.tables 6) [] × ListsIn against_form trees (slice_get schema.tables 7) []
 
@@ -91,7 +86,7 @@ pub nothing_listed : (schema : Schema) → IsLayoutOne schema → (trees : Trees
 nothing_listed schema (inl is) trees = subst (ListsNoMore trees) (sym is) (refl, refl, refl)
 nothing_listed schema (inr is) trees = subst (ListsNoMore trees) (sym is) (refl, refl, refl)
 
--- and holds nothing in them
+-- and so are their maps
 pub nothing_held : (schema : Schema) → IsLayoutOne schema → (trees : Trees) (contents : Contents) → ShowsAll schema trees contents → (contents.modes ≡ empty) × (contents.evidence ≡ empty) × (contents.against ≡ empty)
 nothing_held schema (inl is) trees contents shows = let it = subst (λ s. ShowsAll s trees contents) is shows in (it Modes, it Evidence, it Against)
 nothing_held schema (inr is) trees contents shows = let it = subst (λ s. ShowsAll s trees contents) is shows in (it Modes, it Evidence, it Against)

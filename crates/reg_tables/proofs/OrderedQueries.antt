@@ -1,25 +1,9 @@
--- What a query with ORDER BY answers: one list, where no two rows that pass tie.
+-- The result of a query with ORDER BY is determined if no two rows that pass tie.
 use Rattle.std.proofs.Common.{◌≡◌, inl, inr, ℕ, suc, List, [], ◌∷◌, ◌++◌, map, Some, Bool, true, false, cond, T, ◌&&◌, add-one, refl, sym, ap, subst, ◌∙◌, arith, Ordering, Less, Equal, Greater}
-use Rattle.std.specs.Cmp.{IsTotalOrder}
-use Rattle.std.specs.FinMap.{FinMap, entries, entries_sorted, get, get-entries, find, is_sorted}
-use Rattle.std.specs.FinMap.Entries.{below_all}
-use Rattle.std.specs.List.{AllByRecursion, IsDistinct}
-use Rattle.std.specs.List.Sorted.{IsSorted}
-use Rattle.std.specs.Ordering.{is_eq, is_gt, is_lt, ordering_reverse}
-use Rattle.std.proofs.lemmas.Bool.{both_ways, cases_Bool, false_from_ne_true}
-use Rattle.std.proofs.lemmas.Cmp.{on_total, then_total, tied_itself, upto}
-use Rattle.std.proofs.lemmas.Map.Keys.{IsDistinct-IsPermutation}
-use Rattle.sqlite.specs.Order.{Row}
-use Rattle.sqlite.specs.Query.{Query, Output, IsAnswer, output, output_cmp, key_cmp}
-use Rattle.sqlite.specs.Term.{Term}
-use Rattle.sqlite.specs.Tree.{Trees, IsAscending, rowid}
-use Rattle.sqlite_rules.specs.Lists.{Has}
-use Rattle.sqlite_rules.proofs.ListLemmas.{all_has, all_from}
-use Rattle.sqlite_trees.proofs.ListLemmas.{all_weaker, ascending-map}
+use Rattle.reg_tables.proofs.Kit.{IsTotalOrder, FinMap, entries, entries_sorted, get, get-entries, find, is_sorted, below_all, AllByRecursion, IsSorted, is_eq, is_gt, is_lt, ordering_reverse, both_ways, cases_Bool, false_from_ne_true, on_total, then_total, tied_itself, upto, IsDistinct-IsPermutation, Row, Query, Output, IsAnswer, output_cmp, key_cmp, Term, Trees, IsAscending, rowid, Has, all_has, all_from, all_weaker, ascending-map, Key, by_key_total, value_cmp_total}
+use Rattle.std.specs.List.{IsDistinct}
+use Rattle.sqlite.specs.Query.{output}
 use Rattle.sqlite_value.specs.Order.{column, value_cmp}
-use Rattle.sqlite_value.specs.declared.keys.Key.{Key}
-use Rattle.sqlite_value.proofs.KeyLemmas.{by_key_total}
-use Rattle.sqlite_value.proofs.OrderLemmas.{value_cmp_total}
 use Rattle.reg_tables.specs.TableMaps.{Form, IsEntry, HaveOwnRowids, ShowsMap}
 use Rattle.reg_tables.specs.Inside.KeyedLaws.{IsKeyOrder}
 use Rattle.reg_tables.specs.Inside.Statements.{ordered_query}
@@ -58,7 +42,7 @@ module _ {X : Type 0} (cmp : X → X → Ordering) (total : IsTotalOrder cmp) wh
   turned Equal h = refl
   turned Greater h = refl
 
-  -- what comes first is above nothing later
+  -- the first item is no greater than any later one
   pub at_most : (x : X) (ys : List X) → IsSorted cmp (x ∷ ys) → AllByRecursion (λ y. is_gt (cmp x y) ≡ false) ys
   at_most x [] sorted = tt
   at_most x (y ∷ ys) sorted =
@@ -69,7 +53,7 @@ module _ {X : Type 0} (cmp : X → X → Ordering) (total : IsTotalOrder cmp) wh
   never : (x : X) → cmp x x ≡ Less → ⊥
   never x h = let e = sym h ∙ tied_itself total x in cc
 
-  -- lists that rise and have the same members are one list
+  -- sorted lists with the same members are equal
   pub same_rising : (xs ys : List X) → Rises xs → Rises ys → ((x : X) → Has xs x → Has ys x) → ((x : X) → Has ys x → Has xs x) → xs ≡ ys
   same_rising [] [] up vp to back = refl
   same_rising [] (y ∷ ys) up vp to back = absurd (back y (inl refl))
@@ -140,7 +124,7 @@ pub key_cmp_total : (at : ℕ) (keys : List Key) → IsTotalOrder (key_cmp at ke
 key_cmp_total at [] = record { antisymm = λ a b. refl; trans = λ a b c h k. h; congr = λ a b c h. refl }
 key_cmp_total at (k ∷ keys) = then_total (on_total (λ (r : Row). column r at) (by_key_total k)) (key_cmp_total (suc at) keys)
 
--- the rows that pass show what the entries of the list show, which rises
+-- the rows that pass have the columns of the entries of a sorted list
 module _ {K V : Type 0} (form : Form K V) (R : K → K → Ordering) (tree : ℕ) (tests shown : List Term) (order : List (Term × Key)) (limit : Term) (params : Row) (db : Trees) (found : List Row)
     (a : IsAnswer (ordered_query tree tests shown order limit) db params found) (m : FinMap R V) (shows : ShowsMap form (db tree) (get m)) (es : List (K × V)) (out : K × V → Output)
     (shown_as : (row : Row) (e : K × V) → IsEntry form row e.0 e.1 → output (ordered_query tree tests shown order limit) (params ∷ row ∷ []) ≡ out e)
@@ -162,7 +146,7 @@ module _ {K V : Type 0} (form : Form K V) (R : K → K → Ordering) (tree : ℕ
   outs_rise : Rises cmp total (map out es)
   outs_rise = ascending-map (λ x y. cmp x y ≡ Less) out es up
 
-  -- rows that tie are one row
+  -- rows that tie are equal
   one_row : (r s : Row) → Has (db tree) r → Has (db tree) s → passes tests params r ≡ true → passes tests params s ≡ true → cmp (put_out r) (put_out s) ≡ Equal → r ≡ s
   one_row r s here there on also tie =
       let e = shows.sound r here in

@@ -1,22 +1,9 @@
--- What a query on one table answers: the rows that pass, each shown.
+-- The result of a query on one table: the columns of each row that passes.
 use Rattle.std.proofs.Common.{arith, lit≤, length, ◌≤◌, ◌≡◌, inl, inr, ℕ, List, [], ◌∷◌, ◌++◌, map, filter, flat_map, Bool, true, false, cond, refl, sym, ap, subst, ◌∙◌}
-use Rattle.std.specs.List.{list_all}
-use Rattle.std.specs.List.Sorted.{IsPermutation}
-use Rattle.std.proofs.lemmas.List.Sorted.{IsPermutation-sym, IsPermutation-map, length_permutation}
-use Rattle.std.proofs.lemmas.List.{length-map}
-use Rattle.std.proofs.lemmas.Bool.{both_ways}
-use Rattle.std.proofs.lemmas.Cmp.{tied_itself}
-use Rattle.std.specs.Ordering.{is_eq}
-use Rattle.sqlite_value.proofs.OrderLemmas.{value_cmp_total}
-use Rattle.sqlite_rules.proofs.ListLemmas.{all_has}
+use Rattle.reg_tables.proofs.Kit.{list_all, IsPermutation, IsPermutation-sym, IsPermutation-map, length_permutation, length-map, both_ways, tied_itself, is_eq, value_cmp_total, all_has, Key, Row, value_cmp, Trees, IsAscending, rowid, Term, Env, eval_all, holds, Output, IsAnswer, Has}
 use Rattle.reg_tables.specs.TableMaps.{HaveOwnRowids}
 use Rattle.reg_tables.specs.Inside.Statements.{all_rows, ordered_query, plain_query}
-use Rattle.sqlite_value.specs.declared.keys.Key.{Key}
-use Rattle.sqlite.specs.Order.{Row, value_cmp}
-use Rattle.sqlite.specs.Tree.{Trees, IsAscending, rowid}
-use Rattle.sqlite.specs.Term.{Term, Env, eval_all, holds}
-use Rattle.sqlite.specs.Query.{Output, IsAnswer, output}
-use Rattle.sqlite_rules.specs.Lists.{Has}
+use Rattle.sqlite.specs.Query.{output}
 use Rattle.reg_tables.proofs.ListMembers.{has_mapped, maps_had, has_permuted}
 
 module _ (tests : List Term) (params : Row) where
@@ -50,7 +37,7 @@ module _ (tests : List Term) (params : Row) where
       go true is later = absurd (none r (inl refl) is)
       go false is later = later
 
-  -- where the rows that pass are one row, it passes once
+  -- if all rows that pass are one row, it passes once
   pub one_passing : (rows : List Row) → IsAscending HaveOwnRowids rows → ((a b : Row) → Has rows a → Has rows b → passes a ≡ true → passes b ≡ true → a ≡ b) → length (passing rows) ≤ 1
   one_passing [] up same = lit≤ tt
   one_passing (r ∷ rows) up same = go (passes r) refl (one_passing rows up.1 (λ a b x y. same a b (inr x) (inr y)))
@@ -64,7 +51,7 @@ module _ (tests : List Term) (params : Row) where
       go true is later = let none : length (passing rows) ≡ 0 = ap length (none_passing rows (alone is)) in omega arith
       go false is later = later
 
-  -- what is ordered are the rows that pass, in another order
+  -- the ordered rows are a permutation of those that pass
   module _ (tree : ℕ) (shown : List Term) (order : List (Term × Key)) (limit : Term) (db : Trees) (found : List Row) (a : IsAnswer (ordered_query tree tests shown order limit) db params found) where
     pub ordered_outputs : IsPermutation (map (output (ordered_query tree tests shown order limit)) (passing (db tree))) a.ordered
     ordered_outputs = subst (λ k. IsPermutation k a.ordered) (a.distinct ∙ ap (map (output (ordered_query tree tests shown order limit))) a.grouped) a.same
@@ -97,7 +84,7 @@ module _ (tests : List Term) (params : Row) where
     pub has_answer : (row : Row) → Has (db tree) row → passes row ≡ true → Has found (eval_all shown (params ∷ row ∷ []))
     has_answer r h is = subst (λ l. Has l (eval_all shown (params ∷ r ∷ []))) (sym a.shown) (maps_had (λ (p : Output). p.1) a.ordered _ (has_ordered tree shown [] all_rows db found a r h is))
 
--- the answer has each row that passes, shown
+-- the result has the columns of each row that passes
 module _ (tests : List Term) (params : Row) (tree : ℕ) (shown : List Term) (db : Trees) (found : List Row) (a : IsAnswer (plain_query tree tests shown) db params found) where
   abbrev show : Row → Row
   show row = eval_all shown (params ∷ row ∷ [])
@@ -117,7 +104,7 @@ module _ (tests : List Term) (params : Row) (tree : ℕ) (shown : List Term) (db
       subst (IsPermutation (map show (filter (passes tests params) (db tree)))) (sym a.shown)
       (subst (λ l. IsPermutation l (map (λ (o : Output). o.1) a.ordered)) (outputs_are (db tree)) moved)
 
--- and with no test each row
+-- without tests it has each row
 pub answer_all : (params : Row) (tree : ℕ) (shown : List Term) (db : Trees) (found : List Row) → IsAnswer (plain_query tree [] shown) db params found → IsPermutation (map (λ row. eval_all shown (params ∷ row ∷ [])) (db tree)) found
 answer_all params tree shown db found a = subst (λ l. IsPermutation (map (λ row. eval_all shown (params ∷ row ∷ [])) l) found) (all (db tree)) (answer_passing [] params tree shown db found a)
   where

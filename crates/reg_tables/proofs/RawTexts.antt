@@ -1,20 +1,8 @@
--- What the queries of parts of `texts` list: the ids of all rows, or the rows of a range of ids.
+-- What the queries of parts of `texts` return: the ids of all rows, or the rows in a range of ids.
 use Rattle.std.proofs.Common.{◌≡◌, ◌&&◌, ℕ, pos, List, [], ◌∷◌, map, filter, All, Bool, true, false, not, Some, refl, sym, ap, subst, ◌∙◌, Ordering, Less, Equal, Greater}
-use Rattle.std.specs.Ordering.{is_lt, is_gt, is_le, is_ge, nat_cmp}
-use Rattle.std.specs.List.Sorted.{IsPermutation}
-use Rattle.std.proofs.lemmas.List.Sorted.{IsPermutation-map}
-use Rattle.std.proofs.lemmas.Simd.{map-map}
-use Rattle.sqlite.specs.declared.types.Value.{Value}
-use Rattle.sqlite.specs.declared.types.Value.TheVariants.{Null, Int, Real, Text, Blob}
-use Rattle.sqlite.specs.Order.{Row, column, value_cmp}
-use Rattle.sqlite.specs.Tree.{rowid}
-use Rattle.sqlite.specs.Term.{eval_all}
-use Rattle.sqlite.specs.Query.{IsAnswer}
-use Rattle.sqlite.specs.Program.{overlay}
-use Rattle.sqlite.specs.State.{State, Shown}
-use Rattle.sqlite_rules.specs.Lists.{Has}
-use Rattle.sqlite_sql.specs.Ops.{binary, is_true, from_truth}
-use Rattle.sqlite_value.proofs.OrderLemmas.{value_cmp-Int}
+use Rattle.reg_tables.proofs.Kit.{is_lt, is_gt, is_le, is_ge, nat_cmp, IsPermutation, IsPermutation-map, map-map, Value, Null, Int, Real, Text, Blob, Row, rowid, eval_all, IsAnswer, overlay, State, Shown, Has, is_true, from_truth, value_cmp-Int}
+use Rattle.sqlite.specs.Order.{column, value_cmp}
+use Rattle.sqlite_sql.specs.Ops.{binary}
 use Rattle.reg_tables.specs.declared.raw_texts.RawText.{RawText}
 use Rattle.reg_tables.specs.Layout.{HasFiveTables}
 use Rattle.reg_tables.specs.Reads.{HoldsReadable}
@@ -28,7 +16,7 @@ use Rattle.reg_tables.proofs.Statements.{laid_out, all_ids, asks_all_ids, by_ran
 use Rattle.reg_tables.proofs.ReadableRows.{readable_text}
 use Rattle.reg_tables.proofs.TableLines.{all_if_each}
 
--- whether a row whose id is known lies in a range
+-- whether a row with this id is in the range
 pub between_tests : (low high id : ℕ) (row : Row) → rowid row ≡ Int (pos id) → is_between low high row ≡ (not (is_lt (nat_cmp id low)) && not (is_gt (nat_cmp id high)))
 between_tests low high id row is = rw (is, value_cmp-Int (pos id) (pos low), value_cmp-Int (pos id) (pos high), int_order id low, int_order id high) refl
 
@@ -59,7 +47,7 @@ module _ (old new : State) (found : List Row) where
     abbrev range : Row
     range = Int (pos low) ∷ Int (pos high) ∷ []
 
-    -- a row passes by its rowid
+    -- a row passes if it has the rowid
     in_range : (row : Row) → passes by_range range row ≡ is_between low high row
     unfolding binary value_cmp
     in_range row = by_value (rowid row)

@@ -1,14 +1,7 @@
--- The rows of readable contents are readable, as a query of all of them shows them.
+-- Over readable contents, a query of all rows returns readable rows.
 use Rattle.std.proofs.Common.{◌≡◌, ℕ, pos, List, [], ◌∷◌, Option, Some, ap, ◌∙◌}
-use Rattle.std.specs.FinMap.{get}
-use Rattle.sqlite.specs.declared.types.Value.TheVariants.{Int, Text}
-use Rattle.sqlite.specs.Order.{Row, column}
-use Rattle.sqlite.specs.Edit.{id_in}
-use Rattle.sqlite.specs.Effect.{Database}
-use Rattle.sqlite.specs.Tree.{rowid}
-use Rattle.sqlite_rules.specs.Lists.{Has}
-use Rattle.sqlite_rules.proofs.ListLemmas.{all_has}
-use Rattle.sqlite_rules.proofs.TableLemmas.{int_is}
+use Rattle.reg_tables.proofs.Kit.{get, Int, Text, Row, id_in, Database, rowid, Has, all_has, int_is}
+use Rattle.sqlite.specs.Order.{column}
 use Rattle.reg_tables.specs.Layout.{texts, versions, levels, kept, meta}
 use Rattle.reg_tables.specs.Reads.{HoldsReadable, HoldsMeta}
 use Rattle.reg_tables.specs.TableMaps.{Form, IsEntry, ShowsMap}

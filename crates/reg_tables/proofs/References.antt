@@ -1,23 +1,10 @@
--- What the UNIQUE and the foreign keys of the layouts say of the contents: a text has one id, the id of each version is a text, what has evidence is a version, and what it was tested against a text.
+-- What UNIQUE and the foreign keys say about the contents: a text has one id, each version's id has a text, evidence belongs to a version, and ids in `against` have a text.
 use Rattle.std.proofs.Common.{◌≡◌, ℕ, pos, List, [], ◌∷◌, ◌++◌, inl, inr, Some, true, codes, refl, sym, ap, subst, ◌∙◌}
-use Rattle.std.specs.FinMap.{get}
-use Rattle.std.specs.List.{list_any}
-use Rattle.std.specs.Ordering.{nat_cmp}
-use Rattle.std.proofs.lemmas.Bool.{or_cases, both_ways}
-use Rattle.sqlite.specs.declared.types.Value.TheVariants.{Int, Text}
-use Rattle.sqlite.specs.Order.{Row, column}
-use Rattle.sqlite.specs.Tree.{Trees, rowid}
-use Rattle.sqlite.specs.Schema.{Schema}
-use Rattle.sqlite.specs.Effect.{Database}
+use Rattle.reg_tables.proofs.Kit.{get, list_any, nat_cmp, or_cases, both_ways, Int, Text, Row, Trees, rowid, Schema, Database, ForeignKey, agree, has_null, has_parent, Refers, plain, value_cmp-Text, Has, test_has, some_has, keeps_at, IsSome, is_some, All, Index}
+use Rattle.sqlite.specs.Order.{column}
 use Rattle.sqlite_sql.specs.Ops.{binary}
-use Rattle.sqlite_schema.specs.declared.schema.Constraint.TheVariants.{ForeignKey}
 use Rattle.sqlite_schema.specs.Names.{same_name}
-use Rattle.sqlite_schema.specs.Rules.{agree, has_null, has_parent, Refers}
-use Rattle.sqlite_value.specs.Keys.{plain, first_key, joined}
-use Rattle.sqlite_value.proofs.OrderLemmas.{value_cmp-Text}
-use Rattle.sqlite_rules.specs.Lists.{Has}
-use Rattle.sqlite_rules.proofs.ListLemmas.{test_has, some_has}
-use Rattle.sqlite_rules.proofs.RuleLemmas.{keeps_at}
+use Rattle.sqlite_value.specs.Keys.{first_key, joined}
 use Rattle.reg_tables.specs.Layout.{automatic_index, layout_one_unindexed, five_tables_then, texts, versions, to_texts, added_tables, HasEightTables}
 use Rattle.reg_tables.specs.Contents.{text_cmp, text_cells, number_cells, VersionEntryView, Contents, HoldsContents, version_cmp, PositionKey, TableName}
 use Rattle.reg_tables.specs.Inside.Statements.{by_id}
@@ -26,14 +13,11 @@ use Rattle.reg_tables.proofs.KeyedTables.{text_order, number_order, by_id_test, 
 use Rattle.reg_tables.proofs.Queries.{passes}
 use Rattle.reg_tables.proofs.Tables.{ShowsFive, five}
 use Rattle.reg_tables.proofs.UniqueKeys.{one_keys, same_number, one_rowid, HasFiveKeys, has_table, has_index}
-use Rattle.std.specs.Prelude.{IsSome, is_some}
-use Rattle.sqlite_schema.specs.declared.schema.Among.TheVariants.{All}
-use Rattle.sqlite_schema.specs.declared.schema.Index.{Index}
 use Rattle.reg_tables.proofs.Drops.{HasVersionKey, not_null}
 use Rattle.reg_tables.proofs.Keys.{versions_tied}
 use Rattle.reg_tables.proofs.ForeignKeys.{Refer, refer_if}
 
--- rows of one text agree on it
+-- rows with the same text agree on it
 texts_agree : (a b : Row) (text : List ℕ) → column a 2 ∷ [] ≡ text_cells text → column b 2 ∷ [] ≡ text_cells text → agree (record { digits = 0 }) (2 ∷ []) a (2 ∷ []) b ≡ true
 unfolding binary first_key
 texts_agree a b text here there =
@@ -41,7 +25,7 @@ texts_agree a b text here there =
     let of_b : column b 2 ≡ Text text = cc in
     rw (of_a, of_b, value_cmp-Text text text, tied_key text_cmp text_order text text refl) refl
 
--- the reference of a version is to the rowid of `texts`
+-- a version refers to the rowid of `texts`
 parent_is : (db : Trees) (schema : Schema) → HasFiveKeys schema → (row : Row) (id : ℕ) → column row 3 ≡ Int (pos id) → has_parent schema.tables db row to_texts ≡ true
     → (parent : Row) × Has (db texts.tree) parent × (agree plain (0 ∷ []) parent (3 ∷ []) row ≡ true)
 unfolding same_name joined
@@ -49,7 +33,7 @@ parent_is db schema known row id its held =
     let here : has_parent (five_tables_then known.tables (layout_one_unindexed.indexes ++ known.indexes)).tables db row to_texts ≡ true = subst (λ (s : Schema). has_parent s.tables db row to_texts ≡ true) known.is held in
     elim (or_cases (has_null (3 ∷ []) row) (list_any (λ parent. agree plain (0 ∷ []) parent (3 ∷ []) row) (db texts.tree)) here) [ inl null ↦ absurd (let none = rw its at null in cc) | inr some ↦ some_has (λ parent. agree plain (0 ∷ []) parent (3 ∷ []) row) (db texts.tree) some ]
 
--- the parent has the id that the row names in this column
+-- the parent has the id that is in this column of the row
 pub id_named : (place : ℕ) (parent row : Row) (id named : ℕ) → column parent 0 ∷ [] ≡ number_cells id → column row place ≡ Int (pos named) → agree plain (0 ∷ []) parent (place ∷ []) row ≡ true → id ≡ named
 unfolding first_key
 id_named place parent row id named is its same =

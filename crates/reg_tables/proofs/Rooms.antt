@@ -1,26 +1,14 @@
--- The room behind the last row: what a write leaves of it, and what new tables have.
+-- Free rowids after the last row: what an insert leaves, and what new tables have.
 use Rattle.std.proofs.Common.{arith, ◌≡◌, inl, inr, None, Option, ℕ, ◌+◌, ◌+ℤ◌, ◌^◌, ◌<◌, ◌≤◌, ◌<ℤ◌, ℤ, pos, List, [], ◌∷◌, fold, refl, sym, ap, subst, ◌∙◌}
-use Rattle.std.specs.Ordering.{match_ordering}
-use Rattle.std.specs.declared.cmp.Ordering.{Ordering}
-use Rattle.std.specs.declared.cmp.Ordering.TheVariants.{Less}
-use Rattle.std.specs.Cmp.{int_cmp_is}
-use Rattle.std.proofs.lemmas.Int.{ints}
-use Rattle.std.specs.FinMap.{empty, get, get-empty}
-use Rattle.sqlite.specs.declared.types.Value.{Value}
-use Rattle.sqlite.specs.declared.types.Value.TheVariants.{Int}
-use Rattle.sqlite.specs.Order.{Row, value_cmp}
-use Rattle.sqlite.specs.Tree.{rowid, put_row}
-use Rattle.sqlite.specs.Edit.{next_rowid, id_in}
-use Rattle.sqlite_rules.specs.Lists.{Has}
-use Rattle.sqlite_value.proofs.OrderLemmas.{value_cmp-Int}
+use Rattle.reg_tables.proofs.Kit.{match_ordering, Ordering, Less, int_cmp_is, ints, empty, get, get-empty, Value, Int, Row, value_cmp, rowid, put_row, next_rowid, id_in, Has, value_cmp-Int}
 use Rattle.reg_tables.specs.TableMaps.{Form, ShowsMap}
 use Rattle.reg_tables.specs.Rooms.{Ascends, HasRoom}
 
--- one above the last rowid, or this where there is no row
+-- one above the last rowid, or this number if there is no row
 abbrev next_from : ℕ → List Row → ℤ
 next_from low = fold (λ _ r. id_in (rowid r) +ℤ pos 1) (pos low)
 
--- each rowid is below the next, which is at least the lowest that was asked for
+-- each rowid is below the next one, which is at least the given minimum
 record EndsAt (low : ℕ) (rows : List Row) (next : ℕ) : Type 0 where
   is_next : next_from low rows ≡ pos next
   least : low ≤ next
@@ -42,7 +30,7 @@ ends low (r ∷ rows) h =
       },
     )
 
--- ---- a row that is put in behind the last
+-- ---- a row that is inserted after the last
 
 pub less : (a b : Value) (i n : ℕ) → a ≡ Int (pos i) → b ≡ Int (pos n) → i < n → value_cmp a b ≡ Less
 less a b i n first second low = let below : pos i <ℤ pos n = grind (arith, ints, low) in rw (first, second) (value_cmp-Int (pos i) (pos n) ∙ sym (int_cmp_is (pos i) (pos n) Less below))
@@ -67,7 +55,6 @@ appended low (r ∷ rows) next h is below row its =
 same_next : (rows : List Row) (count next : ℕ) → (h : HasRoom rows count) → next_rowid rows ≡ pos next → next ≡ h.next
 same_next rows count next h is = let both : pos next ≡ pos h.next = sym is ∙ h.is_next in cc
 
--- the rowid that SQLite chooses is above all others
 pub above : (rows : List Row) (count : ℕ) → (h : HasRoom rows count) → (r : Row) → Has rows r → (id : ℕ) × (rowid r ≡ Int (pos id)) × (id < h.next)
 above rows count h r there =
     let it = ends 1 rows h.ascends in
@@ -80,9 +67,9 @@ room_after rows count h row its =
     let it = appended 1 rows h.next h.ascends h.is_next (above rows (count + 1) h) row (its ∙ ap Int h.is_next) in
     record { ascends = it.0; next = h.next + 1; is_next = it.1; room = let room = h.room in omega (arith, room) }
 
--- ---- tables with no row
+-- ---- empty tables
 
--- a map with no entry is shown by no row
+-- an empty map is shown by no row
 no_rows : {K V : Type 0} (form : Form K V) (rows : List Row) (value_at : K → Option V) → ((key : K) → value_at key ≡ None) → ShowsMap form rows value_at → rows ≡ []
 no_rows form [] value_at none shows = refl
 no_rows form (row ∷ rows) value_at none shows = let it = shows.sound row (inl refl) in absurd (let clash = sym (none it.0) ∙ it.2 in cc)

@@ -1,22 +1,7 @@
--- What an edit of the rows of a table makes of the map that they show.
+-- How an edit of a table's rows changes the map that they show.
 use Rattle.std.proofs.Common.{◌≡◌, ◌≢◌, inl, inr, ℤ, List, [], ◌∷◌, Option, Some, None, option_map, Bool, true, false, not, IsTrue, Ordering, Less, Equal, Greater, refl, sym, ap, subst, ◌∙◌}
-use Rattle.std.specs.List.{AllByRecursion}
-use Rattle.std.specs.Ordering.{is_eq, match_ordering, ordering_reverse}
-use Rattle.std.specs.FinMap.{FinMap, get, insert, remove, empty, get-empty}
-use Rattle.std.proofs.lemmas.Cmp.{tied_itself, tied_back}
-use Rattle.std.proofs.lemmas.Bool.{false_from_ne_true, both_ways, or_parts, and_parts, not-true}
-use Rattle.sqlite.specs.declared.types.Value.TheVariants.{Int}
-use Rattle.sqlite.specs.Order.{Row, value_cmp}
-use Rattle.sqlite.specs.Edit.{without_all, id_in, is_taken, put_all, are_fresh, have_rowids}
-use Rattle.sqlite.specs.Tree.{IsAscending, rowid, has_rowid, put_row, without_rowid}
-use Rattle.sqlite.specs.View.{is_int}
-use Rattle.sqlite_value.proofs.OrderLemmas.{value_cmp_total}
-use Rattle.sqlite_rules.specs.Calls.{ids_of}
-use Rattle.sqlite_rules.specs.Lists.{Has}
-use Rattle.sqlite_rules.proofs.ListLemmas.{has_filtered, has_kept, all_has}
-use Rattle.sqlite_rules.proofs.TableLemmas.{int_is, without_all_has, has_put, put_has, put_all_has, put_all_keeps, put_all_adds}
-use Rattle.sqlite_trees.proofs.TreeLemmas.{all-put_row}
-use Rattle.sqlite_trees.proofs.ListLemmas.{ascending-filter, all-filter}
+use Rattle.reg_tables.proofs.Kit.{AllByRecursion, is_eq, match_ordering, ordering_reverse, FinMap, get, remove, empty, get-empty, tied_itself, tied_back, false_from_ne_true, both_ways, or_parts, and_parts, not-true, Int, Row, value_cmp, without_all, id_in, is_taken, put_all, are_fresh, have_rowids, IsAscending, rowid, has_rowid, put_row, without_rowid, is_int, value_cmp_total, ids_of, Has, has_filtered, has_kept, all_has, int_is, without_all_has, has_put, put_has, put_all_has, put_all_keeps, put_all_adds, all-put_row, ascending-filter, all-filter}
+use Rattle.std.specs.FinMap.{insert}
 use Rattle.reg_tables.specs.TableMaps.{Form, HaveOwnRowids, HaveRowids, IsEntry, ShowsMap}
 use Rattle.reg_tables.specs.Changes.{altered}
 use Rattle.reg_tables.specs.Inside.KeyedLaws.{IsKeyOrder}
@@ -82,12 +67,12 @@ lacks_left : (ids : List ℤ) (rows : List Row) (x : Row) → Has rows x → ((i
 lacks_left [] rows x h lacks = h
 lacks_left (i ∷ ids) rows x h lacks = lacks_left ids (without_rowid i rows) x (has_kept (λ y. not (has_rowid i y)) rows x h (ap not (lacks i (inl refl)))) (λ id there. lacks id (inr there))
 
--- these are the rowids of the rows that pass, each with what is made of its row
+-- the rowids of the rows that pass, each with its new row
 pub record FindsRowids (p : Row → Bool) (rest : Row → Row) (rows found : List Row) : Type 0 where
   pub sound : (x : Row) → Has found x → (row : Row) × Has rows row × (p row ≡ true) × (x ≡ rowid row ∷ rest row)
   pub complete : (row : Row) → Has rows row → p row ≡ true → Has found (rowid row ∷ rest row)
 
--- the rows whose rowids were found go, and no others
+-- exactly the rows with these rowids are deleted
 module _ (p : Row → Bool) (rest : Row → Row) (rows found : List Row) (shaped : HaveRowids rows) (finds : FindsRowids p rest rows found) where
   rowid_is : (r : Row) → Has rows r → rowid r ≡ Int (id_in (rowid r))
   rowid_is r h = int_is (rowid r) (all_has _ rows r shaped.1 h)
@@ -126,7 +111,7 @@ shows_empty R form = record {
 
 module _ {K V : Type 0} (form : Form K V) (R : K → K → Ordering) (order : IsKeyOrder R) (distinct : (a b : K) → form.key_cells a ≡ form.key_cells b → a ≡ b) (rows : List Row) (m : FinMap R V) (k : K)
     (shows : ShowsMap form rows (get m)) where
-  -- a row goes in under a key that was free
+  -- a row is inserted under a free key
   pub shows_inserted : (v : V) (new : Row) → get m k ≡ None → form.key_of new ≡ form.key_cells k → form.value_of new ≡ form.value_cells v → IsTrue (is_int (rowid new)) → is_taken rows new ≡ false
       → ShowsMap form (put_row new rows) (get (insert m k v))
   shows_inserted v new free key value int fresh = record {
@@ -155,7 +140,7 @@ module _ {K V : Type 0} (form : Form K V) (R : K → K → Ordering) (order : Is
           let its : old.0 ≡ k = distinct old.0 k (sym old.3.0 ∙ e ∙ key) in
           let some = ap (get m) (sym its) ∙ old.2 in cc
 
-  -- the rows of a key go out
+  -- the rows of a key are deleted
   pub shows_removed : (p : Row → Bool) (rest : Row → Row) (found : List Row) → FindsRowids p rest rows found → ((row : Row) (q : K) → form.key_of row ≡ form.key_cells q → p row ≡ is_eq (R q k))
       → ShowsMap form (without_all rows (ids_of found)) (get (remove m k))
   shows_removed p rest found finds test = record {
@@ -171,7 +156,7 @@ module _ {K V : Type 0} (form : Form K V) (R : K → K → Ordering) (order : Is
     once = λ a b x y e. shows.once a b (left_fails p rest rows found shows.rowids finds a x).0 (left_fails p rest rows found shows.rowids finds b y).0 e;
   }
 
-  -- the rows of a key give way to others, which have its key and another value
+  -- the rows of a key are replaced by rows with the same key and another value
   pub shows_altered : (p : Row → Bool) (rest : Row → Row) (found : List Row) → FindsRowids p rest rows found → ((row : Row) (q : K) → form.key_of row ≡ form.key_cells q → p row ≡ is_eq (R q k)) → (change : V → V) (turn : Row → Row)
       → ((row : Row) (v : V) → IsEntry form row k v → IsEntry form (turn row) k (change v)) → (news : List Row) → ((x : Row) → Has news x → (row : Row) × Has rows row × (p row ≡ true) × (x ≡ turn row))
       → ((row : Row) → Has rows row → p row ≡ true → Has news (turn row)) → have_rowids news ≡ true → are_fresh (without_all rows (ids_of found)) news ≡ true → ShowsMap form (put_all (without_all rows (ids_of found)) news) (get (altered m k change))
@@ -199,7 +184,7 @@ module _ {K V : Type 0} (form : Form K V) (R : K → K → Ordering) (order : Is
       stood : (r : Row) → Has left r → Has rows r × (p r ≡ false)
       stood r h = left_fails p rest rows found shows.rowids finds r h
 
-      -- a row that passes is the key's
+      -- a row that passes has the key
       own : (r : Row) → Has rows r → p r ≡ true → (v : V) × (get m k ≡ Some v) × IsEntry form r k v
       own r h is =
           let old = shows.sound r h in

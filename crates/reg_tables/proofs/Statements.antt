@@ -1,31 +1,15 @@
--- What the text of each statement means in a database that is laid out so.
+-- What each SQL text means in a schema.
 use Rattle.std.proofs.Common.{◌≡◌, inl, inr, sym, subst, pos, ℕ, List, [], ◌∷◌, codes, Bool, true, false, Ok, lit≤, refl}
-use Rattle.sqlite.specs.declared.types.Value.TheVariants.{Null, Int, Text}
-use Rattle.sqlite_value.specs.declared.keys.Key.{Key}
-use Rattle.sqlite.specs.Term.{Term, lit, col, op2}
-use Rattle.sqlite.specs.Collation.TheVariants.{Binary}
-use Rattle.sqlite.specs.Source.TheVariants.{Values}
-use Rattle.sqlite.specs.Command.TheVariants.{Insert, CreateTable, Update}
-use Rattle.sqlite.specs.Compile.{table_defined_by}
-use Rattle.sqlite.specs.Change.{created}
-use Rattle.sqlite.specs.Does.{lacks_sequence}
-use Rattle.sqlite.specs.Table.{Table}
-use Rattle.sqlite.specs.Order.{Row}
-use Rattle.sqlite.specs.Schema.{Schema}
-use Rattle.sqlite.specs.Effect.{Database}
+use Rattle.reg_tables.proofs.Kit.{Null, Int, Text, Key, Term, lit, col, op2, Binary, Values, Insert, CreateTable, Update, table_defined_by, created, lacks_sequence, Table, Row, Schema, Database, statement_of, Compare, Eq, Gt, Ge, Le, Index}
 use Rattle.reg_tables.specs.Contents.{flag_cell, Contents, HoldsContents}
 use Rattle.sqlite.specs.Listing.{understood}
-use Rattle.sqlite.proofs.Callers.{statement_of}
-use Rattle.sqlite_sql.specs.declared.ops.BinaryOp.TheVariants.{Compare}
-use Rattle.sqlite_sql.specs.declared.ops.CompareOp.TheVariants.{Eq, Gt, Ge, Le}
 use Rattle.sqlite_tied.specs.Compute.{everything}
 use Rattle.reg_tables.specs.Layout.{no_schema, partial_layout_one, five_tables_then, layout_one, layout_one_unindexed, HasFiveTables, IsLayoutOne, texts, versions, levels, kept, meta, modes, evidence, against, partial_layout_two}
 use Rattle.reg_tables.specs.Inside.Statements.{by_key, by_version, IsCommand, TableQuery, IsQuery, Takes, all_rows, plain_query}
-use Rattle.sqlite_schema.specs.declared.schema.Index.{Index}
 
--- ---- the tables are made in this order
+-- ---- CREATE TABLE
 
--- what a CREATE TABLE makes of a schema
+-- the effect of a CREATE TABLE on a schema
 pub record MakesTable (sql : List ℕ) (schema : Schema) (table : Table) (after : Schema) : Type 0 where
   pub command : IsCommand schema sql CreateTable
   pub text : statement_of sql (understood schema sql) ≡ sql
@@ -89,9 +73,9 @@ pub makes_against : MakesTable make_against (partial_layout_two 2) (record (agai
 unfolding understood everything
 makes_against = record { command = record { is = refl; plain = (refl, refl) }; text = refl; defined = refl; is = refl; whole = refl }
 
--- ---- rows that go in and out by a text key
+-- ---- INSERT, UPDATE, DELETE
 
--- the rowid is SQLite's choice, and the columns are the parameters
+-- SQLite chooses the rowid, and the columns are the parameters
 abbrev pub two_terms : List Term
 two_terms = lit Null ∷ col 0 0 ∷ col 0 1 ∷ []
 
@@ -101,7 +85,7 @@ three_terms = lit Null ∷ col 0 0 ∷ col 0 1 ∷ col 0 2 ∷ []
 abbrev pub four_terms : List Term
 four_terms = lit Null ∷ col 0 0 ∷ col 0 1 ∷ col 0 2 ∷ col 0 3 ∷ []
 
--- the id is the rowid, and the column that stands for it is empty
+-- the id is the rowid, and its column is NULL
 abbrev pub text_terms : List Term
 text_terms = col 0 0 ∷ lit Null ∷ col 0 1 ∷ []
 
@@ -112,7 +96,7 @@ pub put_text_is : (tables : List Table) (indexes : List Index) → IsCommand (fi
 unfolding understood everything
 put_text_is tables indexes = record { is = refl; plain = (refl, refl) }
 
--- the row with another last column, after its rowid
+-- the rowid, then the row with another last column
 abbrev pub with_flag : List Term
 with_flag = col 1 0 ∷ col 1 1 ∷ col 1 2 ∷ col 1 3 ∷ lit (Int (pos 1)) ∷ []
 
@@ -145,17 +129,17 @@ pub one_has_five : (schema : Schema) → IsLayoutOne schema → HasFiveTables sc
 one_has_five schema (inl is) = record { tables = []; indexes = layout_one.indexes; is = is }
 one_has_five schema (inr is) = record { tables = []; indexes = layout_one_unindexed.indexes; is = is }
 
--- what is so whatever tables and indexes are there beside the five tables, and so in layout 2 too
-pub behind_tables : (P : Schema → Type 0) → ((tables : List Table) (indexes : List Index) → P (five_tables_then tables indexes)) → (schema : Schema) → HasFiveTables schema → P schema
-behind_tables P all schema first = subst P (sym first.is) (all first.tables first.indexes)
+-- what is true of the five tables followed by any tables and indexes
+pub with_any_tables : (P : Schema → Type 0) → ((tables : List Table) (indexes : List Index) → P (five_tables_then tables indexes)) → (schema : Schema) → HasFiveTables schema → P schema
+with_any_tables P all schema first = subst P (sym first.is) (all first.tables first.indexes)
 
--- whatever tables follow the five, the text is this query, and takes these parameters
+-- with any tables after the five, the SQL text is this query and takes these parameters
 pub record IsAsked (q : TableQuery) (params : Row) : Type 0 where
   pub is : (schema : Schema) → HasFiveTables schema → IsQuery q schema
   pub takes : (schema : Schema) → HasFiveTables schema → Takes q params schema
 
 asked : {q : TableQuery} {params : Row} → ((tables : List Table) (indexes : List Index) → IsQuery q (five_tables_then tables indexes) × Takes q params (five_tables_then tables indexes)) → IsAsked q params
-asked {q} {params} each = record { is = λ schema first. (behind_tables (λ s. IsQuery q s × Takes q params s) each schema first).0; takes = λ schema first. (behind_tables (λ s. IsQuery q s × Takes q params s) each schema first).1 }
+asked {q} {params} each = record { is = λ schema first. (with_any_tables (λ s. IsQuery q s × Takes q params s) each schema first).0; takes = λ schema first. (with_any_tables (λ s. IsQuery q s × Takes q params s) each schema first).1 }
 
 abbrev pub find_id : TableQuery
 find_id = record { sql = codes "SELECT id FROM texts WHERE text = ?1"; tree = 0; tests = by_text; shown = col 1 0 ∷ []; names = codes "id" ∷ []; order = []; limit = all_rows }
@@ -164,7 +148,6 @@ pub asks_id : (text : List ℕ) → IsAsked find_id (Text text ∷ [])
 unfolding understood everything
 asks_id text = asked (λ tables indexes. (record { command = record { is = refl; plain = (refl, refl) }; unlisted = refl }, record { whole = (lit≤ tt, refl); typed = refl }))
 
--- LIMIT 1
 abbrev pub first_row : Term
 first_row = lit (Int (pos 1))
 
@@ -209,7 +192,7 @@ pub asks_last_version : (subject : List ℕ) → IsAsked find_last_version (Text
 unfolding understood everything
 asks_last_version subject = asked (λ tables indexes. (record { command = record { is = refl; plain = (refl, refl) }; unlisted = refl }, record { whole = (lit≤ tt, refl); typed = refl }))
 
--- the subject is the parameter, and the version is not marked as deleted
+-- the subject is the parameter, and the version isn't deleted
 abbrev pub by_live_key : List Term
 by_live_key = op2 (Compare Eq Binary) (col 1 1) (col 0 0) ∷ op2 (Compare Eq Binary) (col 1 4) (lit (Int (pos 0))) ∷ []
 
@@ -220,16 +203,16 @@ pub asks_last_live : (subject : List ℕ) → IsAsked find_last_live (Text subje
 unfolding understood everything
 asks_last_live subject = asked (λ tables indexes. (record { command = record { is = refl; plain = (refl, refl) }; unlisted = refl }, record { whole = (lit≤ tt, refl); typed = refl }))
 
--- the subject is behind the parameter
+-- the subject comes after the parameter
 abbrev pub by_later_subject : List Term
 by_later_subject = op2 (Compare Gt Binary) (col 1 1) (col 0 0) ∷ []
 
-abbrev pub find_behind : TableQuery
-find_behind = versions_query (codes "SELECT subject, version, id, deleted FROM versions WHERE subject > ?1 ORDER BY subject, version LIMIT 1") by_later_subject in_order first_row
+abbrev pub find_after : TableQuery
+find_after = versions_query (codes "SELECT subject, version, id, deleted FROM versions WHERE subject > ?1 ORDER BY subject, version LIMIT 1") by_later_subject in_order first_row
 
-pub asks_behind : (subject : List ℕ) → IsAsked find_behind (Text subject ∷ [])
+pub asks_after : (subject : List ℕ) → IsAsked find_after (Text subject ∷ [])
 unfolding understood everything
-asks_behind subject = asked (λ tables indexes. (record { command = record { is = refl; plain = (refl, refl) }; unlisted = refl }, record { whole = (lit≤ tt, refl); typed = refl }))
+asks_after subject = asked (λ tables indexes. (record { command = record { is = refl; plain = (refl, refl) }; unlisted = refl }, record { whole = (lit≤ tt, refl); typed = refl }))
 
 -- the subject is the first parameter, and the number is above the second
 abbrev pub by_later_number : List Term
@@ -260,7 +243,6 @@ pub asks_one_of_id : (id : ℕ) → IsAsked find_one_of_id (Int (pos id) ∷ [])
 unfolding understood everything
 asks_one_of_id id = asked (λ tables indexes. (record { command = record { is = refl; plain = (refl, refl) }; unlisted = refl }, record { whole = (lit≤ tt, refl); typed = refl }))
 
--- LIMIT 33
 abbrev pub first_rows : Term
 first_rows = lit (Int (pos 33))
 
@@ -271,7 +253,7 @@ pub asks_some_of_id : (id : ℕ) → IsAsked find_some_of_id (Int (pos id) ∷ [
 unfolding understood everything
 asks_some_of_id id = asked (λ tables indexes. (record { command = record { is = refl; plain = (refl, refl) }; unlisted = refl }, record { whole = (lit≤ tt, refl); typed = refl }))
 
--- the subject and the id are the first two parameters, and the mark is no greater than the third
+-- the subject and the id are the first two parameters, and the deleted flag is at most the third
 abbrev pub by_shown_id : List Term
 by_shown_id = op2 (Compare Eq Binary) (col 1 1) (col 0 0) ∷ op2 (Compare Eq Binary) (col 1 3) (col 0 1) ∷ op2 (Compare Le Binary) (col 1 4) (col 0 2) ∷ []
 
@@ -296,7 +278,7 @@ pub asks_all_ids : IsAsked all_ids []
 unfolding understood everything
 asks_all_ids = asked (λ tables indexes. (record { command = record { is = refl; plain = (refl, refl) }; unlisted = refl }, record { whole = (lit≤ tt, refl); typed = refl }))
 
--- the rowid is no less than the first parameter, and no greater than the second
+-- the rowid is at least the first parameter and at most the second
 abbrev pub by_range : List Term
 by_range = op2 (Compare Ge Binary) (col 1 0) (col 0 0) ∷ op2 (Compare Le Binary) (col 1 0) (col 0 1) ∷ []
 

@@ -1,13 +1,6 @@
--- Calls inside a transaction, one after the other, and the statements that make tables.
+-- Sequences of calls inside a transaction, and CREATE TABLE.
 use Rattle.std.proofs.Common.{◌≡◌, ◌≤◌, ◌⊎◌, inl, ℕ, List, [], Ok, Err, Result, IsTrue, true, ◌∙◌, arith}
-use Rattle.std.specs.Prelude.{OnOk, IfErr, IsErrAnd}
-use Rattle.sqlite.specs.Table.{Table}
-use Rattle.sqlite.specs.Schema.{Schema}
-use Rattle.sqlite.specs.State.{State, HasCleanDisk, Survives, ExecutesInside}
-use Rattle.sqlite.specs.Effect.{Database}
-use Rattle.sqlite.specs.declared.error.Error.{Error}
-use Rattle.sqlite.specs.declared.transaction.Transaction.{Transaction}
-use Rattle.sqlite_trees.specs.declared.store.Store.{Ghosts}
+use Rattle.reg_tables.proofs.Kit.{OnOk, IfErr, IsErrAnd, Table, Schema, State, HasCleanDisk, Survives, ExecutesInside, Database, Error, Transaction, Ghosts}
 use Rattle.reg_tables.specs.Layout.{no_schema}
 use Rattle.reg_tables.specs.Contents.{Contents, HoldsContents}
 use Rattle.reg_tables.specs.Changes.{no_contents}
@@ -20,7 +13,7 @@ use Rattle.reg_tables.proofs.CreationFaults.{CanBeMade, make_fails}
 use Rattle.reg_tables.proofs.Transactions.{keeps_then, survives_both, on_ok, if_err, if_err_is}
 use Rattle.reg_tables.proofs.WriteFaults.{OrTooLate, as_write_fault}
 
--- a later failure of this kind is one since the start, because the transaction goes on
+-- a later failure of this kind is also one since the start, because the transaction continues
 abbrev pub IsCarried : (State → State → Error → Type 0) → Type 1
 IsCarried IsFailure = (first later new : State) → Survives first later (λ _. ⊥) → HasCleanDisk later → later.faults ≤ new.faults → later.in_transaction ≡ true → (e : Error) → IsFailure later new e → IsFailure first new e
 
@@ -67,7 +60,7 @@ module _ {IsFailure : State → State → Error → Type 0} {S X Y I : Type 0} {
             (q.fault clean);
       }
 
--- `?` passes the error on
+-- `?` returns the error
 module _ {IsFailure : State → State → Error → Type 0} {S X Y I : Type 0} {g : Ghosts S} {a b : Transaction S} {From Mid To : I → Database → Type 0} where
   pub turns_failed : {e : Error} {r : Result Y Error} → Transforms {X = X} IsFailure g a b (Err e) From Mid → IsErrAnd r (λ failure. failure ≡ e) → Transforms IsFailure g a b r From To
   turns_failed {e} {r} p is = record {
@@ -125,7 +118,7 @@ module _ {S X : Type 0} {g : Ghosts S} {a b : Transaction S} {r : Result X Error
     fault = λ clean. if_err r (λ e why contents holds. as_write_fault (state_in g a) (state_in g b) e (make_fails sql before table after m can (state_in g a) (state_in g b) holds.declared e) why) (failed clean);
   }
 
--- in a database that has none
+-- in a database without tables
 module _ {S X : Type 0} {g : Ghosts S} {a b : Transaction S} {r : Result X Error} {sql : List ℕ} {table : Table} {after : Schema} (m : MakesTable sql no_schema table after) (can : CanBeMade sql no_schema table) (frame : RunsInTransaction g a b r)
     (runs : HasCleanDisk (state_in g b) → OnOk r ((count : ℕ) × ExecutesInside 0 sql [] (state_in g a) (state_in g b) (Ok count)))
     (failed : HasCleanDisk (state_in g b) → IfErr r (λ e. OrTooLate (state_in g a) e (ExecutesInside 0 sql [] (state_in g a) (state_in g b) (Err e)))) where

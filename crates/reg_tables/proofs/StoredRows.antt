@@ -1,20 +1,6 @@
--- Which rows can be stored.
 use Rattle.std.proofs.Common.{arith, ◌≡◌, inl, inr, ℕ, zero, suc, ◌+◌, ◌/◌, ◌%◌, ◌^◌, ◌<◌, ◌≤◌, ℤ, pos, negsuc, All, [], ◌∷◌, length, ap, sym, refl, subst}
-use Rattle.std.specs.List.{AllByRecursion, sum_by}
-use Rattle.std.specs.Float.{NotNan}
-use Rattle.std.proofs.lemmas.List.Sums.{sum_by-cons}
+use Rattle.reg_tables.proofs.Kit.{AllByRecursion, sum_by, NotNan, sum_by-cons, Value, Null, Int, Real, Text, Blob, Row, Table, number, bytes, Index, table_reals, index_reals, entry_of, IsStorable, Has, all_has}
 use native.Mathlib.Nat.{zero-div}
-use Rattle.sqlite.specs.declared.types.Value.{Value}
-use Rattle.sqlite.specs.declared.types.Value.TheVariants.{Null, Int, Real, Text, Blob}
-use Rattle.sqlite.specs.Order.{Row}
-use Rattle.sqlite.specs.Table.{Table}
-use Rattle.sqlite_value.specs.Order.{number, bytes}
-use Rattle.sqlite_schema.specs.declared.schema.Index.{Index}
-use Rattle.sqlite_schema.specs.Rules.{table_reals, index_reals}
-use Rattle.sqlite_sql.specs.Catalog.{entry_of}
-use Rattle.sqlite_trees.specs.View.{IsStorable}
-use Rattle.sqlite_rules.specs.Lists.{Has}
-use Rattle.sqlite_rules.proofs.ListLemmas.{all_has}
 use Rattle.reg_tables.specs.Layout.{layout_one, meta}
 use Rattle.reg_tables.specs.Rooms.{CanBeStored}
 
@@ -23,7 +9,7 @@ abbrev pub IsNoFloat : Value → Type 0
 IsNoFloat (Real x) = ⊥
 IsNoFloat _ = Unit {0}
 
--- what a row takes, with 18 bytes for the type and the number of each value
+-- the size of a row, with 18 bytes for the type and the number of each value
 abbrev pub size_of : Row → ℕ
 size_of = sum_by (λ v. 18 + length (bytes v))
 
@@ -41,7 +27,7 @@ not_nans [] plain k d low = absurd (omega (arith, low))
 not_nans (v ∷ row) plain zero d low = not_nan v plain.0
 not_nans (v ∷ row) plain (suc k) d low = not_nans row plain.1 k d (omega (arith, low))
 
--- where no column is REAL, a row with no float can be stored but for its size
+-- without REAL columns, a row without floats can be stored unless it is too large
 pub storable : (row : Row) → AllByRecursion IsNoFloat row → 0 < length row → length row ≤ 2001 → size_of row ≤ 10 ^ 9 → IsStorable 0 row
 storable row plain some few short = record {
   typed = λ c on. absurd (let none : 0 / 2 ^ c % 2 ≡ 0 = ap (λ n. n % 2) (zero-div (2 ^ c)) in let one : 0 / 2 ^ c % 2 ≡ 1 = on in omega (arith, none, one));
@@ -50,7 +36,7 @@ storable row plain some few short = record {
   short = short;
 }
 
--- a table with no REAL column, whose one index is of its first column
+-- a table without REAL columns whose only index is on its first column
 pub record IsKeyedTable (table : Table) : Type 0 where
   pub reals : table_reals table ≡ 0
   pub key : (i : Index) → Has layout_one.indexes i → i.table ≡ table.tree → i.columns ≡ 1 ∷ []
@@ -69,7 +55,7 @@ module _ (table : Table) (keyed : IsKeyedTable table) (key : Value) (rest : Row)
   entry_is_storable : (id : ℤ) → IsStorable 0 (key ∷ Int id ∷ [])
   entry_is_storable id = storable (key ∷ Int id ∷ []) (plain.0, (tt, tt)) (omega arith) (omega arith) (let is = sum_by-cons (λ v. 18 + length (bytes v)) key rest in omega (arith, is, short))
 
-  -- a row of at most 2000 columns and 10^9 bytes, with no float, can be stored in such a table
+  -- such a table can store a row without floats of at most 2000 columns and 10^9 bytes
   pub can_be_stored : CanBeStored table (key ∷ rest)
   can_be_stored id (inl row) = row (subst (λ reals. IsStorable reals (Int id ∷ key ∷ rest)) (sym keyed.reals) (row_is_storable id), omega arith)
   can_be_stored id (inr entry) =

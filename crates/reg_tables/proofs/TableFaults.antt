@@ -1,71 +1,29 @@
--- Why the writes of each table fail.
+-- Why writes fail, by table.
 use Rattle.std.proofs.Common.{◌+◌, ◌^◌, pos, ◌≡◌, ◌⊎◌, inl, inr, ℕ, drop, ◌/◌, not, cond, Ordering, Option, None, List, [], ◌∷◌, length, Bool, true, false, Some, Err, refl, sym, ap, subst, subst₂, ◌||◌, ◌&&◌, ◌∙◌, arith}
-use Rattle.std.specs.Prelude.{nat_lt}
-use Rattle.std.specs.Ordering.{is_eq}
-use Rattle.std.specs.declared.cmp.Ordering.TheVariants.{Less}
-use Rattle.sqlite.specs.Order.{value_cmp, Row}
-use Rattle.std.specs.List.{AllByRecursion, list_all}
-use Rattle.std.proofs.lemmas.Bool.{lt-ltb, both_ways, and_from}
-use Rattle.std.proofs.lemmas.Cmp.{tied_itself}
-use Rattle.std.specs.FinMap.{FinMap, get}
-use Rattle.sqlite.specs.Term.{Term, col}
-use Rattle.sqlite.specs.Tree.{Trees, rowid, with_tree}
-use Rattle.sqlite.specs.View.{is_int}
-use Rattle.sqlite.specs.Table.{Table}
-use Rattle.sqlite.specs.declared.types.Value.{Value}
-use Rattle.sqlite.specs.declared.types.Value.TheVariants.{Null, Int}
-use Rattle.sqlite.specs.Command.TheVariants.{Insert, Delete}
-use Rattle.sqlite.specs.Source.TheVariants.{Values}
-use Rattle.sqlite.specs.Rows.{stamped}
-use Rattle.sqlite.specs.Edit.{Edit, edit_of, edited, taken_by, id_in, is_taken, are_fresh, Applies, IsRefused, next_rowid}
-use Rattle.sqlite.specs.Rowids.{Rowids}
-use Rattle.sqlite.specs.Rowids.TheVariants.{Chosen, Given}
-use Rattle.sqlite.specs.Effect.{Database, IsDatabase, value_rows, edit_error}
-use Rattle.sqlite.specs.State.{State, ExecutesInside}
-use Rattle.sqlite.specs.Listing.{understood}
-use Rattle.sqlite.specs.declared.error.Error.{Error}
-use Rattle.sqlite.specs.declared.error.Error.TheVariants.{SqliteFailure}
+use Rattle.reg_tables.proofs.Kit.{nat_lt, is_eq, Less, value_cmp, Row, AllByRecursion, list_all, lt-ltb, both_ways, and_from, tied_itself, FinMap, get, Term, col, Trees, rowid, with_tree, is_int, Table, Value, Null, Int, Insert, Delete, Values, stamped, Edit, edit_of, taken_by, id_in, is_taken, are_fresh, Applies, IsRefused, next_rowid, Rowids, Chosen, Given, Database, IsDatabase, value_rows, edit_error, State, ExecutesInside, understood, Error, SqliteFailure, statement_of, one_step, Enforced, All, Datatype, NotNull, Check, PrimaryKey, Unique, ForeignKey, Program, agree, differ, guards, are_typed, has_computed, are_present, passes_checks, Keeps, Obeys, Refers, Refusal, Violates, Mismatch, NoRowid, BadReference, TooDeep, ids_of, IsOversized, Has, some_has, any_has, all_has, has_got, put_all_has, Index, is_null, is_true, from_truth, fits_i64, ProgramOverflows, accepts_program, accepts_terms, value_cmp_total, Schema}
+use Rattle.sqlite.specs.Edit.{edited}
 use Rattle.sqlite.specs.declared.error.ErrorCode.TheVariants as code
-use Rattle.sqlite.proofs.Callers.{statement_of, one_step}
-use Rattle.sqlite_schema.specs.declared.schema.Keys.TheVariants.{Enforced}
-use Rattle.sqlite_schema.specs.declared.schema.Among.TheVariants.{All}
-use Rattle.sqlite_schema.specs.declared.schema.Constraint.TheVariants.{Datatype, NotNull, Check, PrimaryKey, Unique, ForeignKey}
-use Rattle.sqlite_schema.specs.declared.program.Program.{Program}
-use Rattle.sqlite_schema.specs.Rules.{agree, differ, guards, are_typed, has_computed, are_present, passes_checks, Keeps, Obeys, Refers}
-use Rattle.sqlite_rules.specs.declared.error.Refusal.{Refusal}
-use Rattle.sqlite_rules.specs.declared.error.Refusal.TheVariants.{Violates, Mismatch, NoRowid, BadReference, TooDeep}
-use Rattle.sqlite_rules.specs.Calls.{ids_of}
-use Rattle.sqlite_rules.specs.Edit.{IsOversized}
-use Rattle.sqlite_rules.specs.Lists.{Has}
-use Rattle.sqlite_rules.proofs.ListLemmas.{some_has, any_has, all_has, has_got}
-use Rattle.sqlite_rules.proofs.TableLemmas.{put_all_has}
-use Rattle.sqlite_schema.specs.declared.schema.Index.{Index}
-use Rattle.sqlite_sql.specs.Ops.{binary, is_null, is_true, from_truth, fits_i64}
-use Rattle.sqlite_sql.specs.Program.{ProgramOverflows}
-use Rattle.sqlite_typing.specs.Types.{accepts_program, accepts_terms}
-use Rattle.sqlite_value.proofs.OrderLemmas.{value_cmp_total}
+use Rattle.sqlite_sql.specs.Ops.{binary}
 use Rattle.reg_tables.specs.TableMaps.{Form, ShowsMap}
 use Rattle.reg_tables.specs.Rooms.{HasRoom}
 use Rattle.reg_tables.proofs.Rooms.{above, less}
 use Rattle.reg_tables.specs.FailedCalls.{IsFault, IsInsertFault}
 use Rattle.reg_tables.specs.Inside.KeyedLaws.{HaveOwnTrees, HasNoForeignKeyAction, HasKeys, IsTableAt}
 use Rattle.reg_tables.specs.Inside.Statements.{plain_query, IsCommand, IsOneStatement}
-use Rattle.sqlite.specs.Schema.{Schema}
 use Rattle.reg_tables.proofs.Cascades.{delete_allowed}
 use Rattle.reg_tables.proofs.UniqueLemmas.{with_tree_there, with_tree_elsewhere, stays_unique}
 use Rattle.reg_tables.proofs.WriteFaults.{NeverStops, none_stops, delete_fits, delete_refused, insert_too_large, insert_refused, refused_by}
 
--- a sound database of this schema obeys it
 pub obeys : (schema : Schema) (db : Database) → db.schema ≡ schema → IsDatabase db → Obeys schema db.trees
 obeys schema db declared sound = (subst (λ s. IsDatabase (record { schema = s; trees = db.trees })) declared sound).obeys
 
--- ---- a row that shares no key
+-- ---- a row with a new key
 
--- no row has the key of this row that the index guards
+-- no row has this row's key in the unique index
 abbrev pub IsFree : Table → List Row → Row → Index → Type 0
 IsFree table rows row i = guards i table ≡ true → (r : Row) → Has rows r → agree i.order i.columns r i.columns row ≡ true → ⊥
 
--- the row is of the table's types, passes its checks and shares no key
+-- the row has the table's types, passes its checks and has a new key
 pub record IsFitting (schema : Schema) (table : Table) (rows : List Row) (row : Row) : Type 0 where
   pub keyed : is_int (rowid row) ≡ true
   pub typed : (are_typed table.key 0 table.columns (drop 1 row) && has_computed table row) ≡ true
@@ -73,7 +31,7 @@ pub record IsFitting (schema : Schema) (table : Table) (rows : List Row) (row : 
   pub checked : passes_checks table row ≡ true
   pub free : AllByRecursion (IsFree table rows row) schema.indexes
 
--- a row whose key under the index is its entry's, which is new
+-- a row whose key in the index is its entry's new key
 pub new_key : {K V : Type 0} (form : Form K V) (R : K → K → Ordering) (m : FinMap R V) (rows : List Row) → ShowsMap form rows (get m) → (k : K) → get m k ≡ None → (Shares : Row → Type 0)
     → ((r : Row) (q : K) → form.key_of r ≡ form.key_cells q → Shares r → q ≡ k) → (r : Row) → Has rows r → Shares r → ⊥
 new_key {V = V} form R m rows shows k free Shares same_key r was shares =
@@ -90,11 +48,11 @@ differ_itself v = rw (tied_itself value_cmp_total v) (go (is_null v || is_null v
     go true = refl
     go false = refl
 
--- the rowid is not storable, or it is taken
+-- the rowid is out of range or taken
 abbrev pub IsRowidTrouble : List Row → Row → Refusal → Type 0
 IsRowidTrouble rows row why = ((why ≡ NoRowid) × (fits_i64 (id_in (rowid row)) ≡ false)) ⊎ ((why ≡ Violates PrimaryKey) × (is_taken rows row ≡ true))
 
--- where there is room, the rowid is free
+-- with room after the last row, the rowid is free
 pub no_trouble : (rows : List Row) (count : ℕ) → HasRoom rows (count + 1) → (row : Row) → rowid row ≡ Int (next_rowid rows) → (why : Refusal) → IsRowidTrouble rows row why → ⊥
 no_trouble rows count h row its why (inl high) =
     let mine : rowid row ≡ Int (pos h.next) = its ∙ ap Int h.is_next in
@@ -109,7 +67,7 @@ no_trouble rows count h row its why (inr taken) =
     let clash : is_eq Less ≡ true = ap is_eq (sym lower) ∙ tie in
     cc
 
--- a row is not put in: it is too large, or its rowid isn't free
+-- an insert fails: the row is too large, or its rowid isn't free
 abbrev pub IsRowTrouble : Schema → Table → List Row → Row → Error → Type 0
 IsRowTrouble schema table rows row e = ((e ≡ SqliteFailure code.TooBig) × IsOversized schema table row) ⊎ ((why : Refusal) × IsRowidTrouble rows row why × (e ≡ edit_error why))
 
@@ -144,7 +102,7 @@ module _ (schema : Schema) (apart : HaveOwnTrees schema) (trees : Trees) (table 
   passing : (p : Row → Bool) → p row ≡ true → list_all p edit.news ≡ false → ⊥
   passing p is fails = both_ways _ (subst (λ l. list_all p l ≡ false) news fails) (and_from _ _ is refl)
 
-  -- a row may be put in where its rowid may
+  -- a row may be inserted if its rowid is free
   pub insert_allowed : (why : Refusal) → IsRefused schema Enforced trees edit why → IsRowidTrouble (trees table.tree) row why
   insert_allowed (Violates Datatype) h = absurd (passing _ fitting.typed h)
   insert_allowed (Violates NotNull) h = absurd (passing _ fitting.present h)
@@ -183,7 +141,7 @@ module _ (schema : Schema) (apart : HaveOwnTrees schema) (at : ℕ) (table : Tab
   ends : HasNoForeignKeyAction schema table.tree → (found : List Row) → NeverStops schema old.now.trees (cut found)
   ends idle found = none_stops schema old.now.trees (cut found) (idle (taken_by old.now.trees (cut found)) [])
 
-  -- a DELETE of rows to which no other refers
+  -- a DELETE of rows that no other row refers to
   pub delete_fails : (sql : List ℕ) (params : Row) (tests : List Term) → HasNoForeignKeyAction schema table.tree → IsCommand schema sql (Delete at (record { lets = []; body = plain_query table.tree tests (col 1 0 ∷ []) }))
       → IsOneStatement sql (length params) (understood schema sql) → accepts_program schema [] (plain_query table.tree tests (col 1 0 ∷ [])) params ≡ true
       → ((found : List Row) (next : Trees) → Applies schema Enforced old.now.trees (edit_of old.now.trees table (ids_of found) Given 0 []) next → Refers All schema old.now.trees → Refers All schema next)
@@ -199,7 +157,7 @@ module _ (schema : Schema) (apart : HaveOwnTrees schema) (at : ℕ) (table : Tab
         ]
       ]
 
-  -- an INSERT of a row that shares no key
+  -- an INSERT of a row with a new key
   module _ (terms : List Term) (width : ℕ) (params row : Row) where
     abbrev sources : List Row
     sources = value_rows (stamped table params) width (length terms / width) terms
@@ -229,7 +187,7 @@ as_insert_fault schema old new table rows row e (inl fault) = inl (inl (inl faul
 as_insert_fault schema old new table rows row e (inr (inl large)) = inl (inr large.0)
 as_insert_fault schema old new table rows row e (inr (inr r)) = elim r.1 [ inl high ↦ inr (inl (r.2 ∙ ap edit_error high.0)) | inr taken ↦ inr (inr (r.2 ∙ ap edit_error taken.0)) ]
 
--- where there is room for it, a row is put in but for a fault
+-- with room for it, an insert fails only with a fault
 pub fault_alone : (schema : Schema) (old new : State) (table : Table) (rows : List Row) (row : Row) (e : Error) (count : ℕ) → HasRoom rows (count + 1) → rowid row ≡ Int (next_rowid rows) → (IsOversized schema table row → ⊥) → IsFault old new e ⊎ IsRowTrouble schema table rows row e → IsFault old new e
 fault_alone schema old new table rows row e count room its fits (inl fault) = fault
 fault_alone schema old new table rows row e count room its fits (inr (inl large)) = absurd (fits large.1)

@@ -1,20 +1,8 @@
--- What a query of all rows of a table lists, and how a list of rows fails.
+-- What a query of all rows of a table returns, and why it fails.
 use Rattle.std.proofs.Common.{◌≡◌, ◌⊎◌, inl, inr, ℕ, ℤ, zero, suc, List, [], ◌∷◌, map, All, IsTrue, refl, sym, subst, ◌∙◌, arith, pos, lit≤, codes, ap}
-use Rattle.std.specs.Prelude.{Result, IfOk, IfErr}
-use Rattle.std.specs.List.Sorted.{IsPermutation}
-use Rattle.std.proofs.lemmas.List.Sorted.{IsPermutation-map}
-use Rattle.std.proofs.lemmas.Simd.{map-map}
-use Rattle.sqlite.specs.declared.error.Error.{Error}
-use Rattle.sqlite.specs.Held.{Held, state}
-use Rattle.sqlite_trees.specs.declared.store.Store.{Ghosts}
-use Rattle.sqlite.specs.Order.{Row, column}
-use Rattle.sqlite.specs.Term.{Term, eval_all, col}
-use Rattle.sqlite.specs.Schema.{Schema}
-use Rattle.sqlite.specs.Effect.{Database}
-use Rattle.sqlite.specs.Query.{IsAnswer}
-use Rattle.sqlite.specs.Program.{overlay}
-use Rattle.sqlite.specs.State.{State, Shown, HasCleanDisk}
-use Rattle.sqlite_rules.specs.Lists.{Has}
+use Rattle.reg_tables.proofs.Kit.{Result, IfOk, IfErr, IsPermutation, IsPermutation-map, map-map, Error, Held, Ghosts, Row, Term, eval_all, col, Schema, Database, IsAnswer, overlay, State, Shown, HasCleanDisk, Has, get, Int, Text, id_in, rowid}
+use Rattle.sqlite.specs.Held.{state}
+use Rattle.sqlite.specs.Order.{column}
 use Rattle.reg_tables.specs.declared.autocommit.AutocommitConnection.{AutocommitConnection}
 use Rattle.reg_tables.specs.Frames.{after_begin, ReadsInAutocommit}
 use Rattle.reg_tables.specs.Lookups.{Finds}
@@ -33,33 +21,29 @@ use Rattle.reg_tables.proofs.Statements.{IsAsked, laid_out, all_versions, asks_a
 use Rattle.reg_tables.proofs.Faults.{Asks, asks, asks_five, query_faults, read_fault_until, memory_is_fault}
 use Rattle.reg_tables.proofs.Transactions.{shown_open, if_ok, if_err}
 use Rattle.reg_tables.proofs.ReadableRows.{readable_version, readable_level, readable_kept, readable_meta, by_entry, pair_is}
-use Rattle.std.specs.FinMap.{get}
-use Rattle.sqlite.specs.declared.types.Value.TheVariants.{Int, Text}
-use Rattle.sqlite.specs.Edit.{id_in}
-use Rattle.sqlite.specs.Tree.{rowid}
 use Rattle.sqlite.specs.Listing.{understood}
 use Rattle.sqlite_tied.specs.Compute.{everything}
 use Rattle.reg_tables.proofs.Tables.{at_both, shown_by}
 
--- the query of all rows of a table, which shows these terms
+-- the query of these terms over all rows of a table
 abbrev pub all_of : List ℕ → ℕ → List Term → List (List ℕ) → TableQuery
 all_of sql tree shown names = record { sql = sql; tree = tree; tests = []; shown = shown; names = names; order = []; limit = all_rows }
 
--- ---- how a query of rows fails
+-- ---- why a query of rows fails
 
--- over this state it shows what can be read
+-- in this state the query returns readable rows
 abbrev pub ReadsBy : List ℕ → Row → (Row → Type 0) → State → State → Type 0
 ReadsBy sql params is_readable old new = Asks sql params old.now.schema × ((found : List Row) → Shown sql params old new found → All is_readable found)
 
 module _ (sql : List ℕ) (old new end : State) (is_readable : Row → Type 0) (e : Error) (params : Row) (why : FailsToList is_readable sql params old new end e) where
-  -- where it shows what can be read, its rows fail with a fault alone
+  -- if the returned rows are readable, only a fault can make it fail
   pub asked_fault : (IsTrue old.is_open → ReadsBy sql params is_readable old new) → IsFault old end e
   asked_fault can = elim why [
     | inl failed ↦ read_fault_until old new end failed.0 e (query_faults sql params old new (λ is_open. (can is_open).0) e failed.1)
     | inr read ↦ memory_is_fault old end e (read.2 ((can (shown_open sql params old new read.0 read.1)).1 read.0 read.1))
   ]
 
-  -- and whatever it shows, with a fault or where a row can't be read
+  -- otherwise a row may also be unreadable
   pub asked_told : (IsTrue old.is_open → Asks sql params old.now.schema) → IsFault old end e ⊎ IsUnreadable e
   asked_told known = elim why [
     | inl failed ↦ inl (read_fault_until old new end failed.0 e (query_faults sql params old new known e failed.1))
@@ -69,7 +53,7 @@ module _ (sql : List ℕ) (old new end : State) (is_readable : Row → Type 0) (
 pub of_layout : (db : Database) → HoldsReadable db → HasFiveTables db.schema
 of_layout db there = laid_out there.holds there.known
 
--- the same of queries of one of the five tables
+-- the same for queries of one of the five tables
 module _ {q : TableQuery} {params : Row} (it : IsAsked q params) (is_readable : Row → Type 0) (old new end : State) where
   pub list_fault : ((found : List Row) → Shown q.sql params old new found → HoldsReadable old.now → All is_readable found) → (e : Error) → FailsToList is_readable q.sql params old new end e → CanBeRead old → IsFault old end e
   list_fault readable e why can = asked_fault q.sql old new end is_readable e params why (λ is_open. let there = can is_open in (asks_five it old.now.schema (of_layout old.now there), λ found shown. readable found shown there))
@@ -77,7 +61,7 @@ module _ {q : TableQuery} {params : Row} (it : IsAsked q params) (is_readable : 
   pub list_told : (e : Error) → FailsToList is_readable q.sql params old new end e → HasLayout old → IsFault old end e ⊎ IsUnreadable e
   list_told e why known = asked_told q.sql old new end is_readable e params why (λ is_open. asks_five it old.now.schema (known is_open))
 
--- a look-up of versions by such a query
+-- a lookup of versions by such a query
 module _ {S X : Type 0} {g : Ghosts S} {q : TableQuery} {params : Row} (asked : IsAsked q params) {Tells : Contents → X → Type 0} (is_readable : Row → Type 0) (Reads : X → List Row → Type 0) (old new : AutocommitConnection S g) (r : Result X Error) (frame : ReadsInAutocommit g old.conn new.conn r)
     (read : HasCleanDisk (state g new.conn) → IfOk r (λ x. (last : Held S) × (found : List Row) × Shown q.sql params (after_begin g old.conn) (state g last) found × Reads x found))
     (failed : HasCleanDisk (state g new.conn) → IfErr r (λ e. (last : Held S) × FailsToList is_readable q.sql params (after_begin g old.conn) (state g last) (state g new.conn) e)) where
@@ -93,18 +77,18 @@ module _ {S X : Type 0} {g : Ghosts S} {q : TableQuery} {params : Row} (asked : 
 
 -- ---- all rows of a table
 
--- in each schema that is known the text shows all rows of its table, each with its parts in the same places
-pub record ShowsTable {K V : Type 0} (Known : Schema → Type 0) (HoldsLayoutOne : Database → Type 0) (form : Form K V) (is_readable : Row → Type 0) (sql : List ℕ) (tree : Schema → ℕ) : Type 0 where
+-- in each of these schemas the SQL text returns all rows of its table, each with the columns of its rowid, key and value
+pub record ShowsTable {K V : Type 0} (Known : Schema → Type 0) (IsReadable : Database → Type 0) (form : Form K V) (is_readable : Row → Type 0) (sql : List ℕ) (tree : Schema → ℕ) : Type 0 where
   pub shown : List Term
   pub names : List (List ℕ)
   pub is : (schema : Schema) → Known schema → IsQuery (all_of sql (tree schema) shown names) schema
   pub takes : (schema : Schema) → Known schema → Takes (all_of sql (tree schema) shown names) [] schema
   pub whole : (row : Row) → parts_of form (eval_all shown ([] ∷ row ∷ [])) ≡ parts_of form row
-  pub known : (db : Database) → HoldsLayoutOne db → Known db.schema
-  pub readable : (db : Database) → HoldsLayoutOne db → (row : Row) → Has (db.trees (tree db.schema)) row → is_readable (eval_all shown ([] ∷ row ∷ []))
+  pub known : (db : Database) → IsReadable db → Known db.schema
+  pub readable : (db : Database) → IsReadable db → (row : Row) → Has (db.trees (tree db.schema)) row → is_readable (eval_all shown ([] ∷ row ∷ []))
 
 abbrev ShowsInFive : {K V : Type 0} → (Database → Type 0) → Form K V → (Row → Type 0) → TableQuery → Type 0
-ShowsInFive HoldsLayoutOne form is_readable q = ShowsTable HasFiveTables HoldsLayoutOne form is_readable q.sql (λ schema. q.tree)
+ShowsInFive IsReadable form is_readable q = ShowsTable HasFiveTables IsReadable form is_readable q.sql (λ schema. q.tree)
 
 pub shows_versions : ShowsInFive HoldsReadable version_form IsReadableVersion all_versions
 shows_versions = record { shown = all_versions.shown; names = all_versions.names; is = asks_all_versions.is; takes = asks_all_versions.takes; whole = λ row. refl; known = of_layout; readable = readable_version }
@@ -123,7 +107,7 @@ all_if_each P [] each k d low = absurd (omega arith)
 all_if_each P (x ∷ xs) each zero d low = each x (inl refl)
 all_if_each P (x ∷ xs) each (suc k) d low = all_if_each P xs (λ y h. each y (inr h)) k d (omega (arith, low))
 
-module _ {K V : Type 0} {Known : Schema → Type 0} {HoldsLayoutOne : Database → Type 0} {form : Form K V} {is_readable : Row → Type 0} {sql : List ℕ} {tree : Schema → ℕ} (table : ShowsTable Known HoldsLayoutOne form is_readable sql tree) (old new : State) where
+module _ {K V : Type 0} {Known : Schema → Type 0} {IsReadable : Database → Type 0} {form : Form K V} {is_readable : Row → Type 0} {sql : List ℕ} {tree : Schema → ℕ} (table : ShowsTable Known IsReadable form is_readable sql tree) (old new : State) where
   abbrev place : ℕ
   place = tree old.now.schema
 
@@ -145,26 +129,26 @@ module _ {K V : Type 0} {Known : Schema → Type 0} {HoldsLayoutOne : Database �
         let same : map (parts_of form) (map show rows) ≡ map (parts_of form) rows = map-map (parts_of form) show rows ∙ (λ i. map (λ (row : Row). table.whole row i) rows) in
         subst (λ l. IsPermutation l (map (parts_of form) found)) same (IsPermutation-map (parts_of form) (map show rows) found all)
 
-    shown_readable : HoldsLayoutOne old.now → All is_readable found
+    shown_readable : IsReadable old.now → All is_readable found
     shown_readable there = all_if_each is_readable found (λ x has.
         let r = answer_has [] [] place table.shown (overlay old.now.trees []) found answer x has in
         subst is_readable (sym r.3) (table.readable old.now there r.0 (subst (λ l. Has l r.0) (with_nothing old.now.trees place) r.1)))
 
-  -- the lines that were read from what is shown list the table
+  -- the values read from the returned rows list the table
   pub lists_lines : {L : Type 0} (entry : L → ℤ × K × V) (lines : List L) (found : List Row) → Shown sql [] old new found → map (parts_of form) found ≡ map (λ line. entry_parts form (entry line)) lines → Known old.now.schema → Lists form (old.now.trees place) (map entry lines)
   lists_lines entry lines found h read laid = subst (IsPermutation (map (parts_of form) (old.now.trees place))) (read ∙ sym (map-map (entry_parts form) entry lines)) (shown_parts laid found h)
 
-  -- of readable contents the lines fail with a fault alone
-  pub lines_fault : (end : State) (e : Error) → FailsToList is_readable sql [] old new end e → (IsTrue old.is_open → HoldsLayoutOne old.now) → IsFault old end e
+  -- over readable contents only a fault can make it fail
+  pub lines_fault : (end : State) (e : Error) → FailsToList is_readable sql [] old new end e → (IsTrue old.is_open → IsReadable old.now) → IsFault old end e
   lines_fault end e why can = asked_fault sql old new end is_readable e [] why (λ is_open. let there = can is_open in let laid = table.known old.now there in (its_asks laid, λ found h. shown_readable laid found h there))
 
-  -- of any contents they fail with a fault, or where a row can't be read
+  -- over any contents it fails with a fault or an unreadable row
   pub lines_told : (end : State) (e : Error) → FailsToList is_readable sql [] old new end e → (IsTrue old.is_open → Known old.now.schema) → IsFault old end e ⊎ IsUnreadable e
   lines_told end e why known = asked_told sql old new end is_readable e [] why (λ is_open. its_asks (known is_open))
 
 -- ---- the tables that layout 2 adds
 
--- the database has the eight tables, and holds what can be read
+-- the database has the eight tables with readable contents
 abbrev HoldsEight : Database → Type 0
 HoldsEight = HoldsReadableIn HasEightTables
 

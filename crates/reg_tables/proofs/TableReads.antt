@@ -1,20 +1,15 @@
--- What a look-up by its key shows of the contents.
+-- What a lookup by key says about the contents.
 use Rattle.std.proofs.Common.{inl, ◌≡◌, ◌≢◌, ℕ, List, [], ◌∷◌, Option, None, Some, MatchOption, slice_get, refl, sym, ap, ◌∙◌}
-use Rattle.std.specs.FinMap.{get}
-use Rattle.sqlite.specs.declared.types.Value.TheVariants.{Text}
-use Rattle.sqlite.specs.Order.{Row}
-use Rattle.sqlite.specs.State.{State, Shown}
-use Rattle.sqlite.specs.Schema.{Schema}
+use Rattle.reg_tables.proofs.Kit.{get, Text, Row, State, Shown, Schema, Has}
 use Rattle.reg_tables.specs.Layout.{HasFiveTables}
 use Rattle.reg_tables.specs.Contents.{text_cmp, Contents, number_cells, HoldsContents}
 use Rattle.reg_tables.specs.Inside.Statements.{IsQuery}
 use Rattle.reg_tables.proofs.KeyedTables.{text_order, by_text_test, shown_has, has_shown}
 use Rattle.reg_tables.proofs.MapLemmas.{same_key, tied_key}
-use Rattle.sqlite_rules.specs.Lists.{Has}
 use Rattle.reg_tables.proofs.Tables.{five}
 use Rattle.reg_tables.proofs.Statements.{laid_out, find_id, asks_id}
 
--- by the first of the rows that are shown
+-- the value in the first returned row
 pub first_shown : (found : List Row) (P : Row → Type 0) (Q : Type 0) → ((x : Row) → Has found x → P x) → (((x : Row) → Has found x → ⊥) → Q) → (o : Option Row) → o ≡ slice_get found 0 → MatchOption o Q P
 first_shown [] P Q some none None is = none (λ x there. there)
 first_shown (r ∷ found) P Q some none None is = absurd (cc)

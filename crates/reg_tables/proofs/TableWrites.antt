@@ -1,19 +1,13 @@
--- What each statement makes of the contents.
+-- How each statement changes the contents.
 use Rattle.std.proofs.Common.{◌≡◌, ℕ, pos, List, [], ◌∷◌, None, Ok, refl}
-use Rattle.std.specs.Ordering.{nat_cmp}
-use Rattle.std.specs.FinMap.{get, insert}
-use Rattle.sqlite.specs.declared.types.Value.TheVariants.{Null, Int, Text}
-use Rattle.sqlite.specs.Order.{Row, column}
-use Rattle.sqlite.specs.Tree.{rowid}
-use Rattle.sqlite.specs.Schema.{Schema}
-use Rattle.sqlite.specs.Cast.{cast_row}
-use Rattle.sqlite.specs.State.{State, Executes}
+use Rattle.reg_tables.proofs.Kit.{nat_cmp, get, Null, Int, Text, Row, rowid, Schema, cast_row, State, Executes, Index}
+use Rattle.std.specs.FinMap.{insert}
+use Rattle.sqlite.specs.Order.{column}
 use Rattle.reg_tables.specs.Layout.{five_tables_then, texts, versions, added_tables}
 use Rattle.reg_tables.specs.Contents.{version_cmp, VersionEntryView, Contents, text_form, version_form, HoldsContents, TableName}
 use Rattle.reg_tables.specs.TableMaps.{IsEntry}
 use Rattle.reg_tables.specs.Changes.{altered, as_deleted, with_deleted, with_text}
 use Rattle.reg_tables.specs.Inside.Statements.{by_version}
-use Rattle.sqlite_schema.specs.declared.schema.Index.{Index}
 use Rattle.reg_tables.proofs.Statements.{text_terms, put_text, put_text_is, with_flag, mark_version, mark_version_is}
 use Rattle.reg_tables.proofs.WellDeclared.{IsWellDeclared, steady}
 use Rattle.reg_tables.proofs.Tables.{turned}
@@ -21,7 +15,7 @@ use Rattle.reg_tables.proofs.KeyedTables.{number_order, distinct_numbers, versio
 
 -- ---- texts and versions
 
--- the row of a version with the flag is that of the version as deleted
+-- a version's row with the flag set is that of the version as deleted
 marked_entry : (row : Row) (key : List ℕ × ℕ) (version : VersionEntryView) → IsEntry version_form row key version → IsEntry version_form (cast_row versions (rowid row ∷ column row 1 ∷ column row 2 ∷ column row 3 ∷ Int (pos 1) ∷ [])) key (as_deleted version)
 marked_entry row key version is =
     let subject : column row 1 ≡ Text key.0 = cc in

@@ -1,17 +1,6 @@
--- What is so of each table, by its name, where the tables hold some contents.
+-- Facts about each table, by its name, if the tables hold some contents.
 use Rattle.std.proofs.Common.{◌≡◌, ◌≢◌, ◌==◌, ℕ, zero, suc, inl, inr, List, [], ◌∷◌, ◌++◌, Option, None, Some, slice_get, refl, sym, ap, subst, ◌∙◌}
-use Rattle.std.specs.Prelude.{IsSome, unwrap_or}
-use Rattle.std.specs.declared.cmp.Ordering.{Ordering}
-use Rattle.std.specs.Cmp.{unsigned_Decides}
-use Rattle.std.specs.FinMap.{FinMap, get}
-use Rattle.std.proofs.lemmas.Bool.{cases_Bool, both_ways}
-use Rattle.sqlite.specs.Change.{KeepsRows}
-use Rattle.sqlite.specs.Effect.{Database}
-use Rattle.sqlite.specs.Schema.{Schema}
-use Rattle.sqlite.specs.Table.{Table}
-use Rattle.sqlite.specs.Tree.{Trees, IsAscending}
-use Rattle.sqlite_schema.specs.declared.schema.Index.{Index}
-use Rattle.sqlite_rules.proofs.ListLemmas.{all_has, has_got}
+use Rattle.reg_tables.proofs.Kit.{IsSome, unwrap_or, Ordering, unsigned_Decides, FinMap, get, cases_Bool, both_ways, KeepsRows, Database, Schema, Table, Trees, IsAscending, Index, all_has, has_got}
 use Rattle.reg_tables.specs.Layout.{layout_one, layout_two, layout_two_indexed_last, IsLayoutTwo, TakesMeta, HasFiveTables, HasEightTables, five_tables_then, added_tables, texts, versions, levels, kept, meta, layout_two_unindexed, IsOpenable}
 use Rattle.reg_tables.specs.TableMaps.{Form, ShowsMap}
 use Rattle.reg_tables.specs.Contents.{text_form, version_form, pair_form, kept_form, TableName, Texts, Versions, Levels, Kept, Meta, Modes, Evidence, Against, ordinal_of, table_in, HasTable, form_of, MapOf, map_of, with_map, Contents, ShowsIn, ShowsAll, HoldsContents}
@@ -92,19 +81,19 @@ apart_at (t ∷ tables) up (suc i) zero a b here there other =
 apart_at (t ∷ tables) up (suc i) (suc j) a b here there other = apart_at tables up.1 i j a b here there (λ e. other (ap suc e))
 
 module _ {K V : Type 0} {R : K → K → Ordering} (form : Form K V) (map : FinMap R V) where
-  -- a table that keeps its rows shows what it showed
+  -- a table that keeps its rows shows the same map
   pub shows_still : (old new : Trees) (table : Option Table) → ((t : Table) → table ≡ Some t → new t.tree ≡ old t.tree) → ShowsIn form old table map → ShowsIn form new table map
   shows_still old new None same h = h
   shows_still old new (Some t) same h = same_rows {form = form} (same t refl) h
 
-  -- and a table that is made shows the empty map
+  -- a new table shows the empty map
   pub shows_made : (tables : List Table) (made : Table) (old new : Trees) → KeepsRows tables old new → new made.tree ≡ [] → (at : ℕ) → ShowsIn form old (slice_get tables at) map → ShowsIn form new (slice_get (tables ++ made ∷ []) at) map
   shows_made [] made old new same none zero h = subst (λ rows. ShowsMap form rows (get map)) (sym none) (subst (λ m. ShowsMap form [] (get m)) (sym h) (shows_empty R form))
   shows_made [] made old new same none (suc at) h = h
   shows_made (t ∷ tables) made old new same none zero h = same_rows {form = form} same.0 h
   shows_made (t ∷ tables) made old new same none (suc at) h = shows_made tables made old new same.1 none at h
 
-  -- where there is a table, it shows the map
+  -- if the schema has the table, the table shows the map
   module _ (trees : Trees) (other : Table) where
     pub shows_in : (table : Option Table) → IsSome table → ShowsMap form (trees (unwrap_or table other).tree) (get map) → ShowsIn form trees table map
     shows_in None there shows = absurd (cc)
@@ -141,13 +130,12 @@ module _ (schema : Schema) (apart : HaveOwnTrees schema) (name : TableName) (tab
         (h.shows other))
   ]
 
-  -- the contents have the other map
   pub turned : HoldsContents schema new (with_map name map contents)
   turned = record { declared = t.declared; sound = t.sound; shows = turned_shows }
 
 -- ---- the tables of the layouts
 
--- what the five tables show that come first
+-- the maps that the first five tables show
 pub record ShowsFive (db : Database) (contents : Contents) : Type 0 where
   pub texts : ShowsMap text_form (db.trees texts.tree) (get contents.texts)
   pub versions : ShowsMap version_form (db.trees versions.tree) (get contents.versions)
@@ -176,7 +164,6 @@ has_table schema Modes known = subst (HasPlace 5) (sym known.is) refl
 has_table schema Evidence known = subst (HasPlace 6) (sym known.is) refl
 has_table schema Against known = subst (HasPlace 7) (sym known.is) refl
 
--- a table that is there shows its map
 pub shown_by : {schema : Schema} {db : Database} {contents : Contents} → HoldsContents schema db contents → (name : TableName) → HasTable name schema → ShowsMap (form_of name) (db.trees (table_in schema name).tree) (get (map_of name contents))
 shown_by {schema} {db} {contents} h name known = shown_in (form_of name) (map_of name contents) db.trees _ (slice_get schema.tables (ordinal_of name)) (has_table schema name known) (h.shows name)
 
@@ -193,14 +180,14 @@ openable_has_eight schema (inl (inl is)) = record { first = 11; place = inr refl
 openable_has_eight schema (inl (inr is)) = record { first = 10; place = inl refl; indexes = layout_two_indexed_last.indexes; is = is }
 openable_has_eight schema (inr is) = record { first = 10; place = inl refl; indexes = layout_two_unindexed.indexes; is = is }
 
--- what is so whatever tables and indexes follow the five tables, and so in each of these schemas
+-- what is true of the five tables followed by any tables and indexes, and so of each of these schemas
 pub begins_in_two : (P : Schema → Type 0) → ((tables : List Table) (indexes : List Index) → P (five_tables_then tables indexes)) → (schema : Schema) → IsLayoutTwo schema → P schema
 begins_in_two P each schema is = let known = two_has_eight schema is in subst P (sym known.is) (each (added_tables known.first) known.indexes)
 
 pub begins_written : (P : Schema → Type 0) → ((tables : List Table) (indexes : List Index) → P (five_tables_then tables indexes)) → (schema : Schema) → TakesMeta schema → P schema
 begins_written P each schema written = let it = meta_has_five schema written in subst P (sym it.is) (each it.tables it.indexes)
 
--- what is so wherever the new tables stand, before the index or behind it
+-- what is true if the new tables were made before the index, and if after it
 pub at_both : (P : Schema → Type 0) → ((indexes : List Index) → P (five_tables_then (added_tables 10) indexes)) → ((indexes : List Index) → P (five_tables_then (added_tables 11) indexes)) → (schema : Schema) → HasEightTables schema → P schema
 at_both P before behind schema known = subst P (sym known.is) (elim known.place [
   | inl is ↦ subst (λ n. P (five_tables_then (added_tables n) known.indexes)) (sym is) (before known.indexes)

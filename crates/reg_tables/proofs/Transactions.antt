@@ -1,15 +1,8 @@
 -- Several statements in one transaction, and a query in a transaction of its own.
 use Rattle.std.proofs.Common.{◌≡◌, ◌⊎◌, inl, inr, ℕ, List, Option, Some, None, Ok, Err, Result, sym, subst, ap, ◌∙◌}
-use Rattle.std.specs.Prelude.{IfOk, IfErr, IsErrAnd, OnOk, Vec, IsTrue, true, if◌then◌else◌}
-use Rattle.std.specs.declared.alloc.Global.{Global}
-use Rattle.sqlite.specs.Order.{Row}
-use Rattle.sqlite.specs.Held.{Held, state}
-use Rattle.sqlite.specs.Clock.{timed}
-use Rattle.sqlite.specs.declared.error.Error.{Error}
-use Rattle.sqlite.specs.State.{State, Survives, KeepsCommit, IsUnchanged, IsRolledBack, Shown, ShowsRows, FailsToQuery, FailsToShow, IsNotRun, IsTooLate}
-use Rattle.sqlite.proofs.StateLemmas.{survives_then}
-use Rattle.sqlite_schema.specs.declared.command.Returning.{Returning}
-use Rattle.sqlite_trees.specs.declared.store.Store.{Ghosts}
+use Rattle.reg_tables.proofs.Kit.{IfOk, IfErr, IsErrAnd, OnOk, Vec, IsTrue, true, if◌then◌else◌, Global, Row, Held, timed, Error, State, Survives, KeepsCommit, IsUnchanged, IsRolledBack, ShowsRows, FailsToShow, IsTooLate, survives_then, Returning, Ghosts}
+use Rattle.sqlite.specs.Held.{state}
+use Rattle.sqlite.specs.State.{Shown, FailsToQuery, IsNotRun}
 use Rattle.reg_tables.specs.Frames.{ReadsInAutocommit}
 
 pub keeps_then : (a b c : State) → KeepsCommit a b → KeepsCommit b c → KeepsCommit a c
@@ -24,7 +17,7 @@ keeps_if_unchanged a b h = record { was_open = λ _. h.0.was_open; committed = �
 pub keeps_if_undone : (a b : State) → IsRolledBack a b → KeepsCommit a b
 keeps_if_undone a b h = record { was_open = h.was_open; committed = λ shown. (h.undone shown).1 }
 
--- ---- a query in a transaction commits nothing
+-- ---- a query commits nothing
 
 shown_keeps : (sql : List ℕ) (params : Row) (old new : State) (rows : List Row) → old.in_transaction ≡ true → Shown sql params old new rows → KeepsCommit old new
 unfolding Shown
@@ -51,7 +44,7 @@ asked_keeps sql params old new (Ok rows) inside ok err = shown_keeps sql params 
 asked_keeps sql params old new (Err e) inside ok (inl fails) = unshown_keeps sql params old new e fails
 asked_keeps sql params old new (Err e) inside ok (inr late) = keeps_if_unchanged old new late.5
 
--- what is shown was read over an open connection
+-- rows are returned only by an open connection
 pub shown_open : (sql : List ℕ) (params : Row) (old new : State) (rows : List Row) → Shown sql params old new rows → IsTrue old.is_open
 unfolding Shown
 shown_open sql params old new rows h = go h.0.returning h.2
@@ -82,12 +75,12 @@ pub if_err : {X E : Type 0} {P Q : E → Type 0} (r : Result X E) → ((e : E) �
 if_err (Ok x) f h = tt
 if_err (Err e) f h = f e h
 
--- an error that `?` passes on
+-- an error that `?` returns
 pub if_err_is : {X E : Type 0} (r : Result X E) (P : E → Type 0) (first : E) → IsErrAnd r (λ e. e ≡ first) → P first → IfErr r P
 if_err_is (Ok x) P first is h = tt
 if_err_is (Err e) P first is h = subst P (sym is) h
 
--- ---- what a read leaves, whatever is made of it
+-- ---- the state after a read
 
 module _ {S X Y E F : Type 0} (g : Ghosts S) (a b : Held S) where
   pub stays_read : {x : X} (r : Result Y F) → ReadsInAutocommit {E = E} g a b (Ok x) → ReadsInAutocommit g a b r

@@ -1,23 +1,7 @@
--- SQLite keeps a table's keys apart, so that the rowids alone are left to be told apart.
+-- SQLite keeps a table's keys distinct, so only the rowids remain to be compared.
 use Rattle.std.proofs.Common.{◌≡◌, inl, inr, ℕ, ℤ, pos, List, [], ◌∷◌, ◌++◌, map, Some, true, false, codes, Ordering, Less, Equal, Greater, refl, sym, ap, subst, ◌∙◌}
-use Rattle.std.specs.Ordering.{is_ne, int_cmp, nat_cmp, eq_by_cmp}
-use Rattle.std.specs.List.{IsDistinct}
-use Rattle.std.specs.FinMap.{int_cmp-IsAntisymmetric}
-use Rattle.std.proofs.lemmas.Bool.{both_ways, and_from, not-true, false_from_ne_true}
-use Rattle.sqlite.specs.declared.types.Value.TheVariants.{Int}
-use Rattle.sqlite.specs.Order.{Row}
-use Rattle.sqlite.specs.Tree.{Trees, rowid}
-use Rattle.sqlite.specs.Table.{Table}
-use Rattle.sqlite.specs.Schema.{Schema}
-use Rattle.sqlite.specs.Effect.{Database, IsDatabase}
-use Rattle.sqlite_sql.specs.Ops.{binary, is_true, from_truth}
-use Rattle.sqlite_schema.specs.declared.schema.Index.{Index}
-use Rattle.sqlite_schema.specs.declared.schema.Constraint.TheVariants.{Unique}
-use Rattle.sqlite_schema.specs.Rules.{agree, differ, guards, Obeys}
-use Rattle.sqlite_value.proofs.OrderLemmas.{value_cmp-Int}
-use Rattle.sqlite_rules.specs.Lists.{Has}
-use Rattle.sqlite_rules.proofs.ListLemmas.{test_has, some_from}
-use Rattle.sqlite_rules.proofs.RuleLemmas.{keeps_at}
+use Rattle.reg_tables.proofs.Kit.{is_ne, int_cmp, nat_cmp, eq_by_cmp, IsDistinct, int_cmp-IsAntisymmetric, both_ways, and_from, not-true, false_from_ne_true, Int, Row, Trees, rowid, Table, Schema, Database, IsDatabase, is_true, from_truth, Index, Unique, agree, differ, guards, Obeys, value_cmp-Int, Has, test_has, some_from, keeps_at}
+use Rattle.sqlite_sql.specs.Ops.{binary}
 use Rattle.reg_tables.specs.Contents.{text_cmp, version_cmp, position_cmp, TableName, KeyOf, ValueOf, cmp_of, form_of, table_in}
 use Rattle.reg_tables.specs.Layout.{HasFiveTables, automatic_index, versions_of_id, layout_one, layout_one_unindexed, five_tables_then, IsLayoutOne, versions, levels, kept, meta, added_tables, added_indexes, layout_two, layout_two_indexed_last, layout_two_unindexed, IsOpenable}
 use Rattle.reg_tables.specs.Listings.{RowParts, Lists, HasNoDuplicates, text_entry, version_entry, level_entry, kept_entry, meta_entry, mode_entry, evidence_entry, against_entry, ListsVersions, ListsLevels, ListsKept, ListsMeta, ListsModes, ListsEvidence, ListsAgainst}
@@ -34,7 +18,7 @@ use Rattle.reg_tables.proofs.Keys.{key_columns, key_laws, keys_agree}
 use Rattle.reg_tables.proofs.ListingLemmas.{stored, keys_distinct}
 use Rattle.reg_tables.proofs.ListMembers.{has_mapped, has_front, has_at}
 
--- rowids that don't differ are the same
+-- rowids that don't differ are equal
 pub same_number : (i j : ℤ) → differ (Int i) (Int j) ≡ false → i ≡ j
 unfolding binary
 same_number i j h = go (int_cmp i j) refl (rw (value_cmp-Int i j) at h)
@@ -44,19 +28,19 @@ same_number i j h = go (int_cmp i j) refl (rw (value_cmp-Int i j) at h)
     go Equal e apart = int_cmp-IsAntisymmetric i j e
     go Greater e apart = absurd (cc)
 
--- two rows with one key have one rowid
+-- two rows with the same key have the same rowid
 pub one_rowid : (schema : Schema) (db : Trees) → Obeys schema db → (table : Table) (index : Index) → Has schema.tables table → Has schema.indexes index → guards index table ≡ true
     → (a b : Row) → Has (db table.tree) a → Has (db table.tree) b → agree index.order index.columns a index.columns b ≡ true → differ (rowid a) (rowid b) ≡ false
 one_rowid schema db obeys table index listed indexed guarded a b here there same = false_from_ne_true _ (λ apart.
     both_ways _ (not-true _ (test_has _ schema.indexes index (keeps_at Unique schema db table b (obeys.rules Unique) listed there) indexed))
     (and_from _ _ guarded (some_from _ _ a here (and_from _ _ same apart))))
 
--- the rowids of the entries are those of the lines
+-- the rowids of the entries are those of the rows
 pub rowids_of : {L K V : Type 0} (entry : L → ℤ × K × V) (rowid_of : L → ℤ) → ((l : L) → (entry l).0 ≡ rowid_of l) → (ls : List L) → map (λ (e : ℤ × K × V). e.0) (map entry ls) ≡ map rowid_of ls
 rowids_of entry rowid_of same [] = refl
 rowids_of entry rowid_of same (l ∷ ls) = λ i. same l i ∷ rowids_of entry rowid_of same ls i
 
--- so the keys are apart where the rowids of the lines are
+-- so the keys are distinct if the rowids are
 module _ (db : Database) (sound : IsDatabase db) (name : TableName) (table : Table) (index_name : List ℕ) (listed : Has db.schema.tables table) (indexed : Has db.schema.indexes (automatic_index index_name table.tree (key_columns name)))
     (guarded : guards (automatic_index index_name table.tree (key_columns name)) table ≡ true) {L : Type 0} (entry : L → ℤ × KeyOf name × ValueOf name) (rowid_of : L → ℤ) (same : (l : L) → (entry l).0 ≡ rowid_of l) (lines : List L) where
   abbrev es : List (ℤ × KeyOf name × ValueOf name)
@@ -77,7 +61,6 @@ module _ (db : Database) (sound : IsDatabase db) (name : TableName) (table : Tab
           let one = one_rowid db.schema db.trees sound.obeys table (automatic_index index_name table.tree (key_columns name)) listed indexed guarded a.0 b.0 a.1 b.1 (keys_agree name a.0 b.0 e.1 key_a key_b) in
           same_number e.0 f.0 (ap (λ v. differ v (Int f.0)) (ap (λ (p : RowParts). p.0) a.2) ∙ ap (differ (rowid a.0)) (ap (λ (p : RowParts). p.0) b.2) ∙ one)
 
--- an id is its row's rowid
 pub apart_by_id : (lines : List RawText) → IsDistinct (eq_by_cmp int_cmp) (map (λ (line : RawText). pos line.id) lines) → HasNoDuplicates nat_cmp (map text_entry lines)
 apart_by_id lines ids = record { rowids = moved; keys = keys_distinct nat_cmp number_order (map text_entry lines) one_id moved }
   where
@@ -96,7 +79,7 @@ apart_by_id lines ids = record { rowids = moved; keys = keys_distinct nat_cmp nu
 
 -- ---- the tables of the layouts
 
--- the five tables come first, and the indexes that SQLite makes of their keys
+-- the schema begins with the five tables and the indexes of their keys
 pub record HasFiveKeys (schema : Schema) : Type 0 where
   pub tables : List Table
   pub indexes : List Index
@@ -115,7 +98,7 @@ two_keys schema (inl (inr is)) = record { tables = added_tables 10; indexes = ad
 two_keys schema (inr is) = record { tables = added_tables 10; indexes = added_indexes 10; is = is }
 
 module _ (db : Database) (known : HasFiveKeys db.schema) (sound : IsDatabase db) where
-  -- a table that comes first, and its index
+  -- one of the five tables, and its index
   pub has_table : (table : Table) → Has layout_one.tables table → Has db.schema.tables table
   has_table table here = subst (λ (s : Schema). Has s.tables table) (sym known.is) (has_front layout_one.tables known.tables table here)
 
@@ -136,7 +119,7 @@ module _ (db : Database) (known : HasFiveKeys db.schema) (sound : IsDatabase db)
 
 -- ---- the tables that layout 2 adds
 
--- the table is there, and so is the index of its key
+-- the schema has the table and the index of its key
 record HasKeyAt (schema : Schema) (name : TableName) (index_name : List ℕ) : Type 0 where
   listed : Has schema.tables (table_in schema name)
   indexed : Has schema.indexes (automatic_index index_name (table_in schema name).tree (key_columns name))

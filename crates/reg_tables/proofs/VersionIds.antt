@@ -1,23 +1,10 @@
--- What the query of the ids of a version lists.
+-- What the query of the ids of a version returns.
 use Rattle.std.proofs.Common.{◌≡◌, ◌&&◌, ℕ, pos, List, [], ◌∷◌, map, filter, lit≤, codes, Bool, true, false, Some, refl, sym, ap, subst, ◌∙◌}
-use Rattle.std.specs.Ordering.{is_eq}
-use Rattle.std.specs.List.Sorted.{IsPermutation}
-use Rattle.std.proofs.lemmas.List.Sorted.{IsPermutation-map}
-use Rattle.std.proofs.lemmas.Simd.{map-map}
-use Rattle.sqlite.specs.declared.types.Value.{Value}
-use Rattle.sqlite.specs.declared.types.Value.TheVariants.{Null, Int, Real, Text, Blob}
-use Rattle.sqlite.specs.Collation.TheVariants.{Binary}
-use Rattle.sqlite.specs.Order.{Row, column, value_cmp}
-use Rattle.sqlite.specs.Term.{eval_all}
-use Rattle.sqlite.specs.Program.{overlay}
-use Rattle.sqlite.specs.State.{State, Shown}
+use Rattle.reg_tables.proofs.Kit.{is_eq, IsPermutation, IsPermutation-map, map-map, Value, Null, Int, Real, Text, Blob, Binary, Row, eval_all, overlay, State, Shown, Has, Schema, is_true, from_truth, Compare, Eq}
+use Rattle.sqlite.specs.Order.{column, value_cmp}
 use Rattle.sqlite.specs.Listing.{understood}
 use Rattle.sqlite_tied.specs.Compute.{everything}
-use Rattle.sqlite_rules.specs.Lists.{Has}
-use Rattle.sqlite.specs.Schema.{Schema}
-use Rattle.sqlite_sql.specs.Ops.{binary, is_true, from_truth}
-use Rattle.sqlite_sql.specs.declared.ops.BinaryOp.TheVariants.{Compare}
-use Rattle.sqlite_sql.specs.declared.ops.CompareOp.TheVariants.{Eq}
+use Rattle.sqlite_sql.specs.Ops.{binary}
 use Rattle.reg_tables.specs.Layout.{HasEightTables}
 use Rattle.reg_tables.specs.Contents.{version_cmp, version_key_cells, against_form, Against}
 use Rattle.reg_tables.specs.Reads.{HoldsReadableIn}
@@ -48,7 +35,7 @@ ids_takes : (version : List ℕ × ℕ) → (schema : Schema) → HasEightTables
 unfolding understood everything
 ids_takes version = at_both (λ s. Takes (ids_query s) (of_version version) s) (λ indexes. record { whole = (lit≤ tt, refl); typed = refl }) (λ indexes. record { whole = (lit≤ tt, refl); typed = refl })
 
--- ---- a row passes by its subject and its number, whatever they are
+-- ---- a row passes if its columns equal the parameters
 
 truth : (b : Bool) → is_true (from_truth (Some b)) ≡ b
 truth true = refl
@@ -79,7 +66,7 @@ module _ (version : List ℕ × ℕ) where
   by_columns row =
       (λ i. same_text (column row 1) version.0 i && (same_number (column row 2) version.1 i && true)) ∙ ap (λ b. is_eq (value_cmp (column row 1) (Text version.0)) && b) (last (is_eq (value_cmp (column row 2) (Int (pos version.1)))))
 
-  -- so it does where they are those of a version
+  -- so for the subject and the number of a version
   pub is_of_told : (row : Row) (other : List ℕ × ℕ) → column row 1 ∷ column row 2 ∷ [] ≡ version_key_cells other → is_of version row ≡ is_eq (version_cmp other version)
   is_of_told row other is = sym (by_columns row) ∙ by_version_test row version other is
 

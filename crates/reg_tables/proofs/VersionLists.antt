@@ -1,20 +1,7 @@
--- What the queries of versions list, in the order of subjects and numbers.
+-- What the queries of versions return, in the order of subjects and numbers.
 use Rattle.std.proofs.Common.{◌≡◌, inl, inr, ℕ, pos, List, [], ◌∷◌, map, filter, All, Bool, Ordering, Less, Equal, Greater, refl, sym, ap, subst, ◌∙◌}
-use Rattle.std.specs.Prelude.{bytes_eq, IsUtf8, ◌<◌, ◌^◌}
-use Rattle.std.specs.FinMap.{entries, get}
-use Rattle.std.specs.Ordering.{nat_cmp, ordering_then, is_eq}
-use Rattle.sqlite.specs.declared.types.Value.TheVariants.{Int, Text}
-use Rattle.sqlite.specs.Order.{Row, column}
-use Rattle.sqlite.specs.Program.{overlay}
-use Rattle.sqlite.specs.Query.{Output, IsAnswer, key_cmp}
-use Rattle.sqlite.specs.State.{State, Shown}
-use Rattle.sqlite.specs.Schema.{Schema}
-use Rattle.sqlite.specs.Term.{Term, eval_all}
-use Rattle.sqlite_rules.specs.Lists.{Has}
-use Rattle.sqlite_rules.proofs.ListLemmas.{has_filtered, has_kept}
-use Rattle.sqlite_trees.proofs.ListLemmas.{ascending-filter, ascending_weaker}
-use Rattle.sqlite_value.specs.declared.keys.Key.{Key}
-use Rattle.sqlite_value.proofs.OrderLemmas.{value_cmp-Int, value_cmp-Text}
+use Rattle.reg_tables.proofs.Kit.{bytes_eq, IsUtf8, ◌<◌, ◌^◌, entries, get, nat_cmp, ordering_then, is_eq, Int, Text, Row, overlay, Output, IsAnswer, key_cmp, State, Shown, Schema, Term, eval_all, Has, has_filtered, has_kept, ascending-filter, ascending_weaker, Key, value_cmp-Int, value_cmp-Text, cases_Bool, both_ways, false_from_ne_true, bytes_eq-Decides, map-map}
+use Rattle.sqlite.specs.Order.{column}
 use Rattle.reg_tables.specs.Layout.{HasFiveTables}
 use Rattle.reg_tables.specs.TableMaps.{IsEntry, ShowsMap}
 use Rattle.reg_tables.specs.Contents.{version_cmp, VersionEntryView, version_cells, version_key_cells, version_form, text_cmp, Contents, AreReadable, HoldsContents}
@@ -30,15 +17,12 @@ use Rattle.reg_tables.proofs.Queries.{passes}
 use Rattle.reg_tables.proofs.Tables.{five}
 use Rattle.reg_tables.proofs.Statements.{in_order, laid_out, find_versions, asks_versions}
 use Rattle.reg_tables.proofs.TableLines.{all_if_each}
-use Rattle.std.proofs.lemmas.Bool.{cases_Bool, both_ways, false_from_ne_true}
-use Rattle.std.proofs.lemmas.Slice.Eq.{bytes_eq-Decides}
-use Rattle.std.proofs.lemmas.Simd.{map-map}
 
--- the key of a version, and what is in its row
+-- the key of a version and its other columns
 abbrev pub Entry : Type 0
 Entry = (List ℕ × ℕ) × VersionEntryView
 
--- a version's key is ordered by its columns
+-- versions are ordered by the columns of their keys
 pub ranks : (a b : List ℕ × ℕ) → version_cmp a b ≡ Less → key_cmp 0 (map (λ (k : Term × Key). k.1) in_order) (version_key_cells a) (version_key_cells b) ≡ Less
 ranks a b h = rw (value_cmp-Text a.0 b.0, value_cmp-Int (pos a.1) (pos b.1), int_order a.1 b.1) (go (text_cmp a.0 b.0) (nat_cmp a.1 b.1) h)
   where
@@ -49,7 +33,7 @@ ranks a b h = rw (value_cmp-Text a.0 b.0, value_cmp-Int (pos a.1) (pos b.1), int
     go Equal Greater h = h
     go Greater y h = h
 
--- lists are told apart by their cells where their members are
+-- lists with the same cells are equal if this is true of their members
 pub same_cells : {A : Type 0} (f : A → Row) → ((a b : A) → f a ≡ f b → a ≡ b) → (xs ys : List A) → map f xs ≡ map f ys → xs ≡ ys
 same_cells f distinct [] [] h = refl
 same_cells f distinct [] (y ∷ ys) h = absurd (cc)
@@ -59,7 +43,7 @@ same_cells f distinct (x ∷ xs) (y ∷ ys) h =
     let rest : map f xs ≡ map f ys = cc in
     λ i. distinct x y first i ∷ same_cells f distinct xs ys rest i
 
--- the query shows its columns of the versions that pass, in order
+-- the query returns its columns of the versions that pass, in order
 module _ (q : TableQuery) (ordered : body_of q ≡ ordered_query 2 q.tests q.shown in_order all_rows) (params : Row) (old new : State) (it : IsQuery q old.now.schema) (found : List Row) (h : Shown q.sql params old new found) (contents : Contents)
     (shows : ShowsMap version_form (old.now.trees 2) (get contents.versions)) (p : Entry → Bool) (test : (row : Row) (e : Entry) → IsEntry version_form row e.0 e.1 → passes q.tests params row ≡ p e) (cells : Entry → Row)
     (whole : (row : Row) (e : Entry) → IsEntry version_form row e.0 e.1 → eval_all q.shown (params ∷ row ∷ []) ≡ cells e) where
@@ -81,7 +65,7 @@ module _ (q : TableQuery) (ordered : body_of q ≡ ordered_query 2 q.tests q.sho
       (ascending_weaker (λ (a b : Entry). version_cmp a.0 b.0 ≡ Less) _ (λ a b. ranks a.0 b.0) (entries contents.versions) (entries_rise version_cmp version_order contents.versions))) in
       answer.shown ∙ ap (map (λ (o : Output). o.1)) as_ordered ∙ map-map (λ (o : Output). o.1) out es
 
-  -- of readable contents each row is readable
+  -- over readable contents each row is readable
   pub readable_versions : (is_readable : Row → Type 0) → ((e : Entry) → IsUtf8 e.0.0 × (e.0.1 < 2 ^ 32) × (e.1.id < 2 ^ 32) → is_readable (cells e)) → AreReadable contents → All is_readable found
   readable_versions is_readable can readable = all_if_each is_readable found (λ x there.
       let e = has_mapped cells (filter p (entries contents.versions)) x (subst (λ l. Has l x) lists_versions there) in

@@ -1,20 +1,7 @@
--- How the schemas of layout 2 are made.
+-- What writes need of the schemas of layout 2.
 use Rattle.std.proofs.Common.{◌≡◌, ◌≢◌, ◌≤◌, ◌==◌, ℕ, inl, inr, length, List, [], ◌∷◌, Bool, true, false, not, ◌&&◌, cond, lit≤, refl, sym, ap, subst, arith}
-use Rattle.std.specs.List.{AllByRecursion, flat_map, filter_map}
-use Rattle.std.proofs.lemmas.Bool.{and_parts, both_ways, not-true, eq-eqb, ne_eqb}
-use Rattle.sqlite.specs.Order.{Row}
-use Rattle.sqlite.specs.Tree.{IsAscending}
-use Rattle.sqlite.specs.Table.{Table}
-use Rattle.sqlite.specs.Schema.{Schema}
-use Rattle.sqlite.specs.Edit.{edit_of, taken_by}
-use Rattle.sqlite.specs.Rowids.TheVariants.{Given}
-use Rattle.sqlite_schema.specs.declared.schema.Keys.TheVariants.{Enforced}
-use Rattle.sqlite_schema.specs.declared.schema.Index.{Index}
+use Rattle.reg_tables.proofs.Kit.{AllByRecursion, flat_map, filter_map, and_parts, both_ways, not-true, eq-eqb, ne_eqb, Row, IsAscending, Table, Schema, edit_of, taken_by, Given, Enforced, Index, agree, parent_key, references_fit, Work, works, work_by, deed_of, pairs, ids_of, no_works}
 use Rattle.sqlite_schema.specs.Names.{same_name}
-use Rattle.sqlite_schema.specs.Rules.{agree, parent_key, references_fit}
-use Rattle.sqlite_rules.specs.Action.{Work, works, work_by, deed_of, pairs}
-use Rattle.sqlite_rules.specs.Calls.{ids_of}
-use Rattle.sqlite_rules.proofs.ActionLemmas.{no_works}
 use Rattle.sqlite_value.specs.Keys.{joined}
 use Rattle.reg_tables.specs.Layout.{five_tables_then, versions, added_tables, layout_two, layout_two_indexed_last, IsLayoutTwo}
 use Rattle.reg_tables.specs.Contents.{TableName, Texts, Versions, Levels, Kept, Meta, Modes, Evidence, Against, ordinal_of, table_in, KeyOf, form_of}
@@ -38,19 +25,18 @@ apart_if (t ∷ tables) h = let parts = and_parts (is_apart_from t.tree tables) 
     each [] h = tt
     each (b ∷ later) h = let parts = and_parts (not (b.tree == t.tree)) (is_apart_from t.tree later) h in (λ e. both_ways _ (not-true _ parts.0) (eq-eqb b.tree t.tree (sym e)), each later parts.1)
 
--- in each case
 pub all_keys : (schema : Schema) (table : Table) → references_fit schema table true true ≡ true → references_fit schema table true false ≡ true → references_fit schema table false true ≡ true → references_fit schema table false false ≡ true → HasKeys schema table
 all_keys schema table a b c d true true = a
 all_keys schema table a b c d true false = b
 all_keys schema table a b c d false true = c
 all_keys schema table a b c d false false = d
 
--- the columns of the one index of each table: its key's, or that of a text
+-- the columns of each table's only unique index: its key's, or the text
 abbrev pub index_columns : TableName → List ℕ
 index_columns Texts = 2 ∷ []
 index_columns name = key_columns name
 
--- the tables have trees of their own, their references fit, and what an index guards of each is told
+-- no two tables have the same tree, their references fit, and each unique index of a table is on its `index_columns`
 pub record IsWellDeclared (schema : Schema) : Type 0 where
   pub apart : HaveOwnTrees schema
   pub at : (name : TableName) → IsTableAt schema (ordinal_of name) (table_in schema name)
@@ -106,21 +92,21 @@ last_settled : IsWellDeclared layout_two_indexed_last
 unfolding are_apart is_apart_from
 last_settled = record { apart = apart_if layout_two_indexed_last.tables refl; at = last_at; on = last_on }
 
--- what is so of each layout 2, by the first of its new trees
+-- what is true of both schemas of layout 2, by the first of the new trees
 pub in_layout_two : (P : Schema → Type 0) → ((first : ℕ) (indexes : List Index) → 10 ≤ first → IsWellDeclared (five_tables_then (added_tables first) indexes) → P (five_tables_then (added_tables first) indexes)) → (schema : Schema) → IsLayoutTwo schema → P schema
 in_layout_two P each schema (inl is) = subst P (sym is) (each 11 layout_two.indexes (lit≤ tt) two_settled)
 in_layout_two P each schema (inr is) = subst P (sym is) (each 10 layout_two_indexed_last.indexes (lit≤ tt) last_settled)
 
--- the same, where the trees have to be numbers
+-- the same with the trees given as numbers
 pub at_layout_two : (P : Schema → Type 0) → P layout_two → P layout_two_indexed_last → (schema : Schema) → IsLayoutTwo schema → P schema
 at_layout_two P here there schema (inl is) = subst P (sym is) here
 at_layout_two P here there schema (inr is) = subst P (sym is) there
 
--- rows that agree in these columns have one key
+-- rows that agree on these columns have the same key
 abbrev AgreesBy : TableName → List ℕ → Type 0
 AgreesBy name columns = (a b : Row) (q k : KeyOf name) → (form_of name).key_of a ≡ (form_of name).key_cells q → (form_of name).key_of b ≡ (form_of name).key_cells k → agree (record { digits = 0 }) columns a columns b ≡ true → q ≡ k
 
--- rows may be put into a table whose one index is that of its key
+-- a table whose only unique index is on its key takes rows
 pub keyed_if : (schema : Schema) → IsWellDeclared schema → (name : TableName) → (table_in schema name).is_counted ≡ false → index_columns name ≡ key_columns name → (table_in schema name).primary ≡ key_columns name → InsertKeepsReferences schema name → IsKeyed schema name
 keyed_if schema s name uncounted indexed primary refers = record {
   apart = s.apart;
@@ -133,11 +119,11 @@ keyed_if schema s name uncounted indexed primary refers = record {
 
 -- ---- actions
 
--- those of the foreign keys on a table, where rows are taken out, or else change
+-- the actions of foreign keys on a table after a delete or else an update
 abbrev pub works_if : Schema → ℕ → ℕ → List (Row × Row) → Bool → List Work
 works_if schema depth tree moves deletes = flat_map (λ child. filter_map (λ ref. work_by depth tree moves child ref (deed_of Enforced deletes (cond deletes ref.on_delete ref.on_update)) (parent_key schema.tables ref)) child.references) schema.tables
 
--- the rows of versions alone take others with them
+-- only deleting versions deletes other rows
 pub two_quiet : (first : ℕ) (indexes : List Index) (depth tree : ℕ) → versions.tree ≢ tree → (olds news : List Row) → works (five_tables_then (added_tables first) indexes) Enforced depth tree olds news ≡ []
 unfolding same_name joined
 two_quiet first indexes depth tree other olds news = go (pairs olds news) (length news == 0)
@@ -146,10 +132,10 @@ two_quiet first indexes depth tree other olds news = go (pairs olds news) (lengt
     go moves true = rw (ne_eqb versions.tree tree other) refl
     go moves false = refl
 
-pub two_idle : (first : ℕ) (indexes : List Index) (tree : ℕ) → versions.tree ≢ tree → HasNoForeignKeyAction (five_tables_then (added_tables first) indexes) tree
-two_idle first indexes tree other olds news = two_quiet first indexes 0 tree other olds news
+pub two_no_action : (first : ℕ) (indexes : List Index) (tree : ℕ) → versions.tree ≢ tree → HasNoForeignKeyAction (five_tables_then (added_tables first) indexes) tree
+two_no_action first indexes tree other olds news = two_quiet first indexes 0 tree other olds news
 
--- no action follows where rows take the place of rows
+-- an update triggers no action
 module _ (first : ℕ) (indexes : List Index) where
   abbrev here : Schema
   here = five_tables_then (added_tables first) indexes

@@ -1,50 +1,16 @@
--- How a write fails where its text is a known command.
+-- Why a write fails, if its SQL text is a known command.
 use Rattle.std.proofs.Common.{◌≡◌, ◌⊎◌, inl, inr, ℕ, zero, suc, ◌/◌, length, length-append, append-nil, ◌≤◌, ◌||◌, List, [], ◌∷◌, slice_get, Bool, true, false, Some, None, Ok, Err, Option, option_map, Result, refl, sym, ap, subst, subst₂, ◌∙◌, arith}
-use Rattle.std.specs.Prelude.{if◌then◌else◌, MatchBool, IsSome, is_some, IfErr, IsErrAnd, IsTrue}
-use Rattle.std.proofs.lemmas.Bool.{both_ways, cases_Bool, MatchBool-at_false}
-use Rattle.sqlite.specs.Order.{Row}
-use Rattle.sqlite.specs.Term.{Term}
-use Rattle.sqlite.specs.Tree.{Trees}
-use Rattle.sqlite.specs.Table.{Table}
-use Rattle.sqlite.specs.Schema.{Schema}
-use Rattle.sqlite.specs.Source.TheVariants.{Values}
-use Rattle.sqlite.specs.Command.{Command}
-use Rattle.sqlite.specs.Command.TheVariants.{Insert, Update, Delete, Begin, Commit, Rollback, Savepoint, Release, RollbackTo}
-use Rattle.sqlite.specs.Edit.{Edit, edit_of, taken_by, Applies, IsRefused}
-use Rattle.sqlite_rules.specs.Edit.{IsOversized}
-use Rattle.sqlite_rules.specs.Lists.{Has}
-use Rattle.sqlite.specs.Rowids.{Rowids}
-use Rattle.sqlite.specs.Rowids.TheVariants.{Chosen, Above, Given}
-use Rattle.sqlite.specs.Does.{Does, Concludes}
-use Rattle.sqlite.specs.Rows.{Written, Task, Then, Edited, Queried, Sourced, Updates, Deletes, Inserts, stamped, rowids_for, count_of}
-use Rattle.sqlite.specs.Effect.{is_query, value_rows, edit_error}
-use Rattle.sqlite.specs.State.{State, Survives, HasCleanDisk, store_error, mode_of, is_pragma, shows_rows, text_of, RunsCommand, ExecutesIn, ExecutesInside, IsNotRun, EndsScope, IsMisplaced, IsNoStatement, Escapes}
-use Rattle.sqlite.specs.Clock.{timed}
-use Rattle.sqlite.specs.Listing.{understood}
+use Rattle.reg_tables.proofs.Kit.{if◌then◌else◌, MatchBool, IsSome, is_some, IfErr, IsErrAnd, IsTrue, both_ways, cases_Bool, MatchBool-at_false, Row, Term, Trees, Table, Schema, Values, Command, Insert, Update, Delete, Edit, edit_of, taken_by, Applies, IsRefused, IsOversized, Has, Rowids, Chosen, Above, Given, Does, Concludes, Written, Task, Then, Edited, Queried, Sourced, Updates, Deletes, Inserts, stamped, rowids_for, count_of, is_query, value_rows, edit_error, State, Survives, HasCleanDisk, store_error, mode_of, is_pragma, shows_rows, text_of, RunsCommand, ExecutesInside, IsMisplaced, IsNoStatement, Escapes, timed, understood, Error, SqliteFailure, IsPlain, command_of, statement_of, one_step, Enforced, All, Program, lets_of, Refers, Compiled, Refusal, works, Leads, Settles, ids_of, no_works, ProgramOverflows, accepts_program, accepts_terms, StoreError}
+use Rattle.sqlite.specs.Command.TheVariants.{Begin, Commit, Rollback, Savepoint, Release, RollbackTo}
+use Rattle.sqlite.specs.State.{ExecutesIn, IsNotRun, EndsScope}
 use Rattle.sqlite.specs.declared.error.ErrorCode.TheVariants as code
-use Rattle.sqlite.specs.declared.error.Error.{Error}
-use Rattle.sqlite.specs.declared.error.Error.TheVariants.{SqliteFailure}
-use Rattle.sqlite.proofs.Callers.{IsPlain, command_of, statement_of, one_step}
-use Rattle.sqlite_schema.specs.declared.schema.Keys.TheVariants.{Enforced}
-use Rattle.sqlite_schema.specs.declared.schema.Among.TheVariants.{All}
-use Rattle.sqlite_schema.specs.declared.program.Program.{Program}
-use Rattle.sqlite_schema.specs.Program.{lets_of}
-use Rattle.sqlite_schema.specs.Rules.{Refers}
-use Rattle.sqlite_resolve.specs.declared.compiled.Compiled.{Compiled}
-use Rattle.sqlite_rules.specs.declared.error.Refusal.{Refusal}
-use Rattle.sqlite_rules.specs.Action.{works, Leads, Settles}
 use Rattle.sqlite_rules.specs.Action as action
-use Rattle.sqlite_rules.specs.Calls.{ids_of}
-use Rattle.sqlite_rules.proofs.ActionLemmas.{no_works}
-use Rattle.sqlite_sql.specs.Program.{ProgramOverflows}
-use Rattle.sqlite_typing.specs.Types.{accepts_program, accepts_terms}
 use Rattle.reg_tables.specs.FailedCalls.{IsFault, IsWriteFault, IsPutFault, IsInsertFault}
 use Rattle.reg_tables.specs.Inside.Statements.{IsOneStatement, IsCommand}
 use Rattle.reg_tables.proofs.Reasons.{reason_or_large, reason_of, reason_if_shut, reason_by, fault_since}
-use Rattle.sqlite_trees.specs.declared.error.StoreError.{StoreError}
 use Rattle.reg_tables.proofs.Writes.{uncounts}
 
--- it begins, ends or marks a transaction
+-- the command begins, ends or marks a transaction
 abbrev pub is_control : Command → Bool
 is_control Begin = true
 is_control Commit = true
@@ -54,7 +20,7 @@ is_control (Release name) = true
 is_control (RollbackTo name) = true
 is_control _ = false
 
--- the command shows no rows, and neither begins nor ends a transaction
+-- the command returns no rows, and neither begins nor ends a transaction
 pub record IsWriting (command : Command) : Type 0 where
   pub silent : (is_query command || (is_pragma command || false)) ≡ false
   pub stays : is_control command ≡ false
@@ -81,7 +47,7 @@ module _ (sql : List ℕ) (params : Row) (old new : State) (schema : Schema) (ha
   command_is : (c : Compiled) → understood old.now.schema sql ≡ Ok c → command ≡ c.command
   command_is c is = sym it.is ∙ ap command_of (known_as c is)
 
-  -- what the database refuses
+  -- the errors that the database returns for the command
   abbrev RefusedAs : Error → Type 0
   RefusedAs e = Does old.step_limit (mode_of old) params (record old.now { schema = schema }) (statement_of sql (understood schema sql)) None command (Err (Some e))
 
@@ -93,11 +59,11 @@ module _ (sql : List ℕ) (params : Row) (old new : State) (schema : Schema) (ha
       let bare = subst IsPlain known it.plain in
       elim wrong.2 [ inl tail ↦ tail.0 fits.0 | inr rest ↦ elim rest [ inl given ↦ given.0 (sym fits.1) | inr clock ↦ clock.0 bare.1 ] ]
 
-  -- a row that the command would put in is too large
+  -- a row that the command would write is too large
   abbrev TooLarge : Type 0
   TooLarge = Does old.step_limit (mode_of old) params (record old.now { schema = schema }) (statement_of sql (understood schema sql)) None command (Err None)
 
-  -- what a known command does to the database is what the statement does
+  -- the statement's effect is the command's
   does_as : (c : Compiled) (is : understood old.now.schema sql ≡ Ok c) (values : Row) → values ≡ params → (stop : Option Error) → Does old.step_limit (mode_of old) values old.now (text_of sql c) c.returning c.command (Err stop)
       → Does old.step_limit (mode_of old) params (record old.now { schema = schema }) (statement_of sql (understood schema sql)) None command (Err stop)
   does_as c is values same stop does =
@@ -112,7 +78,7 @@ module _ (sql : List ℕ) (params : Row) (old new : State) (schema : Schema) (ha
       let text : text_of sql c ≡ statement_of sql (understood schema sql) = ap (statement_of sql) (sym known) in
       subst₂ (λ t s. Does old.step_limit (mode_of old) params (record old.now { schema = s }) t None command (Err stop)) text has named
 
-  -- the fault, or the row that is too large, or what is refused
+  -- a fault, a row that is too large, or a refusal
   abbrev Outcome : Error → Type 0
   Outcome e = IsFault old new e ⊎ (((e ≡ SqliteFailure code.TooBig) × TooLarge) ⊎ RefusedAs e)
 
@@ -124,7 +90,7 @@ module _ (sql : List ℕ) (params : Row) (old new : State) (schema : Schema) (ha
   ran e c is values same (inl (inl wrong, after)) = absurd (misplaced c.command (command_is c is) e wrong)
   ran e c is values same (inl (inr does, after)) = inr (inr (does_as c is values same (Some e) does.1))
 
-  -- a statement that was understood as the command fails for the store, for a row that is too large, or as the command is refused
+  -- a statement that compiles to the command fails because of the store, a row that is too large, or a refusal of the command
   pub refused_by : (e : Error) → ExecutesInside 0 sql params old new (Err e) → Outcome e
   unfolding ExecutesIn IsNotRun EndsScope
   refused_by e (inr out) = absurd (escapes out.0.0.command (command_is out.0.0 out.0.1.is) out.0.2)
@@ -138,13 +104,13 @@ module _ (sql : List ℕ) (params : Row) (old new : State) (schema : Schema) (ha
       let values : timed params c.formats h.1.now ≡ params = rw (bare.1, append-nil params) in
       ran e c h.1.is (timed params c.formats h.1.now) values (MatchBool-at_false _ _ silent h.2)
 
--- ---- a connection that is shut
+-- ---- a closed connection
 
 either_way : {P Q : Type 0} (b : Bool) → MatchBool b P Q → P ⊎ Q
 either_way true h = inl h
 either_way false h = inr h
 
--- a statement over a connection that is shut fails for the store
+-- a statement over a closed connection fails because of the store
 pub open_or_failed : (sql : List ℕ) (params : Row) (old new : State) (e : Error) → ExecutesInside 0 sql params old new (Err e) → IsTrue old.is_open ⊎ IsFault old new e
 unfolding ExecutesIn IsNotRun
 open_or_failed sql params old new e h = elim (cases_Bool old.is_open) [ inl is_open ↦ inl is_open | inr shut ↦ go shut h ]
@@ -161,13 +127,13 @@ open_or_failed sql params old new e h = elim (cases_Bool old.is_open) [ inl is_o
       | inr ran ↦ elim ran [ inl refused ↦ inl refused.1.0.was_open | inr store ↦ inr (by_store shut store.0 store.1) ]
     ]
 
--- ---- what is refused of the rows of one table
+-- ---- why SQLite rejects a write to one table
 
--- the actions that follow an edit do not fail
+-- the foreign-key actions after an edit don't fail
 abbrev pub NeverStops : Schema → Trees → Edit → Type 0
 NeverStops schema db edit = (next : Trees) (why : Option Refusal) → Applies schema Enforced db edit next → Settles schema Enforced next (works schema Enforced 0 edit.table.tree (taken_by db edit) edit.news) (Err why) → ⊥
 
--- with no action of a foreign key, nothing is refused after the edit
+-- without foreign-key actions, nothing fails after the edit
 pub none_stops : (schema : Schema) (db : Trees) (edit : Edit) → works schema Enforced 0 edit.table.tree (taken_by db edit) edit.news ≡ [] → NeverStops schema db edit
 none_stops schema db edit quiet next why applies h = go h.0 (rw quiet at h.1)
   where
@@ -177,7 +143,7 @@ none_stops schema db edit quiet next why applies h = go h.0 (rw quiet at h.1)
 
 module _ (schema : Schema) where
   module _ (db : Trees) (edit : Edit) (ends : NeverStops schema db edit) where
-    -- an edit is refused for one of the reasons that it has
+    -- an edit fails for one of its reasons
     edit_refused : (stop : Option Error) (e : Error) → stop ≡ Some e → Edited schema Enforced db edit (Err stop) → (why : Refusal) × IsRefused schema Enforced db edit why × (e ≡ edit_error why)
     edit_refused stop e is h = go h.0 h.1 (sym is ∙ h.2)
       where
@@ -187,7 +153,7 @@ module _ (schema : Schema) where
         go (Some why) (inr (inl big)) is = absurd (let e = big.3 in cc)
         go (Some why) (inr (inr went)) is = absurd (ends went.0 (Some why) went.1 went.2)
 
-    -- what stops an edit for its size is a row
+    -- only a row can make an edit too large
     edit_large : (stop : Option Error) → stop ≡ None → Edited schema Enforced db edit (Err stop) → (row : Row) × Has edit.news row × IsOversized schema edit.table row
     edit_large stop is h = go h.0 h.1 (sym is ∙ h.2)
       where
@@ -207,12 +173,12 @@ module _ (schema : Schema) where
     abbrev Refused : Command → Type 0
     Refused command = Does old.step_limit (mode_of old) params (record old.now { schema = schema }) text None command (Err (Some e))
 
-    -- the foreign keys hold once the rows are written
+    -- the foreign keys are satisfied after the write
     concluded : (w : Written) → Refers All schema w.trees → Concludes task (mode_of old) None w (Err (Some e)) → ⊥
     concluded w refers (inl tested) = tested.1.0 refers
     concluded w refers (inr shown) = elim shown.2 [ inl stopped ↦ (let e = stopped.1 in cc) | inr gave ↦ (let e = gave.2 in cc) ]
 
-    -- once the rows are written, none is too large
+    -- after the write, no row is too large
     concluded_large : (w : Written) → Concludes task (mode_of old) None w (Err None) → ⊥
     concluded_large w (inl tested) = let some = tested.1.1 in let none = tested.2 in cc
     concluded_large w (inr shown) = elim shown.2 [ inl stopped ↦ (let e = stopped.1 in cc) | inr gave ↦ (let e = gave.2 in cc) ]
@@ -239,7 +205,7 @@ module _ (schema : Schema) where
         | inr done ↦ (let e = done.2 in cc)
       ]
 
-      -- a DELETE puts no row in that could be too large
+      -- a DELETE writes no row that could be too large
       pub delete_fits : ((found : List Row) → NeverStops schema db (cut_by found)) → Does old.step_limit (mode_of old) params (record old.now { schema = schema }) text None (Delete at q) (Err None) → ⊥
       delete_fits ends does = go (rw there at does)
         where
@@ -247,7 +213,7 @@ module _ (schema : Schema) where
           go (inl stopped) = delete_large ends stopped.0 (let e = stopped.2 in cc) stopped.1
           go (inr wrote) = concluded_large wrote.0 wrote.2
 
-      -- a DELETE of them
+      -- a DELETE of the rows found
       module _ (ends : (found : List Row) → NeverStops schema db (cut_by found)) (allowed : (found : List Row) (why : Refusal) → IsRefused schema Enforced db (cut_by found) why → ⊥)
           (refers : (found : List Row) (next : Trees) → Queried old.step_limit (record { schema = schema; trees = db }) q params (Ok found) → action.Writes schema Enforced db (cut_by found) (Ok next) → Refers All schema next) where
         delete_stopped : (stop : Option Error) → stop ≡ Some e → Deletes task q db (Err stop) → IsFault old new e
@@ -277,10 +243,10 @@ module _ (schema : Schema) where
       abbrev altered_by : List Row → Edit
       altered_by found = edit_of db table (ids_of found) Given 1 found
 
-      -- an UPDATE of them
+      -- an UPDATE of the rows found
       module _ (quiet : (found : List Row) → works schema Enforced 0 table.tree (taken_by db (altered_by found)) (altered_by found).news ≡ [])
           (refers : (found : List Row) (next : Trees) → Queried old.step_limit (record { schema = schema; trees = db }) q params (Ok found) → Applies schema Enforced db (altered_by found) next → Refers All schema next) where
-        -- the fault, or why the edit is refused
+        -- a fault, or why SQLite rejects the edit
         abbrev Halt : Type 0
         Halt = IsFault old new e ⊎ ((found : List Row) × (why : Refusal) × Queried old.step_limit (record { schema = schema; trees = db }) q params (Ok found) × IsRefused schema Enforced db (altered_by found) why × (e ≡ edit_error why))
 
@@ -309,7 +275,7 @@ module _ (schema : Schema) where
             go (inl stopped) = update_stopped stopped.0 (let e = stopped.2 in cc) stopped.1
             go (inr wrote) = absurd (concluded wrote.0 (updated_trees wrote.0 wrote.1) wrote.2)
 
-    -- an INSERT of one row of values into a table with no AUTOINCREMENT
+    -- an INSERT of one row of values into a table without AUTOINCREMENT
     module _ (terms : List Term) (width : ℕ) (uncounted : table.is_counted ≡ false) (typed : accepts_terms terms (stamped table params) ≡ true)
         (refers : (next : Trees) → Applies schema Enforced db (edit_of db table [] Chosen 0 (value_rows (stamped table params) width (length terms / width) terms)) next → Refers All schema next) where
       abbrev edit : Edit
@@ -321,7 +287,7 @@ module _ (schema : Schema) where
       adds : (rows : List Row) (rowids : Rowids) → NeverStops schema db (edit_by rows rowids)
       adds rows rowids = none_stops schema db (edit_by rows rowids) (no_works schema Enforced 0 table.tree (edit_by rows rowids).news)
 
-      -- the fault, or why the edit is refused
+      -- a fault, or why SQLite rejects the edit
       abbrev Stop : Type 0
       Stop = IsFault old new e ⊎ ((why : Refusal) × IsRefused schema Enforced db edit why × (e ≡ edit_error why))
 
@@ -374,7 +340,7 @@ module _ (schema : Schema) where
       source_large None is h = h
       source_large (Some x) is h = cc
 
-      -- the row that is too large is the one that is put in
+      -- the row that is too large is the inserted one
       abbrev Large : Type 0
       Large = (row : Row) × Has edit.news row × IsOversized schema table row
 
@@ -409,7 +375,7 @@ module _ (schema : Schema) where
 
 -- ---- several statements in one transaction
 
--- the statement failed, or a failure had ended the transaction
+-- the statement failed, or an earlier failure had ended the transaction
 abbrev pub OrTooLate : State → Error → Type 0 → Type 0
 OrTooLate old e Failed = Failed ⊎ ((e ≡ SqliteFailure code.TransactionState) × (old.in_transaction ≡ false))
 
@@ -425,7 +391,7 @@ pub or_put_fault : (old new : State) (e : Error) {Failed : Type 0} → (Failed �
 or_put_fault old new e faults (inl failed) = faults failed
 or_put_fault old new e faults (inr late) = inl (inr late)
 
--- a later statement fails as one at the start does, since the transaction goes on
+-- a failure of a later statement is also one since the start, because the transaction continues
 module _ (first later new : State) (survives : Survives first later (λ _. ⊥)) (clean : HasCleanDisk later) (up : later.faults ≤ new.faults) (inside : later.in_transaction ≡ true) (e : Error) where
   pub write_fault_later : IsWriteFault later new e → IsWriteFault first new e
   write_fault_later (inl (inl store)) = inl (inl (store.0, store.1, reason_by later new first new (fault_since first later new (survives.closes clean) survives.counts up) store.0 store.2))
@@ -437,7 +403,7 @@ module _ (first later new : State) (survives : Survives first later (λ _. ⊥))
   insert_fault_later (inl (inr large)) = inl (inr large)
   insert_fault_later (inr rowid) = inr rowid
 
--- an error that `?` passes on
+-- an error that `?` returns
 pub erred_with : {X : Type 0} (r : Result X Error) (first : Error) (P : Error → Type 0) → IsErrAnd r (λ e. e ≡ first) → P first → IfErr r P
 erred_with (Ok x) first P is h = tt
 erred_with (Err e) first P is h = subst P (sym is) h

@@ -1,31 +1,10 @@
--- What one write makes of a table.
+-- The effect of one write on a table.
 use Rattle.std.proofs.Common.{◌≡◌, ◌⊎◌, inl, inr, ℕ, ◌/◌, length, List, [], slice_get, Bool, true, false, Some, None, Ok, Err, Option, Result, sym, ap, subst, ◌∙◌}
-use Rattle.std.specs.Prelude.{if◌then◌else◌, MatchBool}
-use Rattle.sqlite.specs.Order.{Row}
-use Rattle.sqlite.specs.Term.{Term}
-use Rattle.sqlite.specs.Table.{Table}
-use Rattle.sqlite.specs.Schema.{Schema}
-use Rattle.sqlite.specs.Source.{Source}
-use Rattle.sqlite.specs.Source.TheVariants.{Values}
-use Rattle.sqlite.specs.Command.{Command}
-use Rattle.sqlite.specs.Command.TheVariants.{Insert, Update, Delete}
-use Rattle.sqlite.specs.Edit.{Edit, edit_of, taken_by, Applies}
-use Rattle.sqlite.specs.Rowids.{Rowids}
-use Rattle.sqlite.specs.Rowids.TheVariants.{Chosen, Above, Given}
-use Rattle.sqlite.specs.Does.{Tally, Does, WritesRows}
-use Rattle.sqlite.specs.Rows.{Written, Task, stamped, rowids_for, count_of}
-use Rattle.sqlite.specs.Effect.{Database, Answers, value_rows}
-use Rattle.sqlite.specs.State.{State, mode_of, Writes}
-use Rattle.sqlite.specs.declared.error.Error.{Error}
-use Rattle.sqlite.proofs.Callers.{one_step}
-use Rattle.sqlite_schema.specs.declared.schema.Keys.TheVariants.{Enforced}
-use Rattle.sqlite_schema.specs.declared.program.Program.{Program}
+use Rattle.reg_tables.proofs.Kit.{if◌then◌else◌, MatchBool, Row, Term, Table, Schema, Source, Values, Command, Insert, Update, Delete, Edit, edit_of, taken_by, Applies, Rowids, Chosen, Above, Given, Tally, Does, WritesRows, Written, Task, stamped, rowids_for, count_of, Database, Answers, value_rows, State, mode_of, Writes, Error, one_step, Enforced, Program, ids_of, no_works}
 use Rattle.sqlite_rules.specs.Action as action
-use Rattle.sqlite_rules.specs.Calls.{ids_of}
-use Rattle.sqlite_rules.proofs.ActionLemmas.{no_works}
 use Rattle.reg_tables.specs.Inside.KeyedLaws.{HasNoForeignKeyAction, HasNoUpdateAction}
 
--- a part that gave a value did not stop on the way
+-- a part that returned a value did not stop early
 pub went : {B E R : Type 0} {b : B} {Stops : E → Type 0} → ((stop : E) × Stops stop × (Ok b ≡ Err stop)) ⊎ R → R
 went (inl stopped) = absurd (let e = stopped.2 in cc)
 went (inr on) = on
@@ -33,12 +12,11 @@ went (inr on) = on
 pub same_value : {B E : Type 0} {a b : B} → ◌≡◌ {A = Result B E} (Ok a) (Ok b) → a ≡ b
 same_value e = cc
 
--- a table with no AUTOINCREMENT counts nothing
 pub uncounts : (b x : Bool) (P Q : Type 0) → b ≡ false → MatchBool (if b then x else false) P Q → Q
 uncounts true x P Q is h = absurd (cc)
 uncounts false x P Q is h = h
 
--- the schema stays, and the edit is all that is done
+-- the schema stays, and only the edit is applied
 pub record IsStep (schema : Schema) (old new : State) (edit : Edit) : Type 0 where
   pub same : new.now.schema ≡ schema
   pub applies : Applies schema Enforced old.now.trees edit new.now.trees
@@ -89,7 +67,7 @@ module _ (schema : Schema) (at : ℕ) (table : Table) (there : slice_get schema.
       let shown = went tested.2 in
       (ran.0, ran.1, ap (λ (p : Tally × Database). p.1) (same_value {E = Option Error} shown.2))
 
-  -- the query gives the rowids, and the actions of foreign keys follow
+  -- the query yields the rowids, and the foreign-key actions follow
   pub cuts : (q : Program) → Writes old new None (Delete at q) text params count
       → (found : List Row) × Answers (record { schema = schema; trees = old.now.trees }) q params found × (new.now.schema ≡ schema)
       × action.Writes schema Enforced old.now.trees (edit_of old.now.trees table (ids_of found) Given 0 []) (Ok new.now.trees)
@@ -101,7 +79,7 @@ module _ (schema : Schema) (at : ℕ) (table : Table) (there : slice_get schema.
       let now : cut.0 ≡ new.now.trees = sym (ap (λ (it : Written). it.trees) (same_value cut.2)) ∙ ap (λ (d : Database). d.trees) (sym wrote.2) in
       (asked.0, asked.1, ap (λ (d : Database). d.schema) wrote.2, subst (λ t. action.Writes schema Enforced old.now.trees edit (Ok t)) now cut.1)
 
-  -- where no action follows
+  -- without actions
   pub deleted : HasNoForeignKeyAction schema table.tree → (q : Program) → Writes old new None (Delete at q) text params count
       → (found : List Row) × Answers (record { schema = schema; trees = old.now.trees }) q params found × IsStep schema old new (edit_of old.now.trees table (ids_of found) Given 0 [])
   deleted idle q w =
@@ -118,7 +96,7 @@ module _ (schema : Schema) (at : ℕ) (table : Table) (there : slice_get schema.
       let shown = went tested.2 in
       (ran.0, ran.1, ap (λ (p : Tally × Database). p.1) (same_value {E = Option Error} shown.2))
 
-  -- the query gives the rowids, and the rows that take their places
+  -- the query yields the rowids and the new rows
   pub updated : HasNoUpdateAction schema table → (q : Program) → Writes old new None (Update at q) text params count
       → (found : List Row) × Answers (record { schema = schema; trees = old.now.trees }) q params found × IsStep schema old new (edit_of old.now.trees table (ids_of found) Given 1 found)
   updated steady q w =

@@ -1,9 +1,6 @@
--- The statements that are no put or drop by a key, in whichever layout 2.
+-- Writes that don't insert or delete by key, in both schemas of layout 2.
 use Rattle.std.proofs.Common.{◌≡◌, ◌<◌, ◌^◌, pos, ℕ, List, [], ◌∷◌, None, Some, Ok, Err}
-use Rattle.std.specs.FinMap.{get}
-use Rattle.sqlite.specs.State.{State, Executes, ExecutesInside}
-use Rattle.sqlite.specs.declared.error.Error.{Error}
-use Rattle.sqlite.specs.declared.types.Value.TheVariants.{Int, Text}
+use Rattle.reg_tables.proofs.Kit.{get, State, Executes, ExecutesInside, Error, Int, Text}
 use Rattle.reg_tables.specs.Contents.{version_key_cells, Contents, HoldsContents}
 use Rattle.reg_tables.specs.Changes.{with_text, with_deleted, without_version}
 use Rattle.reg_tables.specs.Writing.{ForHeldContents, Changes, ChangesIf}
@@ -31,7 +28,7 @@ module _ (old new : State) where
   pub mark_version_fails_in : (e : Error) (key : List ℕ × ℕ) → ExecutesInside 0 mark_version (version_key_cells key) old new (Err e) → ForHeldContents old (λ contents. IsInsertFault old new e)
   mark_version_fails_in e key ran = in_layout_two (λ schema. (contents : Contents) → HoldsContents schema old.now contents → IsInsertFault old new e) (λ first indexes high s contents holds. mark_version_fails first indexes high s old new contents holds e key ran)
 
-  -- with the version its evidence goes
+  -- deleting a version deletes its evidence
   pub drops_version_in : (count : ℕ) (key : List ℕ × ℕ) → Executes drop_version (version_key_cells key) old new (Ok count) → Changes old new (without_version key)
   drops_version_in count key ran = in_layout_two (λ schema. (contents : Contents) → HoldsContents schema old.now contents → HoldsContents schema new.now (without_version key contents)) (λ first indexes high s contents holds. drops_version first high indexes s old new contents holds key count ran)
 

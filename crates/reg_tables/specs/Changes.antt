@@ -1,4 +1,4 @@
--- What the statements make of the contents.
+-- How each statement changes the contents.
 use Rattle.std.specs.Prelude.{ℕ, true, not, List, option_map, unwrap_or, codes}
 use Rattle.std.specs.declared.cmp.Ordering.{Ordering}
 use Rattle.std.specs.Ordering.{is_eq}
@@ -17,7 +17,7 @@ with_global level = with_meta (codes "global") level
 abbrev pub with_global_mode : List ℕ → Contents → Contents
 with_global_mode mode = with_meta (codes "mode") mode
 
--- layout 2 by its number; a registry of layout 1 is READWRITE
+-- the contents with the number of layout 2, and READWRITE as the global mode
 abbrev pub marked_layout_two : Contents → Contents
 marked_layout_two contents = with_global_mode (codes "READWRITE") (with_meta (codes "layout") (codes "2") contents)
 
@@ -36,11 +36,11 @@ with_text id text contents = record contents { texts = insert contents.texts id 
 abbrev pub with_version : List ℕ × ℕ → VersionEntryView → Contents → Contents
 with_version key version contents = record contents { versions = insert contents.versions key version }
 
--- no place of the version
+-- the map without the positions of a version
 abbrev pub without_positions : FinMap position_cmp ℕ → List ℕ × ℕ → FinMap position_cmp ℕ
 without_positions places key = retain_keys places (λ place. not (is_eq (version_cmp place.0 key)))
 
--- the version goes, and its evidence with it
+-- a version is deleted together with its evidence
 abbrev pub without_version : List ℕ × ℕ → Contents → Contents
 without_version key contents = record contents {
   versions = remove contents.versions key;
@@ -60,15 +60,14 @@ with_mode subject mode contents = record contents { modes = insert contents.mode
 abbrev pub without_mode : List ℕ → Contents → Contents
 without_mode subject contents = record contents { modes = remove contents.modes subject }
 
--- the map with another value in place of the key's, if it has one
+-- the map after a change of the key's value, or the same map if the key has no value
 abbrev pub altered : {K V : Type 0} {R : K → K → Ordering} → FinMap R V → K → (V → V) → FinMap R V
 altered m key change = unwrap_or (option_map (λ value. insert m key (change value)) (get m key)) m
 
--- the version, marked as deleted
+-- the version marked as deleted
 abbrev pub as_deleted : VersionEntryView → VersionEntryView
 as_deleted version = record version { deleted = true }
 
--- the version is marked as deleted, if there is one
 abbrev pub with_deleted : List ℕ × ℕ → Contents → Contents
 with_deleted key contents = record contents { versions = altered contents.versions key as_deleted }
 
@@ -77,19 +76,18 @@ with_deleted key contents = record contents { versions = altered contents.versio
 abbrev pub no_contents : Contents
 no_contents = record { texts = empty; versions = empty; levels = empty; kept = empty; meta = empty; modes = empty; evidence = empty; against = empty }
 
--- the format and the layout's number
+-- the rows of `meta` for the format and the layout's number
 abbrev pub meta_before_level : List ℕ → TextMap (List ℕ)
 meta_before_level number = insert (insert empty (codes "format") (codes "avroreg")) (codes "layout") number
 
--- the rows of `meta` in the layout of this number, but for the mode
+-- the rows of `meta` in the layout with this number, except the mode
 abbrev pub meta_of_layout : List ℕ → List ℕ → TextMap (List ℕ)
 meta_of_layout number level = insert (meta_before_level number) (codes "global") level
 
--- the rows of `meta` in layout 1
 abbrev pub meta_of_layout_one : List ℕ → TextMap (List ℕ)
 meta_of_layout_one = meta_of_layout (codes "1")
 
--- Schema Registry API reference, Config: a new registry's level is BACKWARD
+-- Schema Registry API reference, Config: the level of a new registry is BACKWARD
 abbrev pub contents_before_level : List ℕ → Contents
 contents_before_level number = record no_contents { meta = meta_before_level number }
 
@@ -99,6 +97,6 @@ contents_of_layout number = record no_contents { meta = meta_of_layout number (c
 abbrev pub new_contents_one : Contents
 new_contents_one = contents_of_layout (codes "1")
 
--- a new registry in layout 2: its level is BACKWARD, and its mode READWRITE
+-- a new registry in layout 2 has the level BACKWARD and the mode READWRITE
 abbrev pub new_contents_two : Contents
 new_contents_two = with_global_mode (codes "READWRITE") (contents_of_layout (codes "2"))

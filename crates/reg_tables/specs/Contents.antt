@@ -1,4 +1,4 @@
--- What the tables hold, as finite maps. Texts are lists of bytes.
+-- The contents of the tables, as finite maps. Texts are lists of bytes.
 use Rattle.std.specs.Prelude.{◌≡◌, ℕ, ◌<◌, ◌^◌, pos, Bool, if◌then◌else◌, List, [], ◌∷◌, Option, None, Some, slice_get, IsUtf8}
 use Rattle.std.specs.declared.cmp.Ordering.{Ordering}
 use Rattle.std.specs.Ordering.{nat_cmp, on, then_cmp}
@@ -17,11 +17,11 @@ use Rattle.reg_tables.specs.TableMaps.{Form, ShowsMap}
 abbrev pub text_cmp : List ℕ → List ℕ → Ordering
 text_cmp = slice_cmp nat_cmp
 
--- a version is known by its subject and its number
+-- the key of a version is its subject and its number
 abbrev pub version_cmp : List ℕ × ℕ → List ℕ × ℕ → Ordering
 version_cmp = then_cmp (on (λ (key : List ℕ × ℕ). key.0) text_cmp) (on (λ (key : List ℕ × ℕ). key.1) nat_cmp)
 
--- a place among the ids that a version was tested against
+-- the key of a row of `against`: a version, and a position among the ids that it was tested against
 abbrev pub PositionKey : Type 0
 PositionKey = (List ℕ × ℕ) × ℕ
 
@@ -31,24 +31,23 @@ position_cmp = then_cmp (on (λ (key : PositionKey). key.0) version_cmp) (on (λ
 abbrev pub TextMap : Type 0 → Type 0
 TextMap V = FinMap text_cmp V
 
--- the columns of `versions` after the key
+-- the columns of `versions` after its key
 pub record VersionEntryView : Type 0 where
   pub id : ℕ
   pub deleted : Bool
 
--- the columns of `kept` after the key
+-- the columns of `kept` after its key
 pub record KeptReplyView : Type 0 where
   pub command : List ℕ
   pub status : ℕ
   pub body : List ℕ
 
 pub record Contents : Type 0 where
-  -- the text of each id
   pub texts : FinMap nat_cmp (List ℕ)
   pub versions : FinMap version_cmp VersionEntryView
   -- the own level of each subject that has one
   pub levels : TextMap (List ℕ)
-  -- what is kept under each retry key
+  -- the kept reply of each retry key
   pub kept : TextMap KeptReplyView
   pub meta : TextMap (List ℕ)
   -- the own mode of each subject that has one
@@ -81,11 +80,11 @@ kept_cells reply = Text reply.command ∷ Int (pos reply.status) ∷ Text reply.
 abbrev pub position_cells : PositionKey → Row
 position_cells key = Text key.0.0 ∷ Int (pos key.0.1) ∷ Int (pos key.1) ∷ []
 
--- a row of `texts` after its rowid, which stands for the id
+-- a row of `texts` after its rowid; the column `id` is an alias of the rowid, and is stored as NULL
 abbrev pub text_row_cells : List ℕ → Row
 text_row_cells text = Null ∷ text_cells text
 
--- The id is the rowid.
+-- the id is the rowid
 abbrev pub text_form : Form ℕ (List ℕ)
 text_form = record { key_of = λ row. column row 0 ∷ []; value_of = λ row. column row 2 ∷ []; key_cells = number_cells; value_cells = text_cells }
 
@@ -101,7 +100,7 @@ version_form = record {
 abbrev pub keyed_by_text : {V : Type 0} → (Row → Row) → (V → Row) → Form (List ℕ) V
 keyed_by_text value_of value_cells = record { key_of = λ row. column row 1 ∷ []; value_of = value_of; key_cells = text_cells; value_cells = value_cells }
 
--- that of `levels`, `meta` and `modes`
+-- the form of `levels`, `meta` and `modes`
 abbrev pub pair_form : Form (List ℕ) (List ℕ)
 pair_form = keyed_by_text (λ row. column row 2 ∷ []) text_cells
 
@@ -129,7 +128,7 @@ against_form = record {
 pub data TableName : Type 0 where
   Texts Versions Levels Kept Meta Modes Evidence Against : TableName
 
--- its place among the tables of a schema
+-- the index of the table in a schema's list of tables
 abbrev pub ordinal_of : TableName → ℕ
 ordinal_of Texts = 0
 ordinal_of Versions = 1
@@ -143,7 +142,7 @@ ordinal_of Against = 7
 abbrev pub table_in : Schema → TableName → Table
 table_in schema name = table_at schema (ordinal_of name)
 
--- a database with this schema has the table, after those that are declared before it
+-- the schema has this table at its index
 abbrev pub HasTable : TableName → Schema → Type 0
 HasTable Texts = HasFiveTables
 HasTable Versions = HasFiveTables
@@ -207,7 +206,7 @@ map_of Modes contents = contents.modes
 map_of Evidence contents = contents.evidence
 map_of Against contents = contents.against
 
--- the contents with another map in the table's place
+-- the contents with another map for this table
 abbrev pub with_map : (name : TableName) → MapOf name → Contents → Contents
 with_map Texts map contents = record contents { texts = map }
 with_map Versions map contents = record contents { versions = map }
@@ -218,35 +217,35 @@ with_map Modes map contents = record contents { modes = map }
 with_map Evidence map contents = record contents { evidence = map }
 with_map Against map contents = record contents { against = map }
 
--- ---- what they hold
+-- ---- a database and its contents
 
--- the table shows the map; where there is no table, the map is empty
+-- the table shows the map, or there is no table and the map is empty
 abbrev pub ShowsIn : {K V : Type 0} {R : K → K → Ordering} → Form K V → Trees → Option Table → FinMap R V → Type 0
 ShowsIn form trees (Some table) map = ShowsMap form (trees table.tree) (get map)
 ShowsIn form trees None map = map ≡ empty
 
--- each table of the schema shows its map; those that layout 1 lacks have none
+-- each table of the schema shows its map; the map of a table that the schema lacks is empty
 abbrev pub ShowsAll : Schema → Trees → Contents → Type 0
 ShowsAll schema trees contents = (name : TableName) → ShowsIn (form_of name) trees (slice_get schema.tables (ordinal_of name)) (map_of name contents)
 
--- the database has this schema, and its tables hold the contents
+-- the database has this schema and these contents
 pub record HoldsContents (schema : Schema) (db : Database) (contents : Contents) : Type 0 where
   pub declared : db.schema ≡ schema
-  -- the database lists its schema, which an open of it finds, and obeys it
+  -- the database lists its schema, which SQLite reads when it opens the database, and obeys it
   pub sound : IsDatabase db
   pub shows : ShowsAll schema db.trees contents
 
--- the database has the five tables and the index as layout 1 declares them, and these hold the contents
+-- the database has layout 1 with its index and these contents
 abbrev pub HoldsLayoutOne : Database → Contents → Type 0
 HoldsLayoutOne = HoldsContents layout_one
 
--- texts are UTF-8, and the status is below 2^32
+-- the texts are UTF-8, and the status is below 2^32
 pub record IsReadableReply (reply : KeptReplyView) : Type 0 where
   pub command : IsUtf8 reply.command
   pub status : reply.status < 2 ^ 32
   pub body : IsUtf8 reply.body
 
--- each text is UTF-8, and each number is below 2^32, as a `String` and a `u32` hold them
+-- each text is UTF-8 and each number is below 2^32, so that a `String` or a `u32` can represent it
 pub record AreReadable (contents : Contents) : Type 0 where
   pub texts : (id : ℕ) (text : List ℕ) → get contents.texts id ≡ Some text → (id < 2 ^ 32) × IsUtf8 text
   pub versions : (key : List ℕ × ℕ) (version : VersionEntryView) → get contents.versions key ≡ Some version → IsUtf8 key.0 × (key.1 < 2 ^ 32) × (version.id < 2 ^ 32)

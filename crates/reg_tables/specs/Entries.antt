@@ -1,4 +1,4 @@
--- Rows of `versions` as a read answers them.
+-- Rows of `versions` as they are read.
 use Rattle.std.specs.Prelude.{◌≡◌, ℕ, ◌<◌, ◌^◌, pos, List, ◌∷◌, length, map, filter, bytes_eq, ◌==◌, string_bytes, IsUtf8}
 use Rattle.std.specs.FinMap.{entries}
 use Rattle.std.specs.List.{Contains}
@@ -12,38 +12,38 @@ use Rattle.reg_tables.specs.Contents.{VersionEntryView, version_cells, Contents}
 abbrev pub version_entry_view : VersionEntry → VersionEntryView
 version_entry_view entry = record { id = entry.id; deleted = entry.deleted }
 
--- the number of a version, and what is in its row
+-- a version of a given subject: its number, and the columns after its key
 abbrev pub SubjectVersionView : Type 0
 SubjectVersionView = ℕ × VersionEntryView
 
--- the versions of the subject, in the order of their numbers
+-- the versions of the subject, in ascending order
 abbrev pub subject_versions : List ℕ → Contents → List SubjectVersionView
 subject_versions subject contents = map (λ entry. (entry.0.1, entry.1)) (filter (λ entry. bytes_eq entry.0.0 subject) (entries contents.versions))
 
 abbrev pub subject_version_view : SubjectVersion → SubjectVersionView
 subject_version_view line = (line.number, record { id = line.id; deleted = line.deleted })
 
--- a version by its subject and its number, and what is in its row
+-- a version: its subject and number, and the columns after its key
 abbrev pub ListedVersionView : Type 0
 ListedVersionView = (List ℕ × ℕ) × VersionEntryView
 
--- the versions of the id, in the order of their subjects and numbers
+-- the versions with this id, in the order of their subjects and numbers
 abbrev pub id_versions : ℕ → Contents → List ListedVersionView
 id_versions id contents = filter (λ entry. entry.1.id == id) (entries contents.versions)
 
 abbrev pub listed_version_view : ListedVersion → ListedVersionView
 listed_version_view line = ((string_bytes line.subject, line.number), record { id = line.id; deleted = line.deleted })
 
--- so many versions of an id are told at most
+-- the most versions of an id that one query returns
 abbrev pub versions_limit : ℕ
 versions_limit = 33
 
--- these are versions of the id, in any order, and all that it has where they are fewer than `versions_limit`
+-- these versions have the id; if they are fewer than `versions_limit`, they are all versions with the id, in any order
 pub record AreVersionsOfId (id : ℕ) (contents : Contents) (versions : List ListedVersionView) : Type 0 where
   pub each : (version : ListedVersionView) → Contains versions version → Contains (id_versions id contents) version
   pub all : length versions < versions_limit → (version : ListedVersionView) → Contains (id_versions id contents) version → Contains versions version
 
--- ---- rows that a line holds, as a query shows them
+-- ---- rows as a query returns them
 
 abbrev pub subject_version_cells : SubjectVersionView → Row
 subject_version_cells version = Int (pos version.0) ∷ version_cells version.1

@@ -1,4 +1,3 @@
--- A kept reply as it is read back.
 use Rattle.std.specs.Prelude.{string_bytes}
 use Rattle.reg_tables.specs.declared.kept.KeptReply.{KeptReply}
 use Rattle.reg_tables.specs.Contents.{KeptReplyView}

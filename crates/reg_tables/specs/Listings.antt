@@ -1,4 +1,4 @@
--- When a list has each row of a table once, in any order.
+-- Lists that have each row of a table once, in any order.
 use Rattle.std.specs.Prelude.{◌≡◌, ℕ, ℤ, pos, min, Bool, not, ◌&&◌, List, map, filter, length, string_bytes, IsPermutation}
 use Rattle.std.specs.declared.cmp.Ordering.{Ordering}
 use Rattle.std.specs.Ordering.{is_eq, is_lt, is_gt, int_cmp, eq_by_cmp}
@@ -21,21 +21,21 @@ use Rattle.reg_tables.specs.TableMaps.{Form}
 use Rattle.reg_tables.specs.Contents.{PositionKey, VersionEntryView, KeptReplyView, text_form, version_form, pair_form, kept_form, evidence_form, against_form}
 use Rattle.reg_tables.specs.KeptReplyViews.{kept_reply_view}
 
--- a rowid, and the columns of a key and of a value
+-- the cells of a rowid, of a key and of a value
 abbrev pub RowParts : Type 0
 RowParts = Value × Row × Row
 
 abbrev pub parts_of : {K V : Type 0} → Form K V → Row → RowParts
 parts_of form row = (rowid row, form.key_of row, form.value_of row)
 
--- what a row has for a rowid, a key and a value
+-- the cells of an entry: its rowid, its key and its value
 abbrev pub entry_parts : {K V : Type 0} → Form K V → ℤ × K × V → RowParts
 entry_parts form entry = (Int entry.0, form.key_cells entry.1, form.value_cells entry.2)
 
 abbrev pub Lists : {K V : Type 0} → Form K V → List Row → List (ℤ × K × V) → Type 0
 Lists form rows entries = IsPermutation (map (parts_of form) rows) (map (entry_parts form) entries)
 
--- no rowid and no key comes twice
+-- no rowid and no key occurs twice
 pub record HasNoDuplicates {K V : Type 0} (R : K → K → Ordering) (entries : List (ℤ × K × V)) : Type 0 where
   pub rowids : IsDistinct (eq_by_cmp int_cmp) (map (λ entry. entry.0) entries)
   pub keys : IsDistinct (eq_by_cmp R) (map (λ entry. entry.1) entries)
@@ -43,7 +43,7 @@ pub record HasNoDuplicates {K V : Type 0} (R : K → K → Ordering) (entries : 
 abbrev pub without_rowid : {K V : Type 0} → ℤ × K × V → K × V
 without_rowid entry = (entry.1, entry.2)
 
--- ---- the lines of the tables
+-- ---- the rows of the tables
 
 abbrev pub text_entry : RawText → ℤ × ℕ × List ℕ
 text_entry line = (pos line.id, line.id, string_bytes line.text)
@@ -95,15 +95,15 @@ ListsAgainst db lines = Lists against_form (db.trees (table_at db.schema 7).tree
 
 -- ---- parts of `texts`
 
--- the ids of all rows, which are their rowids
+-- the ids of all texts, which are the rowids
 abbrev pub ListsIds : Database → List ℕ → Type 0
 ListsIds db ids = IsPermutation (map rowid (db.trees texts.tree)) (map (λ id. Int (pos id)) ids)
 
--- the rowid is neither below the one number nor above the other
+-- the rowid is at least `low` and at most `high`
 abbrev pub is_between : ℕ → ℕ → Row → Bool
 is_between low high row = not (is_lt (value_cmp (rowid row) (Int (pos low)))) && not (is_gt (value_cmp (rowid row) (Int (pos high))))
 
--- the rows whose ids lie between two, both counted
+-- the texts whose ids are at least `low` and at most `high`
 abbrev pub ListsTextsBetween : ℕ → ℕ → Database → List RawText → Type 0
 ListsTextsBetween low high db lines = Lists text_form (filter (is_between low high) (db.trees texts.tree)) (map text_entry lines)
 
@@ -112,18 +112,17 @@ ListsTextsBetween low high db lines = Lists text_form (filter (is_between low hi
 abbrev pub against_rows : Database → List Row
 against_rows db = db.trees (table_at db.schema 7).tree
 
--- the row has this subject and this number
+-- the row belongs to this version
 abbrev pub is_of : List ℕ × ℕ → Row → Bool
 is_of version row = is_eq (value_cmp (column row 1) (Text version.0)) && is_eq (value_cmp (column row 2) (Int (pos version.1)))
 
--- the rows of a version
 abbrev pub ListsAgainstOf : List ℕ × ℕ → Database → List RawAgainst → Type 0
 ListsAgainstOf version db lines = Lists against_form (filter (is_of version) (against_rows db)) (map against_entry lines)
 
--- SQLite, Datatypes: the greatest integer
+-- SQLite, Datatypes: the maximum integer
 abbrev pub greatest_integer : ℕ
 greatest_integer = 9223372036854775807
 
--- SQLite, count(*): as many rows as there are, or the greatest integer where there are more
+-- SQLite, count(*): the number of rows, or the maximum integer if there are more
 abbrev pub HasAgainstRows : Database → ℕ → Type 0
 HasAgainstRows db count = count ≡ min (length (against_rows db)) greatest_integer

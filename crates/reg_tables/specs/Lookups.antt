@@ -1,4 +1,4 @@
--- What a call says that reads the tables.
+-- What a call that reads the tables returns.
 use Rattle.std.specs.Prelude.{◌⊎◌, List, Result, Vec, IfOk, IfErr}
 use Rattle.std.specs.declared.alloc.Global.{Global}
 use Rattle.sqlite.specs.Effect.{Database}
@@ -12,13 +12,13 @@ use Rattle.reg_tables.specs.Frames.{conn_state, ReadsInAutocommit}
 use Rattle.reg_tables.specs.Reads.{CanBeReadIn, HasTablesIn}
 use Rattle.reg_tables.specs.FailedCalls.{IsFault, IsUnreadable}
 
--- A call that reads this table changes nothing. If the tables hold some contents, an Ok tells of them; if these can be read, an Err is a fault.
+-- A call that reads this table changes nothing. If the tables hold some contents, an Ok describes them. If the contents are readable, an Err is a fault.
 pub record Finds {S X : Type 0} {g : Ghosts S} (name : TableName) (old new : AutocommitConnection S g) (result : Result X Error) (Tells : Contents → X → Type 0) : Type 0 where
   pub frame : ReadsInAutocommit g old.conn new.conn result
   pub found : HasCleanDisk (conn_state new) → IfOk result (λ x. (schema : Schema) → HasTable name schema → (contents : Contents) → HoldsContents schema (conn_state old).now contents → Tells contents x)
   pub fault : HasCleanDisk (conn_state new) → IfErr result (λ e. CanBeReadIn (HasTable name) (conn_state old) → IsFault (conn_state old) (conn_state new) e)
 
--- Nothing is changed. Where the table is declared, an Ok lists its rows, and an Err is a fault or a row that the line can't hold; where it can be read, a fault.
+-- A call that lists a table changes nothing. If the table is declared, an Ok lists its rows, and an Err is a fault or an unreadable row. If the table is readable, an Err is a fault.
 pub record ListsTable {S L : Type 0} {g : Ghosts S} (old new : AutocommitConnection S g) (result : Result (Vec L Global) Error) (IsDeclared : Schema → Type 0) (CanTell : State → Type 0) (Tells : Database → List L → Type 0) : Type 0 where
   pub frame : ReadsInAutocommit g old.conn new.conn result
   pub listed : HasCleanDisk (conn_state new) → IfOk result (λ lines. IsDeclared (conn_state old).now.schema → Tells (conn_state old).now lines.items)

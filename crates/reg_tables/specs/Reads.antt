@@ -1,4 +1,4 @@
--- What a call that only reads leaves of a connection, and why a read or a write fails.
+-- What a call that only reads does to a connection, and which databases can be read.
 use Rattle.std.specs.Prelude.{◌≡◌, ℕ, List, Some, IsTrue, IsUtf8}
 use Rattle.std.specs.FinMap.{get}
 use Rattle.sqlite.specs.State.{State, KeepsCommit}
@@ -8,12 +8,12 @@ use Rattle.reg_tables.specs.Layout.{HasFiveTables, HasEightTables, meta}
 use Rattle.reg_tables.specs.TableMaps.{ShowsMap}
 use Rattle.reg_tables.specs.Contents.{TextMap, pair_form, Contents, AreReadable, HoldsContents}
 
--- nothing is committed, and while the connection is open it shows the last commit
+-- nothing is committed, and while the connection is open its state is the last commit
 pub record OnlyReads (old new : State) : Type 0 where
   pub commit_stays : KeepsCommit old new
   pub settled : IsTrue new.is_open → new.now ≡ new.committed
 
--- the database has one of these schemas, and holds what can be read
+-- the database has one of these schemas and readable contents
 pub record HoldsReadableIn (Known : Schema → Type 0) (db : Database) : Type 0 where
   pub schema : Schema
   pub known : Known schema
@@ -21,33 +21,32 @@ pub record HoldsReadableIn (Known : Schema → Type 0) (db : Database) : Type 0 
   pub holds : HoldsContents schema db contents
   pub readable : AreReadable contents
 
--- while the connection is open, the database has one of these schemas, and holds what can be read
+-- while the connection is open, the database has one of these schemas and readable contents
 abbrev pub CanBeReadIn : (Schema → Type 0) → State → Type 0
 CanBeReadIn Known s = IsTrue s.is_open → HoldsReadableIn Known s.now
 
--- the five tables come first, whatever else is there, and hold what can be read
+-- the database begins with the five tables and has readable contents
 abbrev pub HoldsReadable : Database → Type 0
 HoldsReadable = HoldsReadableIn HasFiveTables
 
--- while the connection is open, its tables hold what can be read
 abbrev pub CanBeRead : State → Type 0
 CanBeRead = CanBeReadIn HasFiveTables
 
--- the five tables come first, and the rows of `meta` are these names and values, which can be read
+-- the database begins with the five tables, and the names and values in `meta` are readable
 pub record HoldsMeta (db : Database) : Type 0 where
   pub first : HasFiveTables db.schema
   pub names : TextMap (List ℕ)
   pub shows : ShowsMap pair_form (db.trees meta.tree) (get names)
   pub readable : (name value : List ℕ) → get names name ≡ Some value → IsUtf8 name × IsUtf8 value
 
--- while the connection is open, its `meta` holds what can be read
+-- while the connection is open, its `meta` is readable
 abbrev pub CanReadMeta : State → Type 0
 CanReadMeta s = IsTrue s.is_open → HoldsMeta s.now
 
--- while the connection is open, its tables are declared so, whatever rows they have
+-- while the connection is open, the database has one of these schemas, with any rows
 abbrev pub HasTablesIn : (Schema → Type 0) → State → Type 0
 HasTablesIn Known s = IsTrue s.is_open → Known s.now.schema
 
--- its first tables are the five that each layout has
+-- while the connection is open, the schema begins with the five tables
 abbrev pub HasLayout : State → Type 0
 HasLayout = HasTablesIn HasFiveTables

@@ -1,4 +1,4 @@
--- When a table takes more rows: SQLite puts a row one above the last one's rowid.
+-- When a table takes more rows: SQLite inserts a row at the last rowid plus one.
 use Rattle.std.specs.Prelude.{◌≡◌, ℕ, ◌+◌, ◌^◌, ◌≤◌, ℤ, pos, List, [], ◌∷◌, ⊤}
 use Rattle.sqlite.specs.declared.types.Value.TheVariants.{Int}
 use Rattle.sqlite.specs.Order.{Row}
@@ -9,19 +9,19 @@ use Rattle.sqlite.specs.Schema.{Schema}
 use Rattle.sqlite_rules.specs.Edit.{IsOversized}
 use Rattle.reg_tables.specs.Layout.{layout_one}
 
--- a row with these cells can be stored, whatever its rowid
+-- a row with these cells can be stored at any rowid
 abbrev pub CanBeStoredIn : Schema → Table → Row → Type 0
 CanBeStoredIn schema table cells = (id : ℤ) → ¬ IsOversized schema table (Int id ∷ cells)
 
 abbrev pub CanBeStored : Table → Row → Type 0
 CanBeStored = CanBeStoredIn layout_one
 
--- the rows stand in the order of their rowids, which are at least this
+-- the rows are in the order of their rowids, which are at least `low`
 abbrev pub Ascends : ℕ → List Row → Type 0
 Ascends low [] = ⊤
 Ascends low (row ∷ rows) = (id : ℕ) × (rowid row ≡ Int (pos id)) × (low ≤ id) × Ascends (id + 1) rows
 
--- so many rows more can be put in behind the last
+-- `count` more rows can be inserted after the last one
 pub record HasRoom (rows : List Row) (count : ℕ) : Type 0 where
   pub ascends : Ascends 1 rows
   pub next : ℕ

@@ -1,4 +1,4 @@
--- The rows that a SELECT returns, whatever tables the database has.
+-- The rows that a SELECT returns over any database.
 use Rattle.std.specs.Prelude.{◌≡◌, ℕ, List, [], map, codes, Ok}
 use Rattle.sqlite.specs.Order.{Row}
 use Rattle.sqlite.specs.Clock.{timed}
@@ -23,7 +23,7 @@ pub record Selects (db : Database) (sql : List ℕ) (rows : List Row) : Type 0 w
 abbrev pub ShowsMeta : Database → List Row → Type 0
 ShowsMeta db rows = Selects db (codes "SELECT rowid, name, value FROM meta") rows
 
--- the lines are all rows of `meta`, each once and in order
+-- these are all rows of `meta`, each once and in order
 pub record ReadsMeta (db : Database) (lines : List RawMeta) : Type 0 where
   pub rows : List Row
   pub shows : ShowsMeta db rows

@@ -1,4 +1,4 @@
--- What a call that writes makes of the tables.
+-- How a call that writes changes the tables.
 use Rattle.std.specs.Prelude.{◌≡◌, Result, OnOk, IfErr}
 use Rattle.sqlite.specs.Schema.{Schema}
 use Rattle.sqlite.specs.State.{State, HasCleanDisk}
@@ -12,19 +12,19 @@ use Rattle.reg_tables.specs.Frames.{state_in, RunsInTransaction}
 
 -- ---- in layout 2
 
--- this is so of what the tables hold
+-- if the tables hold some contents in layout 2, this is true of them
 abbrev pub ForHeldContents : State → (Contents → Type 0) → Type 0
 ForHeldContents s P = (schema : Schema) → IsLayoutTwo schema → (contents : Contents) → HoldsContents schema s.now contents → P contents
 
--- where what the tables held was so, they now hold what the change makes of it, in the same schema
+-- if the old contents satisfied `Was`, the tables now hold the changed contents, in the same schema
 abbrev pub ChangesIf : State → State → (Contents → Type 0) → (Contents → Contents) → Type 0
 ChangesIf old new Was change = (schema : Schema) → IsLayoutTwo schema → (contents : Contents) → HoldsContents schema old.now contents → Was contents → HoldsContents schema new.now (change contents)
 
--- the same, whatever they held
+-- the same for any old contents
 abbrev pub Changes : State → State → (Contents → Contents) → Type 0
 Changes old new change = (schema : Schema) → IsLayoutTwo schema → (contents : Contents) → HoldsContents schema old.now contents → HoldsContents schema new.now (change contents)
 
--- A call inside a transaction. After an Ok the contents are as the change makes them, and an Err is a failure of this kind.
+-- A call inside a transaction. After an Ok the contents are changed by `change`; an Err is a failure of this kind.
 pub record AppliesChange {S X : Type 0} (IsFailure : State → State → Error → Type 0) (g : Ghosts S) (old new : Transaction S) (result : Result X Error) (change : Contents → Contents) : Type 0 where
   pub frame : RunsInTransaction g old new result
   pub changed : HasCleanDisk (state_in g new) → OnOk result (Changes (state_in g old) (state_in g new) change)
@@ -32,7 +32,7 @@ pub record AppliesChange {S X : Type 0} (IsFailure : State → State → Error �
 
 -- ---- in any database
 
--- A call inside a transaction. If the database was as `From` says, it is as `To` says after an Ok, and an Err is a failure of this kind.
+-- A call inside a transaction. If the old database satisfied `From`, the new one satisfies `To` after an Ok, and an Err is a failure of this kind.
 pub record Transforms {S X I : Type 0} (IsFailure : State → State → Error → Type 0) (g : Ghosts S) (old new : Transaction S) (result : Result X Error) (From To : I → Database → Type 0) : Type 0 where
   pub frame : RunsInTransaction g old new result
   pub made : HasCleanDisk (state_in g new) → OnOk result ((about : I) → From about (state_in g old).now → To about (state_in g new).now)
@@ -42,6 +42,6 @@ pub record Transforms {S X I : Type 0} (IsFailure : State → State → Error �
 abbrev pub IsEmpty : Unit {0} → Database → Type 0
 IsEmpty _ db = db.schema ≡ no_schema
 
--- the tables of this schema hold the contents
+-- the database has this schema and these contents
 abbrev pub Holding : Schema → Contents → Database → Type 0
 Holding schema contents db = HoldsContents schema db contents

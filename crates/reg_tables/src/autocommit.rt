@@ -1,10 +1,8 @@
-//! Connections between transactions.
-
 ghost use Rattle.std.specs.Prelude.{◌≡◌, false};
 
 use sqlite::{Alter, Connection};
 
-/// A connection outside a transaction. Who uses it leaves it so.
+/// A connection in autocommit mode. Every borrower must leave it in that mode.
 #[derive(Drop)]
 pub struct AutocommitConnection<S: Alter> {
     pub conn: Connection<S>,

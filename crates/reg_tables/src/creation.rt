@@ -1,4 +1,4 @@
-//! How the tables of both layouts are made.
+//! Makes the tables of both layouts.
 
 ghost use Rattle.std.specs.Prelude.{◌≡◌, ◌⊎◌, codes};
 ghost use Rattle.sqlite.specs.Schema.{Schema};
@@ -52,15 +52,12 @@ fn make_other_tables<S: Alter>(tx: &mut Transaction<'_, S>) -> Result<(), Error>
     )
 }
 
-/// Makes the index of `versions`, which tables that another program made may lack (`is_unindexed_one`,
+/// Makes the index of `versions`. Tables that another program made may lack it (`is_unindexed_one`,
 /// `is_unindexed_two`).
 ///
 /// # Errors
 ///
-/// `OutOfMemory`, a fault of the disk, `OperationInterrupted` at the limit on steps, or
-/// `TransactionState` where a failure has ended the transaction; another where the index is there
-/// or the tables aren't the layout's. Nothing is committed, and the transaction is to be rolled
-/// back.
+/// A write error; others only if the index exists or the tables aren't those of a layout.
 pub fn index_versions<S: Alter>(tx: &mut Transaction<'_, S>) -> Result<(), Error>
     ensures { Transforms IsWriteFault S.Store tx.old tx.new result
         (λ (about : Schema × Schema × Contents) db. GetsIndex about.0 about.1 × HoldsContents about.0 db about.2)
@@ -69,7 +66,7 @@ pub fn index_versions<S: Alter>(tx: &mut Transaction<'_, S>) -> Result<(), Error
     run(tx, "CREATE INDEX versions_of_id ON versions (id)", &[])
 }
 
-/// Makes the tables and the index, with no row.
+/// Makes the empty tables and the index of layout 1.
 fn make_tables<S: Alter>(tx: &mut Transaction<'_, S>) -> Result<(), Error>
     ensures { Transforms IsWriteFault S.Store tx.old tx.new result IsEmpty
         (λ _ db. HoldsLayoutOne db no_contents) }
@@ -79,7 +76,7 @@ fn make_tables<S: Alter>(tx: &mut Transaction<'_, S>) -> Result<(), Error>
     index_versions(tx)
 }
 
-/// Makes the tables of layout 1, and says the format and a layout's number.
+/// Makes the tables of layout 1, and writes the format and a layout's number to `meta`.
 fn make_numbered<S: Alter>(tx: &mut Transaction<'_, S>, number: &str) -> Result<(), Error>
     requires known { (number.now ≡ codes "1") ⊎ (number.now ≡ codes "2") }
     ensures { Transforms IsWriteFault S.Store tx.old tx.new result IsEmpty
@@ -90,8 +87,8 @@ fn make_numbered<S: Alter>(tx: &mut Transaction<'_, S>, number: &str) -> Result<
     put_meta(tx, "layout", number)
 }
 
-/// Makes the tables of layout 1 with the rows of `meta` that both layouts have, the number being
-/// that of either.
+/// Makes the tables of layout 1, with this layout number and the other rows of `meta` that both
+/// layouts have.
 pub(crate) fn create_as<S: Alter>(tx: &mut Transaction<'_, S>, number: &str) -> Result<(), Error>
     requires known { (number.now ≡ codes "1") ⊎ (number.now ≡ codes "2") }
     ensures { Transforms IsWriteFault S.Store tx.old tx.new result IsEmpty
@@ -101,14 +98,12 @@ pub(crate) fn create_as<S: Alter>(tx: &mut Transaction<'_, S>, number: &str) -> 
     put_meta(tx, "global", "BACKWARD")
 }
 
-/// Makes the tables of a new registry in a database that has none (`has_no_tables`), with the global
-/// level BACKWARD. (Schema Registry API reference, Config.)
+/// Makes a new registry in layout 1, with the global level BACKWARD, in a database without tables
+/// (`has_no_tables`). (Schema Registry API reference, Config.)
 ///
 /// # Errors
 ///
-/// `OutOfMemory`, a fault of the disk, `OperationInterrupted` at the limit on steps, or
-/// `TransactionState` where a failure has ended the transaction; another where there are tables.
-/// Nothing is committed, and the transaction is to be rolled back.
+/// A write error; others only if the database has tables.
 pub fn create_layout_one<S: Alter>(tx: &mut Transaction<'_, S>) -> Result<(), Error>
     ensures { Transforms IsWriteFault S.Store tx.old tx.new result IsEmpty
         (λ _ db. HoldsLayoutOne db new_contents_one) }
@@ -116,14 +111,11 @@ pub fn create_layout_one<S: Alter>(tx: &mut Transaction<'_, S>) -> Result<(), Er
     create_as(tx, "1")
 }
 
-/// Makes the tables that layout 2 adds, with no row, beside those of layout 1 and its index, which
-/// keep theirs.
+/// Adds the empty tables of layout 2 to layout 1 with its index, whose contents stay.
 ///
 /// # Errors
 ///
-/// `OutOfMemory`, a fault of the disk, `OperationInterrupted` at the limit on steps, or
-/// `TransactionState` where a failure has ended the transaction; another where the tables aren't
-/// those of layout 1. Nothing is committed, and the transaction is to be rolled back.
+/// A write error; others only if the tables aren't those of layout 1.
 pub fn add_tables<S: Alter>(tx: &mut Transaction<'_, S>) -> Result<(), Error>
     ensures { Transforms IsWriteFault S.Store tx.old tx.new result (Holding layout_one) (Holding layout_two) }
 {
@@ -144,15 +136,12 @@ pub fn add_tables<S: Alter>(tx: &mut Transaction<'_, S>) -> Result<(), Error>
     )
 }
 
-/// Makes the tables of a new registry in layout 2, in a database that has none (`has_no_tables`),
-/// with the global level BACKWARD and the global mode READWRITE. (Schema Registry API reference,
-/// Config, Mode.)
+/// Makes a new registry in layout 2, with the global level BACKWARD and the global mode READWRITE,
+/// in a database without tables (`has_no_tables`). (Schema Registry API reference, Config, Mode.)
 ///
 /// # Errors
 ///
-/// `OutOfMemory`, a fault of the disk, `OperationInterrupted` at the limit on steps, or
-/// `TransactionState` where a failure has ended the transaction; another where there are tables.
-/// Nothing is committed, and the transaction is to be rolled back.
+/// A write error; others only if the database has tables.
 pub fn create_layout_two<S: Alter>(tx: &mut Transaction<'_, S>) -> Result<(), Error>
     ensures { Transforms IsWriteFault S.Store tx.old tx.new result IsEmpty
         (λ _ db. HoldsContents layout_two db new_contents_two) }

@@ -1,4 +1,4 @@
-//! Whether the tables of a database are declared as a layout says.
+//! Whether the tables of a database are those of a layout.
 
 ghost use Rattle.std.specs.Prelude.{◌≡◌, ◌↔◌, IsTrue};
 ghost use Rattle.sqlite.specs.Held.{state};
@@ -22,38 +22,35 @@ mod references;
 mod schemas;
 mod tables;
 
-/// Whether the tables of the database are those of layout 1, declared as `create` declares them.
+/// Whether the schema is layout 1 with its index, as `create_layout_one` makes it.
 pub fn has_layout_one<S: Alter>(conn: &Connection<S>) -> bool
     ensures { IsTrue result ↔ ((state S.Store conn.now).now.schema ≡ layout_one) }
 {
     is_schema(conn.schema(), &LAYOUT_ONE)
 }
 
-/// Whether the tables of the database are those of layout 1, and its one index beside SQLite's own
-/// is not there, as `index_versions` asks.
+/// Whether the schema is layout 1 without its index, which `index_versions` makes.
 pub fn is_unindexed_one<S: Alter>(conn: &Connection<S>) -> bool
     ensures { IsTrue result ↔ ((state S.Store conn.now).now.schema ≡ layout_one_unindexed) }
 {
     is_schema(conn.schema(), &LAYOUT_ONE_UNINDEXED)
 }
 
-/// Whether the tables of the database are those of layout 2, declared as `create_layout_two` declares
-/// them, with the index before the new tables or behind them.
+/// Whether the schema is layout 2, with the index made before or after the new tables.
 pub fn has_layout_two<S: Alter>(conn: &Connection<S>) -> bool
     ensures { IsTrue result ↔ IsLayoutTwo (state S.Store conn.now).now.schema }
 {
     is_layout_two(conn.schema())
 }
 
-/// Whether the tables of the database are those of layout 2, and its one index beside SQLite's own
-/// is not there, as `index_versions` asks.
+/// Whether the schema is layout 2 without its index, which `index_versions` makes.
 pub fn is_unindexed_two<S: Alter>(conn: &Connection<S>) -> bool
     ensures { IsTrue result ↔ ((state S.Store conn.now).now.schema ≡ layout_two_unindexed) }
 {
     is_schema(conn.schema(), &LAYOUT_TWO_UNINDEXED)
 }
 
-/// Whether the database has no table, index or view, as `create` asks.
+/// Whether the database has no table, index or view.
 pub fn has_no_tables<S: Alter>(conn: &Connection<S>) -> bool
     ensures { IsTrue result ↔ ((state S.Store conn.now).now.schema ≡ no_schema) }
 {

@@ -1,5 +1,5 @@
-//! The evidence of versions, which layout 2 has: the level that each was tested by when it was
-//! registered, and the ids of the texts that it was tested against.
+//! The evidence of versions, which layout 2 adds: the level under which each version was tested
+//! when it was registered, and the ids of the texts that it was tested against.
 
 ghost use Rattle.std.specs.Prelude.{◌≡◌, None, IsSome, OnOk, IfErr, option_map, string_bytes, ◌⊎◌, pos, IfOk};
 ghost use Rattle.std.specs.FinMap.{get};
@@ -24,7 +24,6 @@ use crate::statement::{FromRow, first, list};
 use sqlite::{Alter, Error, Row, Transaction, params};
 use std::alloc::Global;
 
-/// The table `evidence`.
 struct Evidence;
 
 impl KeyedTable for Evidence {
@@ -47,7 +46,6 @@ impl FilledTable for Evidence {
     }
 }
 
-/// The table `against`.
 struct Against;
 
 impl KeyedTable for Against {
@@ -89,7 +87,6 @@ pub struct RawAgainst {
     pub id: u32,
 }
 
-/// A count.
 impl FromRow for u64 {
     ghost Cells = { Value };
 
@@ -143,16 +140,13 @@ impl FromRow for RawAgainst {
     }
 }
 
-/// Puts the level that a version was tested by, where the caller has seen that the version is there
-/// and has none.
+/// Adds the level under which a version was tested. The caller must know that the version exists
+/// and has no evidence.
 ///
 /// # Errors
 ///
-/// `OutOfMemory`, a fault of the disk, `OperationInterrupted` at the limit on steps,
-/// `TransactionState` where a failure has ended the transaction, `TooBig` for a row that is too
-/// large, or `NoRowid` or `ConstraintViolation(PrimaryKey)` where no rowid is free behind the last
-/// row; another where the version isn't there or has a level, or the tables aren't the layout's.
-/// Nothing is committed, and the transaction is to be rolled back.
+/// An insert error; others only if the version doesn't exist or has evidence, or the schema isn't
+/// layout 2.
 pub fn put_evidence<S: Alter>(
     tx: &mut Transaction<'_, S>,
     subject: &str,
@@ -170,12 +164,13 @@ pub fn put_evidence<S: Alter>(
     put::<S, Evidence>(tx, params![subject, number, level])
 }
 
-/// Puts the id of a text that a version was tested against, at a position that the caller has seen
-/// to be free.
+/// Adds the id of a text that a version was tested against. The caller must know that the version
+/// and the text exist and that the position is free.
 ///
 /// # Errors
 ///
-/// As `put_evidence`; another also where no text has the id.
+/// An insert error; others only if the version or the text doesn't exist, the position is taken, or
+/// the schema isn't layout 2.
 pub fn put_against<S: Alter>(
     tx: &mut Transaction<'_, S>,
     subject: &str,
@@ -194,12 +189,11 @@ pub fn put_against<S: Alter>(
     put::<S, Against>(tx, params![subject, number, position, id])
 }
 
-/// The level of a version's evidence, if it has some.
+/// The level of a version's evidence, or `None`.
 ///
 /// # Errors
 ///
-/// `OutOfMemory`, a fault of the disk, or `OperationInterrupted` at the limit on steps; where the
-/// tables can't be read, another error too. Nothing is changed.
+/// A read error; others only if the tables can't be read.
 pub fn evidence_of<S: Alter>(
     db: &mut AutocommitConnection<S>,
     subject: &str,
@@ -211,12 +205,11 @@ pub fn evidence_of<S: Alter>(
     find::<S, Evidence>(db, params![subject, number])
 }
 
-/// The id of the text that a version was tested against at a position, if there is one.
+/// The id at a position among those that a version was tested against, or `None`.
 ///
 /// # Errors
 ///
-/// `OutOfMemory`, a fault of the disk, or `OperationInterrupted` at the limit on steps; where the
-/// tables can't be read, another error too. Nothing is changed.
+/// A read error; others only if the tables can't be read.
 pub fn against_at<S: Alter>(
     db: &mut AutocommitConnection<S>,
     subject: &str,
@@ -233,8 +226,7 @@ pub fn against_at<S: Alter>(
 ///
 /// # Errors
 ///
-/// `OutOfMemory`, a fault of the disk, or `OperationInterrupted` at the limit on steps; another
-/// where a row holds what the line can't. Nothing is changed.
+/// A read error; others only if a row can't be read.
 pub fn raw_evidence<S: Alter>(
     alloc: Global,
     db: &mut AutocommitConnection<S>,
@@ -249,12 +241,11 @@ pub fn raw_evidence<S: Alter>(
     )
 }
 
-/// The rows of `against` that a version has, in any order.
+/// The rows of `against` for a version, in any order.
 ///
 /// # Errors
 ///
-/// `OutOfMemory`, a fault of the disk, or `OperationInterrupted` at the limit on steps; another
-/// where a row holds what the line can't. Nothing is changed.
+/// A read error; others only if a row can't be read.
 pub fn against_of<S: Alter>(
     alloc: Global,
     db: &mut AutocommitConnection<S>,
@@ -271,12 +262,11 @@ pub fn against_of<S: Alter>(
     )
 }
 
-/// How many rows `against` has.
+/// The number of rows of `against`.
 ///
 /// # Errors
 ///
-/// `OutOfMemory`, a fault of the disk, or `OperationInterrupted` at the limit on steps. Nothing is
-/// changed.
+/// A read error; others only if the tables can't be read.
 pub fn against_count<S: Alter>(db: &mut AutocommitConnection<S>) -> Result<u64, Error>
     ensures frame { ReadsInAutocommit S.Store db.old.conn db.new.conn result }
     ensures counted { HasCleanDisk (conn_state db.new) → IfOk result (λ count.

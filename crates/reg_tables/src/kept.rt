@@ -1,4 +1,4 @@
-//! What is kept under retry keys.
+//! The kept replies, by retry key.
 
 ghost use Rattle.std.specs.Prelude.{◌≡◌, None, Some, OnOk, IfErr, MatchOption, [], ◌∷◌};
 ghost use Rattle.std.specs.FinMap.{get};
@@ -22,7 +22,7 @@ use crate::statement::{FromRow, list};
 use sqlite::{Alter, Error, Row, Transaction, params};
 use std::alloc::Global;
 
-/// A command's text and its reply, as they are kept under a retry key.
+/// A kept reply: the text of a command, and the status and body of its reply.
 #[derive(Debug, Drop)]
 pub struct KeptReply {
     pub command: String,
@@ -47,7 +47,6 @@ impl FromRow for KeptReply {
     }
 }
 
-/// The table `kept`.
 struct Kept;
 
 impl KeyedTable for Kept {
@@ -100,15 +99,12 @@ impl FromRow for RawKept {
     }
 }
 
-/// Keeps a command's text and its reply under a retry key, which the caller has seen to have none.
+/// Keeps a command's text and its reply under a retry key. The caller must know that the key has no
+/// reply.
 ///
 /// # Errors
 ///
-/// `OutOfMemory`, a fault of the disk, `OperationInterrupted` at the limit on steps,
-/// `TransactionState` where a failure has ended the transaction, `TooBig` for a row that is too
-/// large, or `NoRowid` or `ConstraintViolation(PrimaryKey)` where no rowid is free behind the last
-/// row; another where the key has something or the tables aren't a layout's. Nothing is
-/// committed, and the transaction is to be rolled back.
+/// An insert error; others only if the key has a reply or the schema isn't layout 2.
 pub fn keep_reply<S: Alter>(
     tx: &mut Transaction<'_, S>,
     key: &str,
@@ -127,12 +123,11 @@ pub fn keep_reply<S: Alter>(
     put::<S, Kept>(tx, params![key, command, status, body])
 }
 
-/// What is kept under a retry key, if something is.
+/// The kept reply of a retry key, or `None`.
 ///
 /// # Errors
 ///
-/// `OutOfMemory`, a fault of the disk, or `OperationInterrupted` at the limit on steps; where the
-/// tables can't be read, another error too. Nothing is changed.
+/// A read error; others only if the tables can't be read.
 pub fn kept_reply<S: Alter>(
     db: &mut AutocommitConnection<S>,
     key: &str,
@@ -148,8 +143,7 @@ pub fn kept_reply<S: Alter>(
 ///
 /// # Errors
 ///
-/// `OutOfMemory`, a fault of the disk, or `OperationInterrupted` at the limit on steps; another
-/// where a row holds what the line can't. Nothing is changed.
+/// A read error; others only if a row can't be read.
 pub fn raw_kept<S: Alter>(
     alloc: Global,
     db: &mut AutocommitConnection<S>,

@@ -1,4 +1,4 @@
-//! The statements of a table that has one row for each key.
+//! Statements on tables with one row for each key.
 
 ghost use Rattle.std.specs.Prelude.{◌≡◌, ◌+◌, ◌∷◌, ℕ, List, [], IsUtf8, IsTrue, string_bytes, None, Some, OnOk, IfOk, IfErr, MatchOption};
 ghost use Rattle.std.specs.FinMap.{get};
@@ -19,7 +19,7 @@ use crate::statement::{FromRow, first, run};
 use sqlite::types::ValueRef;
 use sqlite::{Alter, Error, ErrorCode, Row, Transaction};
 
-/// A table that has one row for each key, and the line that its values are read as.
+/// A table with one row for each key, and the type as which its values are read.
 pub(crate) trait KeyedTable {
     type Found: FromRow;
 
@@ -36,9 +36,9 @@ pub(crate) trait KeyedTable {
             → get (map_of name contents) key ≡ Some value → Self.Found.is_readable ((form_of name).value_cells value) };
 }
 
-/// A table that rows are put into.
+/// A table into which rows are inserted.
 pub(crate) trait FilledTable: KeyedTable {
-    /// The schemas in which they are.
+    /// The schemas in which rows are inserted.
     ghost Written: { Schema → Type 0 };
 
     /// The INSERT of a row, by the columns of its key and then of its value.
@@ -47,7 +47,7 @@ pub(crate) trait FilledTable: KeyedTable {
         ensures puts { (schema : Schema) → Written schema → PutsRow schema Self.name result.now };
 }
 
-/// One whose rows are dropped too, and no others with them.
+/// A table whose rows are deleted too, without deleting rows of other tables.
 pub(crate) trait ChangedTable: FilledTable {
     /// The DELETE of a row, by the columns of its key.
     fn drop_sql() -> &'static str
@@ -67,7 +67,7 @@ impl FromRow for String {
     }
 }
 
-/// Puts a row in under a key that has none.
+/// Inserts a row under a free key.
 pub(crate) fn put<S: Alter, T: FilledTable>(
     tx: &mut Transaction<'_, S>,
     values: &[ValueRef<'_>],
@@ -100,7 +100,7 @@ pub(crate) fn put<S: Alter, T: FilledTable>(
     run(tx, T::put_sql(), values)
 }
 
-/// Takes out the row of a key, if it has one.
+/// Deletes the row of a key, if it exists.
 pub(crate) fn drop<S: Alter, T: ChangedTable>(
     tx: &mut Transaction<'_, S>,
     values: &[ValueRef<'_>],
@@ -118,7 +118,7 @@ pub(crate) fn drop<S: Alter, T: ChangedTable>(
     run(tx, T::drop_sql(), values)
 }
 
-/// Puts a row in under a key, in place of the one that it may have.
+/// Inserts a row under a key, or replaces the key's row.
 pub(crate) fn set<S: Alter, T: ChangedTable>(
     tx: &mut Transaction<'_, S>,
     key_values: &[ValueRef<'_>],
@@ -141,7 +141,7 @@ pub(crate) fn set<S: Alter, T: ChangedTable>(
     put::<S, T>(tx, values)
 }
 
-/// The value of a key, if it has one.
+/// The value of a key, or `None`.
 pub(crate) fn find<S: Alter, T: KeyedTable>(
     db: &mut AutocommitConnection<S>,
     values: &[ValueRef<'_>],

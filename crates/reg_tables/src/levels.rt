@@ -18,7 +18,6 @@ use crate::statement::{FromRow, list};
 use sqlite::{Alter, Error, Row, Transaction, params};
 use std::alloc::Global;
 
-/// The table `levels`.
 struct Levels;
 
 impl KeyedTable for Levels {
@@ -73,28 +72,22 @@ impl FromRow for RawLevel {
     }
 }
 
-/// Drops the own level of a subject, if it has one.
+/// Deletes the own level of a subject, if it has one.
 ///
 /// # Errors
 ///
-/// `OutOfMemory`, a fault of the disk, `OperationInterrupted` at the limit on steps, or
-/// `TransactionState` where a failure has ended the transaction; another where the tables aren't
-/// a layout's. Nothing is committed, and the transaction is to be rolled back.
+/// A write error; others only if the schema isn't layout 2.
 pub fn drop_level<S: Alter>(tx: &mut Transaction<'_, S>, subject: &str) -> Result<(), Error>
     ensures { AppliesChange IsWriteFault S.Store tx.old tx.new result (without_level subject.now) }
 {
     drop::<S, Levels>(tx, params![subject])
 }
 
-/// Sets the own level of a subject, in place of the one that it may have.
+/// Sets or replaces the own level of a subject.
 ///
 /// # Errors
 ///
-/// `OutOfMemory`, a fault of the disk, `OperationInterrupted` at the limit on steps,
-/// `TransactionState` where a failure has ended the transaction, `TooBig` for a row that is too
-/// large, or `NoRowid` or `ConstraintViolation(PrimaryKey)` where no rowid is free behind the last
-/// row; another where the tables aren't a layout's. Nothing is committed, and the transaction is
-/// to be rolled back.
+/// An insert error; others only if the schema isn't layout 2.
 pub fn set_level<S: Alter>(
     tx: &mut Transaction<'_, S>,
     subject: &str,
@@ -105,12 +98,11 @@ pub fn set_level<S: Alter>(
     set::<S, Levels>(tx, params![subject], params![subject, level])
 }
 
-/// The own level of a subject, if it has one.
+/// The own level of a subject, or `None`.
 ///
 /// # Errors
 ///
-/// `OutOfMemory`, a fault of the disk, or `OperationInterrupted` at the limit on steps; where the
-/// tables can't be read, another error too. Nothing is changed.
+/// A read error; others only if the tables can't be read.
 pub fn own_level<S: Alter>(
     db: &mut AutocommitConnection<S>,
     subject: &str,
@@ -126,8 +118,7 @@ pub fn own_level<S: Alter>(
 ///
 /// # Errors
 ///
-/// `OutOfMemory`, a fault of the disk, or `OperationInterrupted` at the limit on steps; another
-/// where a row holds what the line can't. Nothing is changed.
+/// A read error; others only if a row can't be read.
 pub fn raw_levels<S: Alter>(
     alloc: Global,
     db: &mut AutocommitConnection<S>,

@@ -1,13 +1,24 @@
-//! The registry's tables: how they are made, what they hold, and one call for each statement that
-//! changes or reads them.
+//! The tables of the registry over `sqlite`: one function for each statement that makes, changes or
+//! reads them. The contracts speak of their contents as finite maps.
 //!
-//! A call that changes the tables takes a transaction. On `Ok` the contents are changed as its
-//! clause says, and whatever it answers nothing is committed: that is the caller's commit.
-//! A call that only reads takes a connection outside a transaction (`AutocommitConnection`). What a call says of the
-//! contents holds where the disk has returned what was written to it (`HasCleanDisk`). Errors are
-//! `sqlite`'s, and a clause `fault` says which of them are left where the tables are as it asks:
-//! codes of `SqliteFailure`, where a fault of the disk is `SystemIoFailure`, `DatabaseCorrupt`,
-//! `DiskFull`, or `Closed` after an earlier one.
+//! A function that writes takes a transaction and never commits it. On `Ok` the contents have
+//! changed as its clause says. On an error the caller must roll the transaction back.
+//! A function that reads takes an `AutocommitConnection` and changes nothing.
+//! Clauses about contents are true while the disk has returned what was written to it
+//! (`HasCleanDisk`).
+//!
+//! # Errors
+//!
+//! Errors are those of `sqlite`. The functions refer to three kinds of them:
+//!
+//! - a *read error* is `OutOfMemory`, a disk fault (`SystemIoFailure`, `DatabaseCorrupt`, `DiskFull`,
+//!   or `Closed` after an earlier fault), or `OperationInterrupted` at the step limit;
+//! - a *write error* is a read error, or `TransactionState` if an earlier failure has ended the
+//!   transaction;
+//! - an *insert error* is a write error, `TooBig` for a row that is too large, or `NoRowid` or
+//!   `ConstraintViolation(PrimaryKey)` if the row's rowid isn't free.
+//!
+//! A function may return any other error if the database lacks the tables that it needs.
 
 #![tactic(auto)]
 

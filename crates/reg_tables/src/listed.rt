@@ -1,4 +1,5 @@
-//! Rows of `versions`, in the order of their subjects and numbers, or one of them.
+//! Lists of versions, in the order of their subjects and numbers, and single versions of such
+//! lists.
 
 ghost use Rattle.std.specs.Prelude.{◌≡◌, ◌≢◌, ℕ, List, [], ◌∷◌, MatchOption, None, Some, not, map, filter, find, option_map};
 ghost use Rattle.std.specs.Ordering.{is_gt, nat_cmp};
@@ -15,7 +16,7 @@ use crate::versions::flag_in;
 use sqlite::{Alter, Error, Row, params};
 use std::alloc::Global;
 
-/// A version of a subject that the caller names.
+/// A version of a given subject.
 #[derive(Debug, Drop)]
 pub struct SubjectVersion {
     pub number: u32,
@@ -23,7 +24,7 @@ pub struct SubjectVersion {
     pub deleted: bool,
 }
 
-/// A version, with the subject that has it.
+/// A version with its subject.
 #[derive(Debug, Drop)]
 pub struct ListedVersion {
     pub subject: String,
@@ -69,8 +70,7 @@ impl FromRow for ListedVersion {
 ///
 /// # Errors
 ///
-/// `OutOfMemory`, a fault of the disk, or `OperationInterrupted` at the limit on steps; where the
-/// tables can't be read, another error too. Nothing is changed.
+/// A read error; others only if the tables can't be read.
 pub fn versions_of<S: Alter>(
     alloc: Global,
     db: &mut AutocommitConnection<S>,
@@ -87,12 +87,11 @@ pub fn versions_of<S: Alter>(
     )
 }
 
-/// The version of a subject with the greatest number, if the subject has one.
+/// The version of a subject with the greatest number, or `None`.
 ///
 /// # Errors
 ///
-/// `OutOfMemory`, a fault of the disk, or `OperationInterrupted` at the limit on steps; where the
-/// tables can't be read, another error too. Nothing is changed.
+/// A read error; others only if the tables can't be read.
 pub fn last_version_of<S: Alter>(
     db: &mut AutocommitConnection<S>,
     subject: &str,
@@ -107,13 +106,11 @@ pub fn last_version_of<S: Alter>(
     )
 }
 
-/// The version of a subject with the greatest number among those that aren't marked as deleted, if
-/// there is one.
+/// The version of a subject with the greatest number among those that aren't deleted, or `None`.
 ///
 /// # Errors
 ///
-/// `OutOfMemory`, a fault of the disk, or `OperationInterrupted` at the limit on steps; where the
-/// tables can't be read, another error too. Nothing is changed.
+/// A read error; others only if the tables can't be read.
 pub fn last_live_version_of<S: Alter>(
     db: &mut AutocommitConnection<S>,
     subject: &str,
@@ -129,12 +126,11 @@ pub fn last_live_version_of<S: Alter>(
     )
 }
 
-/// The version of a subject with the least number above this one, if the subject has one.
+/// The version of a subject with the least number above `number`, or `None`.
 ///
 /// # Errors
 ///
-/// `OutOfMemory`, a fault of the disk, or `OperationInterrupted` at the limit on steps; where the
-/// tables can't be read, another error too. Nothing is changed.
+/// A read error; others only if the tables can't be read.
 pub fn next_version_of<S: Alter>(
     db: &mut AutocommitConnection<S>,
     subject: &str,
@@ -151,12 +147,11 @@ pub fn next_version_of<S: Alter>(
     )
 }
 
-/// The first version of the first subject behind this one, if there is one.
+/// The first version of the first subject after `subject`, or `None`.
 ///
 /// # Errors
 ///
-/// `OutOfMemory`, a fault of the disk, or `OperationInterrupted` at the limit on steps; where the
-/// tables can't be read, another error too. Nothing is changed.
+/// A read error; others only if the tables can't be read.
 pub fn first_version_after<S: Alter>(
     db: &mut AutocommitConnection<S>,
     subject: &str,
@@ -172,12 +167,11 @@ pub fn first_version_after<S: Alter>(
     )
 }
 
-/// The versions of an id, in the order of their subjects and numbers.
+/// All versions with this id, in the order of their subjects and numbers.
 ///
 /// # Errors
 ///
-/// `OutOfMemory`, a fault of the disk, or `OperationInterrupted` at the limit on steps; where the
-/// tables can't be read, another error too. Nothing is changed.
+/// A read error; others only if the tables can't be read.
 pub fn versions_of_id<S: Alter>(
     alloc: Global,
     db: &mut AutocommitConnection<S>,
@@ -194,12 +188,11 @@ pub fn versions_of_id<S: Alter>(
     )
 }
 
-/// A version of an id, whichever it is, if the id has one.
+/// Any version with this id, or `None`.
 ///
 /// # Errors
 ///
-/// `OutOfMemory`, a fault of the disk, or `OperationInterrupted` at the limit on steps; where the
-/// tables can't be read, another error too. Nothing is changed.
+/// A read error; others only if the tables can't be read.
 pub fn any_version_of_id<S: Alter>(
     db: &mut AutocommitConnection<S>,
     id: u32,
@@ -220,8 +213,7 @@ pub fn any_version_of_id<S: Alter>(
 ///
 /// # Errors
 ///
-/// `OutOfMemory`, a fault of the disk, or `OperationInterrupted` at the limit on steps; where the
-/// tables can't be read, another error too. Nothing is changed.
+/// A read error; others only if the tables can't be read.
 pub fn all_versions<S: Alter>(
     alloc: Global,
     db: &mut AutocommitConnection<S>,

@@ -1,4 +1,4 @@
-//! What the database says of itself: its format, its layout, the global level and the global mode.
+//! The table `meta`: the format, the layout's number, the global level and the global mode.
 
 ghost use Rattle.std.specs.Prelude.{◌≡◌, ◌+◌, ℕ, [], ◌∷◌, None, Some, IfErr, MatchOption, codes, string_bytes, ◌⊎◌, IfOk};
 ghost use Rattle.std.specs.FinMap.{get};
@@ -23,7 +23,6 @@ use crate::statement::{FromRow, list};
 use sqlite::{Alter, Error, Row, Transaction, params};
 use std::alloc::Global;
 
-/// The table `meta`.
 struct Meta;
 
 impl KeyedTable for Meta {
@@ -78,7 +77,7 @@ impl FromRow for RawMeta {
     }
 }
 
-/// Says a value under a name that has none.
+/// Inserts a value under a free name.
 pub(crate) fn put_meta<S: Alter>(
     tx: &mut Transaction<'_, S>,
     name: &str,
@@ -92,45 +91,40 @@ pub(crate) fn put_meta<S: Alter>(
     put::<S, Meta>(tx, params![name, value])
 }
 
-/// Says a value under a name, in place of the one that it may have.
+/// Sets or replaces the value of a name.
 fn set_meta<S: Alter>(tx: &mut Transaction<'_, S>, name: &str, value: &str) -> Result<(), Error>
     ensures { AppliesChange IsInsertFault S.Store tx.old tx.new result (with_meta name.now value.now) }
 {
     set::<S, Meta>(tx, params![name], params![name, value])
 }
 
-/// Sets the global level, in place of the one that is there.
+/// Sets or replaces the global level.
 ///
 /// # Errors
 ///
-/// `OutOfMemory`, a fault of the disk, `OperationInterrupted` at the limit on steps,
-/// `TransactionState` where a failure has ended the transaction, `TooBig` for a row that is too
-/// large, or `NoRowid` or `ConstraintViolation(PrimaryKey)` where no rowid is free behind the last
-/// row; another where the tables aren't a layout's. Nothing is committed, and the transaction is
-/// to be rolled back.
+/// An insert error; others only if the schema isn't layout 2.
 pub fn set_global<S: Alter>(tx: &mut Transaction<'_, S>, level: &str) -> Result<(), Error>
     ensures { AppliesChange IsInsertFault S.Store tx.old tx.new result (with_global level.now) }
 {
     set_meta(tx, "global", level)
 }
 
-/// Sets the global mode, which layout 2 has, in place of the one that is there.
+/// Sets or replaces the global mode.
 ///
 /// # Errors
 ///
-/// As `set_global`.
+/// An insert error; others only if the schema isn't layout 2.
 pub fn set_global_mode<S: Alter>(tx: &mut Transaction<'_, S>, mode: &str) -> Result<(), Error>
     ensures { AppliesChange IsInsertFault S.Store tx.old tx.new result (with_global_mode mode.now) }
 {
     set_meta(tx, "mode", mode)
 }
 
-/// Says that the layout is the second, and that the global mode is READWRITE, as a registry's of
-/// layout 1 is, once `add_tables` has made its tables.
+/// Writes layout 2 and the global mode READWRITE to `meta`, after `add_tables` has made the tables.
 ///
 /// # Errors
 ///
-/// As `set_global`.
+/// An insert error; others only if the schema isn't layout 2.
 pub fn mark_layout_two<S: Alter>(tx: &mut Transaction<'_, S>) -> Result<(), Error>
     ensures { AppliesChange IsInsertFault S.Store tx.old tx.new result marked_layout_two }
 {
@@ -138,12 +132,11 @@ pub fn mark_layout_two<S: Alter>(tx: &mut Transaction<'_, S>) -> Result<(), Erro
     set_global_mode(tx, "READWRITE")
 }
 
-/// The global level, if the database has one.
+/// The global level, or `None`.
 ///
 /// # Errors
 ///
-/// `OutOfMemory`, a fault of the disk, or `OperationInterrupted` at the limit on steps; where the
-/// tables can't be read, another error too. Nothing is changed.
+/// A read error; others only if the tables can't be read.
 pub fn global_level<S: Alter>(db: &mut AutocommitConnection<S>) -> Result<Option<String>, Error>
     ensures { Finds TableName.Meta db.old db.new result (λ contents found.
         MatchOption found (get contents.meta (codes "global") ≡ None)
@@ -152,13 +145,12 @@ pub fn global_level<S: Alter>(db: &mut AutocommitConnection<S>) -> Result<Option
     find::<S, Meta>(db, params!["global"])
 }
 
-/// All rows of `meta`, in any order, whatever tables follow the five. In a database that doesn't
-/// begin with the five tables, `meta` may be any table or view.
+/// All rows of `meta`, in any order. In a database that doesn't begin with the five tables, `meta`
+/// may be any table or view.
 ///
 /// # Errors
 ///
-/// `OutOfMemory`, a disk fault, or `OperationInterrupted` at the limit on steps; another error if
-/// SQLite rejects the statement or a row doesn't fit the line. Nothing is changed.
+/// A read error; others only if SQLite rejects the statement or a row can't be read.
 pub fn raw_meta<S: Alter>(
     alloc: Global,
     db: &mut AutocommitConnection<S>,

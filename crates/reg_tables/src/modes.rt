@@ -1,4 +1,4 @@
-//! The own modes of subjects, which layout 2 has.
+//! The own modes of subjects, which layout 2 adds. (Schema Registry API reference, Mode.)
 
 ghost use Rattle.std.specs.Prelude.{◌≡◌, ◌⊎◌, ⊤, ℕ, List, None, Some, MatchOption, string_bytes};
 ghost use Rattle.std.specs.FinMap.{get};
@@ -20,7 +20,6 @@ use crate::statement::{FromRow, list};
 use sqlite::{Alter, Error, Row, Transaction, params};
 use std::alloc::Global;
 
-/// The table `modes`.
 struct Modes;
 
 impl KeyedTable for Modes {
@@ -75,28 +74,22 @@ impl FromRow for RawMode {
     }
 }
 
-/// Drops the own mode of a subject, if it has one.
+/// Deletes the own mode of a subject, if it has one.
 ///
 /// # Errors
 ///
-/// `OutOfMemory`, a fault of the disk, `OperationInterrupted` at the limit on steps, or
-/// `TransactionState` where a failure has ended the transaction; another where the tables aren't
-/// the layout's. Nothing is committed, and the transaction is to be rolled back.
+/// A write error; others only if the schema isn't layout 2.
 pub fn drop_mode<S: Alter>(tx: &mut Transaction<'_, S>, subject: &str) -> Result<(), Error>
     ensures { AppliesChange IsWriteFault S.Store tx.old tx.new result (without_mode subject.now) }
 {
     drop::<S, Modes>(tx, params![subject])
 }
 
-/// Sets the own mode of a subject, in place of the one that it may have.
+/// Sets or replaces the own mode of a subject.
 ///
 /// # Errors
 ///
-/// `OutOfMemory`, a fault of the disk, `OperationInterrupted` at the limit on steps,
-/// `TransactionState` where a failure has ended the transaction, `TooBig` for a row that is too
-/// large, or `NoRowid` or `ConstraintViolation(PrimaryKey)` where no rowid is free behind the last
-/// row; another where the tables aren't the layout's. Nothing is committed, and the transaction is
-/// to be rolled back.
+/// An insert error; others only if the schema isn't layout 2.
 pub fn set_mode<S: Alter>(
     tx: &mut Transaction<'_, S>,
     subject: &str,
@@ -107,12 +100,11 @@ pub fn set_mode<S: Alter>(
     set::<S, Modes>(tx, params![subject], params![subject, mode])
 }
 
-/// The own mode of a subject, if it has one.
+/// The own mode of a subject, or `None`.
 ///
 /// # Errors
 ///
-/// `OutOfMemory`, a fault of the disk, or `OperationInterrupted` at the limit on steps; where the
-/// tables can't be read, another error too. Nothing is changed.
+/// A read error; others only if the tables can't be read.
 pub fn own_mode<S: Alter>(
     db: &mut AutocommitConnection<S>,
     subject: &str,
@@ -128,8 +120,7 @@ pub fn own_mode<S: Alter>(
 ///
 /// # Errors
 ///
-/// `OutOfMemory`, a fault of the disk, or `OperationInterrupted` at the limit on steps; another
-/// where a row holds what the line can't. Nothing is changed.
+/// A read error; others only if a row can't be read.
 pub fn raw_modes<S: Alter>(
     alloc: Global,
     db: &mut AutocommitConnection<S>,

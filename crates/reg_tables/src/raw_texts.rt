@@ -1,4 +1,4 @@
-//! The rows of `texts` a few at a time, and the ids of all, as the test of a database needs them.
+//! The ids of all texts, and ranges of texts, for testing a database before it is opened.
 
 ghost use Rattle.std.specs.Prelude.{pos};
 ghost use Rattle.sqlite.specs.declared.types.Value.{Value};
@@ -16,7 +16,6 @@ use crate::statement::{FromRow, list};
 use sqlite::{Alter, Error, Row, params};
 use std::alloc::Global;
 
-/// The id of a row of `texts`.
 impl FromRow for u32 {
     ghost Cells = { Value };
 
@@ -55,12 +54,11 @@ impl FromRow for RawText {
     }
 }
 
-/// The ids of all rows of `texts`, in any order.
+/// The ids of all texts, in any order.
 ///
 /// # Errors
 ///
-/// `OutOfMemory`, a fault of the disk, or `OperationInterrupted` at the limit on steps; another
-/// where a rowid is no `u32`. Nothing is changed.
+/// A read error; others only if an id is no `u32`.
 pub fn text_ids<S: Alter>(
     alloc: Global,
     db: &mut AutocommitConnection<S>,
@@ -70,12 +68,11 @@ pub fn text_ids<S: Alter>(
     list(alloc, db, "SELECT id FROM texts", &[])
 }
 
-/// The rows of `texts` whose ids lie between these two, both counted, in any order.
+/// The texts whose ids are at least `low` and at most `high`, in any order.
 ///
 /// # Errors
 ///
-/// `OutOfMemory`, a fault of the disk, or `OperationInterrupted` at the limit on steps; another
-/// where a row holds what the line can't. Nothing is changed.
+/// A read error; others only if a row can't be read.
 pub fn texts_between<S: Alter>(
     alloc: Global,
     db: &mut AutocommitConnection<S>,

@@ -1,5 +1,4 @@
-//! One statement: a write in a transaction, or a query in a transaction of its own, whose rows can
-//! be read as lines.
+//! One statement: a write in a transaction, or a query in its own transaction.
 
 ghost use Rattle.std.specs.Prelude.{◌≡◌, ◌⊎◌, ◌≤◌, ℕ, Ok, Err, IfErr, OnOk, IfOk, List, map, slice_get, option_map, All, false};
 ghost use Rattle.sqlite.specs.Order.{Row as SqlRow};
@@ -14,7 +13,7 @@ use sqlite::types::ValueRef;
 use sqlite::{Alter, Error, ErrorCode, Row, Transaction};
 use std::alloc::Global;
 
-/// Runs one statement that shows no rows.
+/// Runs one statement that returns no rows.
 pub(crate) fn run<S: Alter>(
     tx: &mut Transaction<'_, S>,
     sql: &str,
@@ -34,7 +33,7 @@ pub(crate) fn run<S: Alter>(
     Ok(())
 }
 
-/// The rows that a query shows. Whatever the text is, nothing is committed.
+/// The rows that a query returns. Commits nothing, for any SQL text.
 pub(crate) fn ask<S: Alter>(
     db: &mut AutocommitConnection<S>,
     sql: &str,
@@ -57,16 +56,16 @@ pub(crate) fn ask<S: Alter>(
     rows
 }
 
-/// A line of a list, as it is read from a row that a query shows.
+/// A value that is read from a row of a query.
 pub(crate) trait FromRow: Sized {
-    // The cells that are read: a row, or its parts.
+    // The cells of the columns that are read: a row, or parts of it.
     ghost Cells: { Type 0 } = { SqlRow };
 
     ghost shown: { SqlRow → Cells };
 
     ghost cells: { Self → Cells };
 
-    // A row that the line holds.
+    // The rows that can be read.
     ghost is_readable: { SqlRow → Type 0 };
 
     fn read(row: &Row) -> Result<Self, Error>
@@ -76,7 +75,7 @@ pub(crate) trait FromRow: Sized {
         ensures named { IfErr result IsReadingError };
 }
 
-/// The lines of the rows. Each row is let go once it is read, so no text is held twice.
+/// The values of the rows. Each row is dropped after it is read, so no text is in memory twice.
 fn lines_in<L: FromRow + Drop>(alloc: Global, rows: Vec<Row>) -> Result<Vec<L>, Error>
     ensures ok { IfOk result (λ lines. map L.shown rows.items ≡ map L.cells lines.items) }
     ensures err { IfErr result (λ e. (All L.is_readable rows.items
@@ -89,7 +88,7 @@ fn lines_in<L: FromRow + Drop>(alloc: Global, rows: Vec<Row>) -> Result<Vec<L>, 
     Ok(lines)
 }
 
-/// The lines of the rows that a query shows.
+/// The values of the rows that a query returns.
 pub(crate) fn list<S: Alter, L: FromRow + Drop>(
     alloc: Global,
     db: &mut AutocommitConnection<S>,
@@ -109,7 +108,7 @@ pub(crate) fn list<S: Alter, L: FromRow + Drop>(
     lines_in(alloc, rows)
 }
 
-/// The line of the first row that a query shows, if it shows one.
+/// The value of the first row that a query returns, or `None`.
 pub(crate) fn first<S: Alter, L: FromRow>(
     db: &mut AutocommitConnection<S>,
     sql: &str,

@@ -15,7 +15,6 @@ use crate::keyed::{KeyedTable, find};
 use crate::statement::{ask, run};
 use sqlite::{Alter, Error, ErrorCode, Row, Transaction, params};
 
-/// The table `texts`, by id.
 struct Texts;
 
 impl KeyedTable for Texts {
@@ -30,14 +29,13 @@ impl KeyedTable for Texts {
     }
 }
 
-/// Puts a text under an id, which the caller has seen to have none.
+/// Adds a text under an id. The caller must know that the id is free and that no other id has the
+/// text.
 ///
 /// # Errors
 ///
-/// `OutOfMemory`, a fault of the disk, `OperationInterrupted` at the limit on steps,
-/// `TransactionState` where a failure has ended the transaction, or `TooBig` for a row that is too
-/// large; another where the id or the text is taken, or the tables aren't a layout's. Nothing is
-/// committed, and the transaction is to be rolled back.
+/// A write error, or `TooBig` for a row that is too large; others only if the id or the text is
+/// taken, or the schema isn't layout 2.
 pub fn put_text<S: Alter>(tx: &mut Transaction<'_, S>, id: u32, text: &str) -> Result<(), Error>
     ensures frame { RunsInTransaction S.Store tx.old tx.new result }
     ensures put { HasCleanDisk (state_in S.Store tx.new) → OnOk result (ChangesIf (state_in S.Store tx.old) (state_in S.Store tx.new)
@@ -54,12 +52,11 @@ pub fn put_text<S: Alter>(tx: &mut Transaction<'_, S>, id: u32, text: &str) -> R
     )
 }
 
-/// The text of an id, if it has one.
+/// The text of an id, or `None`.
 ///
 /// # Errors
 ///
-/// `OutOfMemory`, a fault of the disk, or `OperationInterrupted` at the limit on steps; where the
-/// tables can't be read, another error too. Nothing is changed.
+/// A read error; others only if the tables can't be read.
 pub fn text_of<S: Alter>(db: &mut AutocommitConnection<S>, id: u32) -> Result<Option<String>, Error>
     ensures { Finds TableName.Texts db.old db.new result (λ contents found.
         MatchOption found (get contents.texts id ≡ None)
@@ -68,7 +65,7 @@ pub fn text_of<S: Alter>(db: &mut AutocommitConnection<S>, id: u32) -> Result<Op
     find::<S, Texts>(db, params![id])
 }
 
-/// The number in a row's one column.
+/// The number in the only column of a row.
 fn number_in(row: &Row) -> Result<u32, Error>
     ensures ok { IfOk result (λ number. (n : ℕ) → row.now ≡ number_cells n → n ≡ number) }
     ensures err { IfErr result (λ e. (n : ℕ) → row.now ≡ number_cells n → n < 2 ^ 32
@@ -77,12 +74,11 @@ fn number_in(row: &Row) -> Result<u32, Error>
     row.get(0)
 }
 
-/// The id of a text, if it has one.
+/// The id of a text, or `None`.
 ///
 /// # Errors
 ///
-/// `OutOfMemory`, a fault of the disk, or `OperationInterrupted` at the limit on steps; where the
-/// tables can't be read, another error too. Nothing is changed.
+/// A read error; others only if the tables can't be read.
 pub fn id_of<S: Alter>(db: &mut AutocommitConnection<S>, text: &str) -> Result<Option<u32>, Error>
     ensures { Finds TableName.Texts db.old db.new result (λ contents found.
         MatchOption found ((id : ℕ) → get contents.texts id ≢ Some text.now)
@@ -95,12 +91,11 @@ pub fn id_of<S: Alter>(db: &mut AutocommitConnection<S>, text: &str) -> Result<O
     }
 }
 
-/// The greatest id that has a text, if one has.
+/// The greatest id of a text, or `None`.
 ///
 /// # Errors
 ///
-/// `OutOfMemory`, a fault of the disk, or `OperationInterrupted` at the limit on steps; where the
-/// tables can't be read, another error too. Nothing is changed.
+/// A read error; others only if the tables can't be read.
 pub fn last_id<S: Alter>(db: &mut AutocommitConnection<S>) -> Result<Option<u32>, Error>
     ensures { Finds TableName.Texts db.old db.new result (λ contents found.
         MatchOption found ((id : ℕ) → get contents.texts id ≡ None)

@@ -1,4 +1,4 @@
-//! The versions of subjects: one is put, dropped, marked as deleted or found, by its subject and its number.
+//! The versions of subjects, by subject and number.
 
 ghost use Rattle.std.specs.Prelude.{[], ◌∷◌, ◌≡◌, ◌<◌, ◌^◌, None, Some, IsSome, OnOk, IfErr, MatchOption, Bool, length, IfOk, false};
 ghost use Rattle.std.specs.FinMap.{get};
@@ -23,7 +23,7 @@ use crate::statement::{FromRow, list, run};
 use sqlite::{Alter, Error, ErrorCode, Row, Transaction, params};
 use std::alloc::Global;
 
-/// What a version of a subject is: the id of its text, and whether it is marked as deleted.
+/// A version under a given key: the id of its text, and whether it is marked as deleted.
 #[derive(Debug, Clone, Copy)]
 pub struct VersionEntry {
     pub id: u32,
@@ -45,7 +45,6 @@ impl FromRow for VersionEntry {
     }
 }
 
-/// The table `versions`, by subject and number.
 struct Versions;
 
 impl KeyedTable for Versions {
@@ -98,7 +97,6 @@ impl FromRow for RawVersion {
     }
 }
 
-/// Whether a column that is 0 or 1 is 1.
 pub(crate) fn flag_in(row: &Row, at: usize) -> Result<bool, Error>
     ensures ok { IfOk result (λ flag. column row.now at ≡ flag_cell flag) }
     ensures err { IfErr result (λ e. at < length row.now
@@ -114,15 +112,13 @@ pub(crate) fn flag_in(row: &Row, at: usize) -> Result<bool, Error>
     }
 }
 
-/// Puts a version of a subject under its number, which the caller has seen to have none.
+/// Adds a version of a subject. The caller must know that its number is free and that its id has a
+/// text.
 ///
 /// # Errors
 ///
-/// `OutOfMemory`, a fault of the disk, `OperationInterrupted` at the limit on steps,
-/// `TransactionState` where a failure has ended the transaction, `TooBig` for a row that is too
-/// large, or `NoRowid` or `ConstraintViolation(PrimaryKey)` where no rowid is free behind the last
-/// row; another where the number is taken, no text has the id, or the tables aren't a layout's.
-/// Nothing is committed, and the transaction is to be rolled back.
+/// An insert error; others only if the number is taken, no text has the id, or the schema isn't
+/// layout 2.
 pub fn put_version<S: Alter>(
     tx: &mut Transaction<'_, S>,
     subject: &str,
@@ -142,13 +138,11 @@ pub fn put_version<S: Alter>(
     put::<S, Versions>(tx, params![subject, number, id, deleted])
 }
 
-/// Drops the version of a subject that has the number, if there is one, and its evidence.
+/// Deletes the version of a subject with this number and its evidence, if it exists.
 ///
 /// # Errors
 ///
-/// `OutOfMemory`, a fault of the disk, `OperationInterrupted` at the limit on steps, or
-/// `TransactionState` where a failure has ended the transaction; another where the tables aren't
-/// a layout's. Nothing is committed, and the transaction is to be rolled back.
+/// A write error; others only if the schema isn't layout 2.
 pub fn drop_version<S: Alter>(
     tx: &mut Transaction<'_, S>,
     subject: &str,
@@ -163,15 +157,11 @@ pub fn drop_version<S: Alter>(
     )
 }
 
-/// Marks the version of a subject that has the number as deleted, if there is one.
+/// Marks the version of a subject with this number as deleted, if it exists.
 ///
 /// # Errors
 ///
-/// `OutOfMemory`, a fault of the disk, `OperationInterrupted` at the limit on steps,
-/// `TransactionState` where a failure has ended the transaction, `TooBig` for a row that is too
-/// large, or `NoRowid` or `ConstraintViolation(PrimaryKey)` where rows don't stand in the order of
-/// their rowids; another where the tables aren't a layout's. Nothing is committed, and the
-/// transaction is to be rolled back.
+/// An insert error; others only if the schema isn't layout 2.
 pub fn mark_deleted<S: Alter>(
     tx: &mut Transaction<'_, S>,
     subject: &str,
@@ -186,12 +176,11 @@ pub fn mark_deleted<S: Alter>(
     )
 }
 
-/// The version of a subject that has the number, if there is one.
+/// The version of a subject with this number, or `None`.
 ///
 /// # Errors
 ///
-/// `OutOfMemory`, a fault of the disk, or `OperationInterrupted` at the limit on steps; where the
-/// tables can't be read, another error too. Nothing is changed.
+/// A read error; others only if the tables can't be read.
 pub fn version_of<S: Alter>(
     db: &mut AutocommitConnection<S>,
     subject: &str,
@@ -208,8 +197,7 @@ pub fn version_of<S: Alter>(
 ///
 /// # Errors
 ///
-/// `OutOfMemory`, a fault of the disk, or `OperationInterrupted` at the limit on steps; another
-/// where a row holds what the line can't. Nothing is changed.
+/// A read error; others only if a row can't be read.
 pub fn raw_versions<S: Alter>(
     alloc: Global,
     db: &mut AutocommitConnection<S>,

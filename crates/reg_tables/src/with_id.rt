@@ -1,4 +1,4 @@
-//! Versions that have an id: some of all subjects', and the last of a subject's.
+//! Versions with a given id: some of all subjects, and the last of one subject.
 
 ghost use Rattle.std.specs.Prelude.{◌≡◌, ◌==◌, ◌&&◌, ◌||◌, None, not, map, filter, option_map};
 ghost use Rattle.std.specs.List.{last_or};
@@ -12,16 +12,15 @@ use crate::statement::{first, list};
 use sqlite::{Alter, Error, params};
 use std::alloc::Global;
 
-/// So many versions of an id are told at most.
+/// The most versions that `some_versions_of_id` returns.
 pub const VERSIONS_LIMIT: usize = 33;
 
-/// Versions of an id, in any order: all that it has where they are fewer than `VERSIONS_LIMIT`. So many are
-/// found in a bounded number of steps, by the index.
+/// Versions with this id, in any order. If they are fewer than `VERSIONS_LIMIT`, they are all. The
+/// limit and the index bound the steps of the query.
 ///
 /// # Errors
 ///
-/// `OutOfMemory`, a fault of the disk, or `OperationInterrupted` at the limit on steps; where the
-/// tables can't be read, another error too. Nothing is changed.
+/// A read error; others only if the tables can't be read.
 pub fn some_versions_of_id<S: Alter>(
     alloc: Global,
     db: &mut AutocommitConnection<S>,
@@ -38,14 +37,13 @@ pub fn some_versions_of_id<S: Alter>(
     )
 }
 
-/// The version of a subject with the greatest number among those that have the id, and aren't
-/// marked as deleted unless such are asked for too, if there is one. The subject's versions are
-/// looked at from the last one on.
+/// The version of a subject with the greatest number among those with this id, or `None`. Deleted
+/// versions count only if `deleted` is `true`. The query reads the subject's versions in descending
+/// order.
 ///
 /// # Errors
 ///
-/// `OutOfMemory`, a fault of the disk, or `OperationInterrupted` at the limit on steps; where the
-/// tables can't be read, another error too. Nothing is changed.
+/// A read error; others only if the tables can't be read.
 pub fn last_version_with_id<S: Alter>(
     db: &mut AutocommitConnection<S>,
     subject: &str,

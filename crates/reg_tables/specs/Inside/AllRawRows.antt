@@ -1,4 +1,4 @@
--- Lists of all tables, and the contents that they spell.
+-- The rows of all tables as they are read, and the contents that they make up.
 use Rattle.std.specs.Prelude.{◌≡◌, List, [], Option, None, Some, slice_get, ℤ, map}
 use Rattle.std.specs.FinMap.{from_entries}
 use Rattle.sqlite.specs.Table.{Table}
@@ -36,11 +36,11 @@ entry_of Modes = mode_entry
 entry_of Evidence = evidence_entry
 entry_of Against = against_entry
 
--- the lines of each table
+-- the rows of each table
 abbrev pub RawRows : Type 0
 RawRows = (name : TableName) → List (RawRowOf name)
 
--- the entries are those of the table's rows; where there is no table, there is none
+-- the entries are those of the table's rows, or there is no table and no entry
 abbrev pub ListsIn : {K V : Type 0} → Form K V → Trees → Option Table → List (ℤ × K × V) → Type 0
 ListsIn form trees (Some table) entries = Lists form (trees table.tree) entries
 ListsIn form trees None entries = entries ≡ []
@@ -51,7 +51,7 @@ ListsAll schema trees lines = (name : TableName) → ListsIn (form_of name) tree
 abbrev pub HaveNoDuplicates : RawRows → Type 0
 HaveNoDuplicates lines = (name : TableName) → HasNoDuplicates (cmp_of name) (map (entry_of name) (lines name))
 
--- what tables of these lines hold
+-- the map that the rows make up
 abbrev pub map_in : (name : TableName) → RawRows → MapOf name
 map_in name lines = from_entries (map without_rowid (map (entry_of name) (lines name)))
 

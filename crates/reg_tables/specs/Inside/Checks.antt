@@ -1,4 +1,4 @@
--- How the check of `versions` is written as nodes.
+-- The CHECK of `versions` as nodes.
 use Rattle.std.specs.Prelude.{◌≡◌, ℕ, ℤ, pos, List, slice_index_or}
 use Rattle.sqlite.specs.Collation.TheVariants as collation
 use Rattle.sqlite.specs.declared.types.Value.TheVariants.{Null, Int}

@@ -1,4 +1,4 @@
--- The column, the table, the index and the schema that a form stands for.
+-- The column, the table, the index and the schema that a form declares.
 use Rattle.std.specs.Prelude.{[], ◌∷◌, List, Bool, true, false, map}
 use Rattle.sqlite.specs.Table.{Table}
 use Rattle.sqlite.specs.Schema.{Schema}
@@ -17,7 +17,6 @@ use Rattle.reg_tables.specs.declared.declared.schemas.IndexForm.TheVariants.{OfK
 use Rattle.reg_tables.specs.declared.declared.schemas.SchemaForm.{SchemaForm}
 use Rattle.reg_tables.specs.Layout.{column, required, keyed_table, to_texts, to_versions, versions, versions_of_id, automatic_index}
 
--- the column of a STRICT table
 abbrev pub column_of : ColumnForm → Column
 column_of (Nullable name kind) = column name.now kind
 column_of (Required name kind) = required name.now kind
@@ -26,12 +25,12 @@ abbrev pub reference_of : ReferenceForm → Reference
 reference_of (ToText place) = record to_texts { columns = place ∷ [] }
 reference_of ToVersion = to_versions
 
--- the check of a flag is that of `versions`
+-- the check of a table with a flag is that of `versions`
 abbrev pub checks_of : Bool → List Term
 checks_of true = versions.checks
 checks_of false = []
 
--- a table of this form, in no tree yet
+-- the table of this form, with 0 for its tree
 abbrev pub table_without_tree : TableForm → Table
 table_without_tree form = record (keyed_table form.name.now 0 form.primary.now (map column_of form.columns.now)) {
   key = form.key;
@@ -43,7 +42,7 @@ table_without_tree form = record (keyed_table form.name.now 0 form.primary.now (
 abbrev pub table_of : TableInTree → Table
 table_of placed = record (table_without_tree placed.form.now) { tree = placed.tree }
 
--- the index that SQLite makes for its key
+-- the index that SQLite makes for the table's key
 abbrev pub key_index_of : TableInTree → Index
 key_index_of placed = automatic_index placed.form.now.index.now placed.tree placed.form.now.unique.now
 

@@ -1,4 +1,4 @@
--- Tables that have one row for each key: how a row is found by the columns of its key, and what an entry refers to.
+-- Tables with one row for each key: how a row is found by its key, and what its references need.
 use Rattle.std.specs.Prelude.{◌≡◌, List, ◌++◌, None, Bool, true, is_some, ◌&&◌}
 use Rattle.std.specs.FinMap.{get, insert, remove}
 use Rattle.sqlite.specs.Order.{Row}
@@ -16,7 +16,7 @@ tests_of Modes = by_key
 tests_of Evidence = by_version
 tests_of Against = by_position
 
--- what the entry refers to is there
+-- the contents have what the entry refers to
 abbrev pub refers_to : (name : TableName) → Contents → KeyOf name → ValueOf name → Bool
 refers_to Texts contents id text = true
 refers_to Versions contents key version = is_some (get contents.texts version.id)
@@ -27,7 +27,7 @@ refers_to Modes contents subject mode = true
 refers_to Evidence contents key level = is_some (get contents.versions key)
 refers_to Against contents key id = is_some (get contents.versions key.0) && is_some (get contents.texts id)
 
--- a row after its rowid, which SQLite chooses
+-- the cells of a row after its rowid
 abbrev pub cells_of : (name : TableName) → KeyOf name → ValueOf name → Row
 cells_of name key value = (form_of name).key_cells key ++ (form_of name).value_cells value
 
@@ -37,6 +37,6 @@ with_entry name key value contents = with_map name (insert (map_of name contents
 abbrev pub without_entry : (name : TableName) → KeyOf name → Contents → Contents
 without_entry name key contents = with_map name (remove (map_of name contents) key) contents
 
--- nothing is under the key
+-- the table has no row with this key
 abbrev pub IsFreeKey : (name : TableName) → KeyOf name → Contents → Type 0
 IsFreeKey name key contents = get (map_of name contents) key ≡ None

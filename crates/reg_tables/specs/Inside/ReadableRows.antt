@@ -1,4 +1,4 @@
--- Rows as queries show them, of texts and numbers that a line holds.
+-- Rows as queries return them, whose texts and numbers can be read.
 use Rattle.std.specs.Prelude.{◌≡◌, ℕ, ◌<◌, ◌^◌, ℤ, pos, List, [], ◌∷◌, IsUtf8}
 use Rattle.sqlite.specs.declared.types.Value.TheVariants.{Int, Text}
 use Rattle.sqlite.specs.Order.{Row}

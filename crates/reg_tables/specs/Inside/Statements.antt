@@ -1,4 +1,4 @@
--- What the text of a statement means in a database of this schema.
+-- What an SQL text means in a schema.
 use Rattle.std.specs.Prelude.{◌≡◌, ℕ, ◌≤◌, pos, negsuc, true, false, Bool, List, [], ◌∷◌, length, None, Ok, Err, Result}
 use Rattle.std.specs.List.{list_all}
 use Rattle.sqlite_value.specs.declared.keys.Key.{Key}
@@ -18,12 +18,12 @@ use Rattle.sqlite_resolve.specs.declared.compiled.Compiled.{Compiled}
 use Rattle.sqlite_resolve.specs.declared.error.CompileError.{CompileError}
 use Rattle.sqlite_typing.specs.Types.{accepts_program}
 
--- the text is one command, plainly
+-- the SQL text is this command; it has no RETURNING and doesn't read the clock
 pub record IsCommand (schema : Schema) (sql : List ℕ) (command : Command) : Type 0 where
   pub is : command_of (understood schema sql) ≡ command
   pub plain : IsPlain (understood schema sql)
 
--- no LIMIT
+-- without LIMIT
 abbrev pub all_rows : Term
 all_rows = lit (Int (negsuc 0))
 
@@ -41,7 +41,7 @@ ordered_query tree tests shown order limit = record {
   offset = lit (Int (pos 0));
 }
 
--- the same with neither
+-- the same without ORDER BY and LIMIT
 abbrev pub plain_query : ℕ → List Term → List Term → Query
 plain_query tree tests shown = ordered_query tree tests shown [] all_rows
 
@@ -49,7 +49,7 @@ plain_query tree tests shown = ordered_query tree tests shown [] all_rows
 abbrev pub passes_tests : List Term → Row → Row → Bool
 passes_tests tests params row = list_all (holds (params ∷ row ∷ [])) tests
 
--- the text shows these terms of the rows of a table that pass, in this order
+-- the SQL text selects these terms of the rows of a table that pass the tests, in this order
 pub record TableQuery : Type 0 where
   pub sql : List ℕ
   pub tree : ℕ
@@ -62,12 +62,12 @@ pub record TableQuery : Type 0 where
 abbrev pub body_of : TableQuery → Query
 body_of q = ordered_query q.tree q.tests q.shown q.order q.limit
 
--- the text is one statement, with so many parameters
+-- the SQL text is one statement with this number of parameters
 abbrev pub IsOneStatement : List ℕ → ℕ → Result Compiled CompileError → Type 0
 IsOneStatement sql count (Ok c) = (length sql ≤ c.tail) × (length c.names ≡ count)
 IsOneStatement sql count (Err e) = ⊥
 
--- in this schema the text is this query, and reads no list of the tables
+-- in this schema the SQL text is this query, and doesn't read the list of tables
 pub record IsSelect (sql : List ℕ) (names : List (List ℕ)) (body : Query) (schema : Schema) : Type 0 where
   pub command : IsCommand schema sql (Select (record { lets = []; body = body }) names)
   pub unlisted : reads_listing schema sql ≡ false
@@ -77,7 +77,7 @@ pub record TakesSelect (sql : List ℕ) (body : Query) (params : Row) (schema : 
   pub whole : IsOneStatement sql (length params) (understood schema sql)
   pub typed : accepts_program schema [] body params ≡ true
 
--- the same of a query of one table
+-- the same for a query of one table
 abbrev pub IsQuery : TableQuery → Schema → Type 0
 IsQuery q = IsSelect q.sql q.names (body_of q)
 

@@ -1,4 +1,4 @@
-//! Whether a check is that of the column `deleted`.
+//! The CHECK of the column `deleted`.
 
 ghost use Rattle.std.specs.Prelude.{◌≡◌, ◌↔◌, IsTrue};
 ghost use Rattle.sqlite.specs.declared.types.Value.TheVariants.{Int};
@@ -12,7 +12,7 @@ use sqlite_sql::ops::{BinaryOp, CompareOp};
 use sqlite_value::keys::Collation;
 use sqlite_value::value::Value;
 
-/// Whether the checks are the one that `deleted` is 0 or 1.
+/// Whether the only check is that `deleted` is 0 or 1.
 pub fn are_version_checks(checks: &Terms) -> bool
     ensures { IsTrue result ↔ (checks.now ≡ versions.checks) }
 {

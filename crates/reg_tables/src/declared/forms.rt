@@ -1,38 +1,36 @@
-//! The forms of the tables of both layouts.
+//! The declarations of the tables of both layouts.
 
 use sqlite_schema::schema::Kind;
 
-/// How a column of a STRICT table is declared: its name and its type.
+/// The declaration of a column of a STRICT table: its name and its type.
 pub enum ColumnForm {
     Nullable(&'static [u8], Kind),
-    /// NOT NULL.
     Required(&'static [u8], Kind),
 }
 
-/// How a table refers to another.
+/// A foreign key.
 pub enum ReferenceForm {
-    /// The column of this number is the id of a text.
+    /// This column is the id of a text.
     ToText(usize),
-    /// The first two columns are the key of a version, with which the row goes.
+    /// The first two columns are the key of a version, with which the row is deleted.
     ToVersion,
 }
 
-/// How a table with one key is declared.
+/// The declaration of a table with one key.
 pub struct TableForm {
     pub name: &'static [u8],
-    /// The name that SQLite gives to the key's index.
+    /// The name of the key's index, which SQLite chooses.
     pub index: &'static [u8],
-    /// The number of the column that stands for the rowid, from 0.
+    /// The column that is an alias of the rowid, counted from 0.
     pub key: Option<usize>,
     pub primary: &'static [usize],
     pub unique: &'static [usize],
     pub columns: &'static [ColumnForm],
-    /// Whether its one check is that the fourth column is 0 or 1; else it has none.
+    /// Whether the table checks that its fourth column is 0 or 1. It has no other check.
     pub has_flag: bool,
     pub references: &'static [ReferenceForm],
 }
 
-/// The table `texts`.
 pub const TEXTS: TableForm = TableForm {
     name: b"texts",
     index: b"sqlite_autoindex_texts_1",
@@ -47,7 +45,6 @@ pub const TEXTS: TableForm = TableForm {
     references: &[],
 };
 
-/// The table `versions`.
 pub const VERSIONS: TableForm = TableForm {
     name: b"versions",
     index: b"sqlite_autoindex_versions_1",
@@ -64,7 +61,6 @@ pub const VERSIONS: TableForm = TableForm {
     references: &[ReferenceForm::ToText(3)],
 };
 
-/// The table `levels`.
 pub const LEVELS: TableForm = TableForm {
     name: b"levels",
     index: b"sqlite_autoindex_levels_1",
@@ -79,7 +75,6 @@ pub const LEVELS: TableForm = TableForm {
     references: &[],
 };
 
-/// The table `kept`.
 pub const KEPT: TableForm = TableForm {
     name: b"kept",
     index: b"sqlite_autoindex_kept_1",
@@ -96,7 +91,6 @@ pub const KEPT: TableForm = TableForm {
     references: &[],
 };
 
-/// The table `meta`.
 pub const META: TableForm = TableForm {
     name: b"meta",
     index: b"sqlite_autoindex_meta_1",
@@ -111,7 +105,6 @@ pub const META: TableForm = TableForm {
     references: &[],
 };
 
-/// The table `modes` of layout 2.
 pub const MODES: TableForm = TableForm {
     name: b"modes",
     index: b"sqlite_autoindex_modes_1",
@@ -126,7 +119,6 @@ pub const MODES: TableForm = TableForm {
     references: &[],
 };
 
-/// The table `evidence` of layout 2.
 pub const EVIDENCE: TableForm = TableForm {
     name: b"evidence",
     index: b"sqlite_autoindex_evidence_1",
@@ -142,7 +134,6 @@ pub const EVIDENCE: TableForm = TableForm {
     references: &[ReferenceForm::ToVersion],
 };
 
-/// The table `against` of layout 2.
 pub const AGAINST: TableForm = TableForm {
     name: b"against",
     index: b"sqlite_autoindex_against_1",

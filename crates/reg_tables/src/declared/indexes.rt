@@ -1,4 +1,4 @@
-//! Whether indexes are those of a layout.
+//! The indexes of a layout.
 
 ghost use Rattle.std.specs.Prelude.{◌≡◌, ◌↔◌, ◌+◌, IsTrue};
 ghost use Rattle.reg_tables.specs.Layout.{versions_of_id};
@@ -28,7 +28,7 @@ fn is_key_index(index: &Index, table: &TableInTree) -> bool
         && is_index(index, form.index, index.tree, table.tree, form.unique, true)
 }
 
-/// Whether a tree is the one behind another.
+/// Whether the tree is the one after `before`.
 fn is_next(tree: u32, before: u32) -> bool
     ensures { IsTrue result ↔ (tree ≡ before + 1) }
 {

@@ -1,18 +1,17 @@
-//! Names, and the columns of keys.
+//! Lists of names and of columns.
 
 ghost use Rattle.std.specs.Prelude.{◌≡◌, ◌↔◌, [], ◌∷◌, IsTrue};
 
 use sqlite_items::Items;
 use sqlite_value::value::Bytes;
 
-/// Whether the name of a table, a column or an index is this.
 pub fn is_name(name: &Bytes, expected: &[u8]) -> bool
     ensures { IsTrue result ↔ (name.now ≡ expected.now) }
 {
     name.as_slice() == expected
 }
 
-/// Whether this is the one name.
+/// Whether `expected` is the only name.
 pub fn is_one_name(names: &Items<Bytes>, expected: &[u8]) -> bool
     ensures { IsTrue result ↔ (names.now ≡ expected.now ∷ []) }
 {
@@ -22,7 +21,7 @@ pub fn is_one_name(names: &Items<Bytes>, expected: &[u8]) -> bool
     }
 }
 
-/// Whether these are the two names.
+/// Whether `first` and `second` are the only names.
 pub fn are_two_names(names: &Items<Bytes>, first: &[u8], second: &[u8]) -> bool
     ensures { IsTrue result ↔ (names.now ≡ first.now ∷ second.now ∷ []) }
 {
@@ -32,14 +31,13 @@ pub fn are_two_names(names: &Items<Bytes>, first: &[u8], second: &[u8]) -> bool
     }
 }
 
-/// Whether these are the numbers of a key's columns.
 pub fn are_numbers(numbers: &Items<usize>, expected: &[usize]) -> bool
     ensures { IsTrue result ↔ (numbers.now ≡ expected.now) }
 {
     numbers.as_slice() == expected
 }
 
-/// Whether a table has this key alone.
+/// Whether `expected` is the only key.
 pub fn is_one_key(keys: &Items<Items<usize>>, expected: &[usize]) -> bool
     ensures { IsTrue result ↔ (keys.now ≡ expected.now ∷ []) }
 {

@@ -1,17 +1,17 @@
-//! Whether a list is as a list of forms declares it.
+//! Lists that match a list of declarations.
 
 ghost use Rattle.std.specs.Prelude.{◌≡◌, ◌↔◌, map, IsTrue};
 
-/// How something is declared.
+/// A declaration of a `T`.
 pub trait Form<T> {
     ghost meaning: { Self → T };
 
-    /// Whether this is what the form declares.
+    /// Whether the item is as declared.
     fn declares(&self, item: &T) -> bool
         ensures { IsTrue result ↔ (item.now ≡ meaning self.now) };
 }
 
-/// Whether these are what the forms declare, in their order.
+/// Whether the items are as declared, in the same order.
 pub fn are_declared<T, F: Form<T>>(items: &[T], forms: &[F]) -> bool
     ensures { IsTrue result ↔ (items.now ≡ map F.meaning forms.now) }
 {

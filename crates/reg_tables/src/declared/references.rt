@@ -1,4 +1,4 @@
-//! Whether references are those of a form.
+//! The foreign keys of a table.
 
 ghost use Rattle.std.specs.Prelude.{◌≡◌, ◌↔◌, [], ◌∷◌, IsTrue};
 ghost use Rattle.reg_tables.specs.Layout.{to_texts, to_versions};

@@ -1,24 +1,24 @@
-//! The forms of the schemas of both layouts: which tables and indexes there are, and in which trees.
+//! The schemas of both layouts: their tables and indexes, and the trees of these.
 
 use crate::declared::forms::{
     AGAINST, EVIDENCE, KEPT, LEVELS, META, MODES, TEXTS, TableForm, VERSIONS,
 };
 
-/// A table, and the number of the tree that has its rows. The next tree is the key's index.
+/// A table and the number of its tree. The index of its key has the next tree.
 pub struct TableInTree {
     pub form: &'static TableForm,
     pub tree: u32,
 }
 
-/// How an index is declared.
+/// The declaration of an index.
 pub enum IndexForm {
-    /// The one that SQLite makes for the key of a table.
+    /// The index that SQLite makes for the key of a table.
     OfKey(TableInTree),
-    /// The one on the ids of versions, in the tree of this number.
+    /// The index on the ids of versions, in this tree.
     OfIds(u32),
 }
 
-/// How a schema with no view is declared.
+/// The declaration of a schema without views.
 pub struct SchemaForm {
     pub tables: &'static [TableInTree],
     pub indexes: &'static [IndexForm],
@@ -79,7 +79,6 @@ const AGAINST_AT_15: TableInTree = TableInTree {
     tree: 15,
 };
 
-/// Layout 1.
 pub const LAYOUT_ONE: SchemaForm = SchemaForm {
     tables: &[TEXTS_AT, VERSIONS_AT, LEVELS_AT, KEPT_AT, META_AT],
     indexes: &[
@@ -92,7 +91,6 @@ pub const LAYOUT_ONE: SchemaForm = SchemaForm {
     ],
 };
 
-/// Layout 1 without its index.
 pub const LAYOUT_ONE_UNINDEXED: SchemaForm = SchemaForm {
     tables: &[TEXTS_AT, VERSIONS_AT, LEVELS_AT, KEPT_AT, META_AT],
     indexes: &[
@@ -104,7 +102,7 @@ pub const LAYOUT_ONE_UNINDEXED: SchemaForm = SchemaForm {
     ],
 };
 
-/// Layout 2, its new tables made behind the index.
+/// Layout 2, its new tables made after the index.
 pub const LAYOUT_TWO: SchemaForm = SchemaForm {
     tables: &[
         TEXTS_AT,
@@ -129,7 +127,7 @@ pub const LAYOUT_TWO: SchemaForm = SchemaForm {
     ],
 };
 
-/// Layout 2, the index made last.
+/// Layout 2, its index made last.
 pub const LAYOUT_TWO_INDEXED_LAST: SchemaForm = SchemaForm {
     tables: &[
         TEXTS_AT,
@@ -154,7 +152,6 @@ pub const LAYOUT_TWO_INDEXED_LAST: SchemaForm = SchemaForm {
     ],
 };
 
-/// Layout 2 without its index.
 pub const LAYOUT_TWO_UNINDEXED: SchemaForm = SchemaForm {
     tables: &[
         TEXTS_AT,

@@ -1,4 +1,4 @@
-//! Whether tables are those of a layout.
+//! The tables of a layout.
 
 ghost use Rattle.std.specs.Prelude.{◌≡◌, ◌↔◌, [], ◌∷◌, IsTrue, true, false};
 ghost use Rattle.sqlite.specs.declared.types.Value.TheVariants.{Null};
@@ -49,7 +49,7 @@ fn are_checks(checks: &Terms, has_flag: bool) -> bool
     }
 }
 
-/// What a table has beside its tree, its checks and its references.
+/// Whether a table is as declared, apart from its tree, its checks and its references.
 fn has_form(table: &Table, form: &TableForm) -> bool
     ensures { IsTrue result ↔ (table.now ≡ record (table_without_tree form.now) {
       tree = table.now.tree;
@@ -66,7 +66,6 @@ fn has_form(table: &Table, form: &TableForm) -> bool
         && are_declared(table.columns.as_slice(), form.columns)
 }
 
-/// Whether a table has no computed column, no default that reads the time, and no AUTOINCREMENT.
 fn has_no_extras(table: &Table) -> bool
     ensures { IsTrue result ↔ (table.now ≡ record table.now {
       computed = [];
@@ -93,7 +92,7 @@ fn has_type(column: &Column, name: &[u8], kind: Kind) -> bool
         && column.collation == Collation::Binary
 }
 
-/// Whether this is the order of one key, all of it ascending.
+/// Whether these are the orders of one key, all ascending.
 fn is_one_order(orders: &Items<Order>) -> bool
     ensures { IsTrue result ↔ (orders.now ≡ (record { digits = 0 }) ∷ []) }
 {
@@ -103,14 +102,12 @@ fn is_one_order(orders: &Items<Order>) -> bool
     }
 }
 
-/// Whether there are no terms.
 fn are_none(terms: &Terms) -> bool
     ensures { IsTrue result ↔ (terms.now ≡ []) }
 {
     terms.roots.as_slice().is_empty()
 }
 
-/// Whether no default reads the time.
 fn has_no_stamps(stamps: &Stamps) -> bool
     ensures { IsTrue result ↔ (stamps.now
         ≡ record { places = []; terms = []; formats = [] }) }

@@ -1,7 +1,6 @@
 use Rattle.std.proofs.Common.{◌≡◌, ◌∙◌, None, lit<, lit≤, codes, [], ◌∷◌}
-use Rattle.std.specs.FinMap.{get, insert, empty, get-empty, get-insert}
-use Rattle.std.proofs.lemmas.Cmp.{nat_list_cmp_total}
-use Rattle.sqlite.specs.declared.types.Value.TheVariants.{Text}
+use Rattle.reg_tables.proofs.Kit.{get, empty, get-empty, get-insert, nat_list_cmp_total, Text}
+use Rattle.std.specs.FinMap.{insert}
 use Rattle.reg_tables.specs.Contents.{text_cmp}
 use Rattle.reg_tables.specs.Changes.{meta_of_layout, contents_of_layout, with_meta}
 use Rattle.reg_tables.specs.Layout.{meta}

@@ -1,7 +1,6 @@
 use Rattle.std.proofs.Common.{◌≡◌, ◌∙◌, ◌⊎◌, inl, inr, sym, subst, List, ℕ, None, lit<, lit≤, codes, [], ◌∷◌}
-use Rattle.std.specs.FinMap.{get, insert, empty, get-empty, get-insert}
-use Rattle.std.proofs.lemmas.Cmp.{nat_list_cmp_total}
-use Rattle.sqlite.specs.declared.types.Value.TheVariants.{Text}
+use Rattle.reg_tables.proofs.Kit.{get, empty, get-empty, get-insert, nat_list_cmp_total, Text}
+use Rattle.std.specs.FinMap.{insert}
 use Rattle.reg_tables.specs.Contents.{text_cmp, TextMap, Contents, TableName, pair_form}
 use Rattle.reg_tables.specs.Changes.{no_contents}
 use Rattle.reg_tables.specs.Layout.{meta}
@@ -12,7 +11,7 @@ use Rattle.reg_tables.proofs.StoredRows.{meta_is_keyed, can_be_stored}
 use Rattle.reg_tables.proofs.WriteFaults.{write_fault_later}
 use Rattle.reg_tables.proofs.creation.make_numbered.Goals as goal
 
--- the rows of `meta` before the second is put in
+-- the rows of `meta` before the second is inserted
 abbrev first : TextMap (List ℕ)
 first = insert empty (codes "format") (codes "avroreg")
 

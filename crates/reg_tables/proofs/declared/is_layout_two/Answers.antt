@@ -1,5 +1,5 @@
 use Rattle.std.proofs.Common.{inl, inr}
-use Rattle.std.proofs.lemmas.Bool.{both_ways}
+use Rattle.reg_tables.proofs.Kit.{both_ways}
 use Rattle.reg_tables.proofs.declared.is_layout_two.Goals as goal
 
 pub returns-then-is_schema : goal.returns-then-is_schema

@@ -1,5 +1,5 @@
 use Rattle.std.proofs.Common.{◌∙◌, refl, sym}
-use Rattle.std.proofs.lemmas.Iterator.Adapters.{option_map_id}
+use Rattle.reg_tables.proofs.Kit.{option_map_id}
 use Rattle.reg_tables.proofs.KeyedFinds.{mapped_if}
 use Rattle.reg_tables.proofs.Transactions.{if_ok, if_err}
 use Rattle.reg_tables.proofs.evidence.against_at.Goals as goal

@@ -1,5 +1,5 @@
 use Rattle.std.proofs.Common.{refl}
-use Rattle.std.specs.Prelude.{string_bytes}
+use Rattle.reg_tables.proofs.Kit.{string_bytes}
 use Rattle.reg_tables.proofs.KeyedFinds.{mapped_if}
 use Rattle.reg_tables.proofs.Transactions.{if_ok, if_err}
 use Rattle.reg_tables.proofs.evidence.evidence_of.Goals as goal

@@ -1,5 +1,5 @@
 use Rattle.std.proofs.Common.{refl}
-use Rattle.std.proofs.lemmas.Bool.{and_from}
+use Rattle.reg_tables.proofs.Kit.{and_from}
 use Rattle.reg_tables.proofs.Transactions.{on_ok, if_err}
 use Rattle.reg_tables.proofs.evidence.put_against.Goals as goal
 

@@ -1,5 +1,5 @@
+use Rattle.reg_tables.proofs.Kit.{bound}
 use Rattle.sqlite.specs.Held.{state}
-use Rattle.sqlite.specs.Values.{bound}
 use Rattle.reg_tables.specs.Frames.{after_begin}
 use Rattle.reg_tables.proofs.KeyedFinds.{line_found, reads_by}
 use Rattle.reg_tables.proofs.TableLines.{asked_fault}

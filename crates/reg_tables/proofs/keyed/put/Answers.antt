@@ -1,5 +1,5 @@
+use Rattle.reg_tables.proofs.Kit.{next_rowid}
 use Rattle.sqlite.specs.Held.{state}
-use Rattle.sqlite.specs.Edit.{next_rowid}
 use Rattle.reg_tables.specs.Contents.{table_in}
 use Rattle.reg_tables.proofs.KeyedWrites.{puts, puts_room, put_fails, put_faults}
 use Rattle.reg_tables.proofs.Transactions.{on_ok, if_err}

@@ -1,6 +1,6 @@
 use Rattle.std.proofs.Common.{inl, arith, subst}
+use Rattle.reg_tables.proofs.Kit.{HasCleanDisk}
 use Rattle.sqlite.specs.Held.{state}
-use Rattle.sqlite.specs.State.{HasCleanDisk}
 use Rattle.reg_tables.specs.Contents.{HoldsContents}
 use Rattle.reg_tables.specs.Inside.Keyed.{without_entry}
 use Rattle.reg_tables.proofs.KeyedWrites.{free_once_dropped, set_by_both}

@@ -1,5 +1,5 @@
 use Rattle.std.proofs.Common.{sym, ◌∙◌}
-use Rattle.std.proofs.lemmas.Simd.{map-map}
+use Rattle.reg_tables.proofs.Kit.{map-map}
 use Rattle.sqlite.specs.Held.{state}
 use Rattle.reg_tables.specs.Contents.{pair_form}
 use Rattle.reg_tables.specs.Inside.ReadableRows.{IsReadablePair}

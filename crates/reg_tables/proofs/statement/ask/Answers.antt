@@ -1,6 +1,6 @@
 use Rattle.std.proofs.Common.{◌∙◌, sym, ap, arith}
-use Rattle.sqlite.specs.Held.{Held, state}
-use Rattle.sqlite.specs.State.{HasCleanDisk, KeepsCommit}
+use Rattle.reg_tables.proofs.Kit.{Held, HasCleanDisk, KeepsCommit}
+use Rattle.sqlite.specs.Held.{state}
 use Rattle.reg_tables.proofs.Transactions.{survives_both, keeps_then, keeps_if_undone, asked_keeps, shown_open, if_ok, if_err, on_if_ok}
 use Rattle.reg_tables.proofs.statement.ask.Goals as goal
 

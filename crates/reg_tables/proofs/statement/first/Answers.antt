@@ -1,6 +1,5 @@
 use Rattle.std.proofs.Common.{◌≡◌, ◌∙◌, inl, inr, List, [], ◌∷◌, All, Some, slice_get, sym, ap, subst, arith}
-use Rattle.std.specs.Prelude.{option_map}
-use Rattle.sqlite.specs.Order.{Row}
+use Rattle.reg_tables.proofs.Kit.{option_map, Row}
 use Rattle.reg_tables.proofs.Transactions.{if_err_is, stays_read, stays_unread}
 use Rattle.reg_tables.proofs.statement.first.Goals as goal
 

@@ -1,8 +1,6 @@
 use Rattle.std.proofs.Common.{inl, inr, ◌⊎◌, Err, IsTrue, rules}
-use Rattle.std.proofs.lemmas.Bool.{cases_Bool}
+use Rattle.reg_tables.proofs.Kit.{cases_Bool, ExecutesInside, bound}
 use Rattle.sqlite.specs.Held.{state}
-use Rattle.sqlite.specs.State.{ExecutesInside}
-use Rattle.sqlite.specs.Values.{bound}
 use Rattle.reg_tables.proofs.WriteFaults.{OrTooLate, erred_with, open_or_failed}
 use Rattle.reg_tables.specs.FailedCalls.{IsWriteFault}
 use Rattle.reg_tables.proofs.statement.run.Goals as goal

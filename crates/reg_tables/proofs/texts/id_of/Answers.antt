@@ -1,13 +1,11 @@
 use Rattle.std.proofs.Common.{rules, ◌∙◌, sym, None, Some, ap, slice_get, List, [], ◌∷◌}
-use Rattle.std.specs.FinMap.{get}
-use Rattle.sqlite.specs.Order.{Row}
+use Rattle.reg_tables.proofs.Kit.{get, Row, Text}
 use Rattle.sqlite.specs.Held.{state}
 use Rattle.reg_tables.specs.Frames.{after_begin}
 use Rattle.reg_tables.proofs.TableReads.{finds_id}
 use Rattle.reg_tables.proofs.Transactions.{stays_read, stays_unread}
 use Rattle.reg_tables.proofs.Faults.{asks_five, query_faults, read_fault_until, memory_is_fault, passed_on}
 use Rattle.reg_tables.proofs.Statements.{laid_out, find_id, asks_id}
-use Rattle.sqlite.specs.declared.types.Value.TheVariants.{Text}
 use Rattle.reg_tables.proofs.texts.id_of.Goals as goal
 
 pub returns-in-None : goal.returns-in-None

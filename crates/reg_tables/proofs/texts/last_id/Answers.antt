@@ -1,7 +1,5 @@
 use Rattle.std.proofs.Common.{rules, ◌∙◌, None, Some, ap, subst, slice_get, ℕ, List, [], ◌≤◌}
-use Rattle.std.specs.Prelude.{IsSome}
-use Rattle.std.specs.FinMap.{get}
-use Rattle.sqlite.specs.Order.{Row}
+use Rattle.reg_tables.proofs.Kit.{IsSome, get, Row}
 use Rattle.sqlite.specs.Held.{state}
 use Rattle.reg_tables.specs.Frames.{after_begin}
 use Rattle.reg_tables.proofs.LastIds.{finds_last}

@@ -1,5 +1,5 @@
 use Rattle.std.proofs.Common.{[], ◌∷◌, lit≤, codes, refl}
-use Rattle.sqlite.specs.Term.{col}
+use Rattle.reg_tables.proofs.Kit.{col}
 use Rattle.sqlite.specs.Listing.{understood}
 use Rattle.sqlite_tied.specs.Compute.{everything}
 use Rattle.reg_tables.proofs.Tables.{at_both}

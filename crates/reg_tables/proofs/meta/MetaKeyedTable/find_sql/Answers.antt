@@ -1,14 +1,14 @@
 use Rattle.std.proofs.Common.{[], ◌∷◌, lit≤, codes, refl}
-use Rattle.sqlite.specs.Term.{col}
+use Rattle.reg_tables.proofs.Kit.{col}
 use Rattle.sqlite.specs.Listing.{understood}
 use Rattle.sqlite_tied.specs.Compute.{everything}
-use Rattle.reg_tables.proofs.Statements.{behind_tables}
+use Rattle.reg_tables.proofs.Statements.{with_any_tables}
 use Rattle.reg_tables.proofs.LayoutTables.{text_is_read}
 use Rattle.reg_tables.proofs.meta.MetaKeyedTable.find_sql.Goals as goal
 
 pub returns-clause-finds : goal.returns-clause-finds
 unfolding understood everything
-returns-clause-finds c = behind_tables _ (λ tables indexes. record {
+returns-clause-finds c = with_any_tables _ (λ tables indexes. record {
   shown = col 1 2 ∷ [];
   names = codes "value" ∷ [];
   is = record { command = record { is = refl; plain = (refl, refl) }; unlisted = refl };
