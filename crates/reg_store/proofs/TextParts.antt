@@ -19,7 +19,7 @@ use Rattle.reg_tables.specs.Layout.{texts}
 use Rattle.reg_tables.specs.Contents.{text_form}
 use Rattle.reg_tables.specs.Listings.{RowParts, parts_of, entry_parts, text_entry, is_between, ListsIds, ListsTexts, ListsTextsBetween}
 use Rattle.reg_tables.proofs.ListMembers.{has_mapped, maps_had, has_permuted}
-use Rattle.reg_tables.proofs.TextLines.{between_tests}
+use Rattle.reg_tables.proofs.RawTexts.{between_tests}
 use Rattle.reg_rows.specs.Spelling.{AreNumbered}
 use Rattle.reg_store.specs.Inside.Testing.{text_fits, Judges, NumbersTexts}
 
