@@ -1,4 +1,4 @@
--- Each version that a command adds was admitted.
+-- A command adds a version only if the level admits its schema.
 use Rattle.std.proofs.Common.{◌≡◌, ◌⊎◌, ◌∙◌, inl, inr, ℕ, List, [], ◌∷◌, Bool, true, false, Option, Some, None, refl, ap, subst, sym}
 use Rattle.std.specs.Prelude.{All}
 use Rattle.std.specs.FinMap.{get}
@@ -31,7 +31,7 @@ one_more : (schemas : Schemas) (row : Row) (rows : List Row) (live : List (List 
 one_more schemas row rows live o nodes here is rest =
     subst (λ (x : Option (List NodeView)). AllZip (λ (r : Row) found. schema_at schemas r.1.id ≡ Some found) (row ∷ rows) (cons_option x live)) (sym is) (here, rest)
 
--- the schemas of versions are those of each in turn: none is left out
+-- `schemas_of` has the schema of each version, and omits none
 pub schemas_of-each : (schemas : Schemas) (rows : List Row) → All (λ (row : Row). IsRow schemas row.0 row.1) rows → AllZip (λ (row : Row) nodes. schema_at schemas row.1.id ≡ Some nodes) rows (schemas_of schemas rows)
 schemas_of-each schemas [] h = tt
 schemas_of-each schemas (row ∷ rows) h =
@@ -39,21 +39,21 @@ schemas_of-each schemas (row ∷ rows) h =
     let (nodes, here) = row_schema schemas row.0 row.1 (All-head P row rows h) in
     one_more schemas row rows (schemas_of schemas rows) (schema_at schemas row.1.id) nodes here here (schemas_of-each schemas rows (All-tail P row rows h))
 
--- so are those of a subject's live versions
+-- the same for a subject's live versions
 pub live_schemas-each : (g : Registry) → IsRegistry g → (subject : List ℕ) → AllZip (λ (row : Row) nodes. schema_at g.schemas row.1.id ≡ Some nodes) (live_rows (rows_of g subject)) (schemas_of g.schemas (live_rows (rows_of g subject)))
 live_schemas-each g ok subject = schemas_of-each g.schemas (live_rows (rows_of g subject)) (All-live_rows (λ (row : Row). IsRow g.schemas row.0 row.1) (rows_of g subject) (rows_of-IsRow g ok subject))
 
--- a registry that stays as it is adds none
+-- an unchanged registry has no additions
 itself_adds : (g : Registry) (c : Command) → OnlyAdditions g c g
 itself_adds g c key version e = inl (itself g.rows key version e)
 
--- a schema that the level's test passes is admitted
+-- if the test of the level passes, the schema was admitted
 was_admitted : (g : Registry) → IsRegistry g → (subject text : List ℕ) (new : List NodeView) → TextDenotes text new → is_admitted_after g.schemas (level_in g subject) (live_rows (rows_of g subject)) new ≡ true → WasAdmitted g subject text
 was_admitted g ok subject text new denotes passed =
     let live = schemas_of g.schemas (live_rows (rows_of g subject)) in
     record { new = new; denotes = denotes; live = live; are = live_schemas-each g ok subject; admits = (admits_decided (level_in g subject) live new).0 passed }
 
--- what registering adds is the subject's next version, with the schema that was admitted
+-- Register adds only the subject's next version, with the admitted schema
 registered_adds : (g : Registry) → IsRegistry g → (subject text : List ℕ) (supported : Bool) (new : List NodeView) → TextDenotes text new → (is_there admitted left : Bool)
     → is_admitted_after g.schemas (level_in g subject) (live_rows (rows_of g subject)) new ≡ admitted → OnlyAdditions g (Register subject text supported) (registered g subject new is_there admitted left).0
 unfolding was_admitted
@@ -98,7 +98,7 @@ set_leaves : {A : Type 0} (s : Setting A) (g : Registry) (subject : Option (List
     → IsRetained g.rows key version
 set_leaves s g subject puts o key version e = itself g.rows key version (ap (λ (rows : registry.Rows). get rows key) (sym (set_adds_none s g subject puts o)) ∙ e)
 
--- each version that stands after a command that is carried out stood before, or was added by registering a schema that the level admits
+-- each version after a permitted command was there before, or the command added it with a schema that the level admits
 pub permitted_step_adds : (g : Registry) (c : Command) → IsRegistry g → OnlyAdditions g c (permitted_step g c).0
 unfolding permitted_step
 permitted_step_adds g (SetGlobal text) ok = λ key version e. inl (set_leaves level_setting g None (with_level_rows g None) (level_of text) key version e)
@@ -123,6 +123,6 @@ permitted_step_adds g (SetMode subject text) ok = λ key version e. inl (set_lea
 permitted_step_adds g GlobalMode ok = itself_adds g GlobalMode
 permitted_step_adds g (ModeOf subject default) ok = itself_adds g (ModeOf subject default)
 
--- so does each that stands after a command
+-- the same for any command
 pub step_adds_admitted : (g : Registry) (c : Command) → IsRegistry g → AddsAdmitted g c
 step_adds_admitted g c ok = step-either (λ after. OnlyAdditions g c after.0) g c (itself_adds g c) (permitted_step_adds g c ok)

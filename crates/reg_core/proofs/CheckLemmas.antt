@@ -1,4 +1,4 @@
--- What CheckAll and Check answer from a view is what the registry answers.
+-- CheckAll and Check give the same reply from a view as from the registry.
 use Rattle.std.proofs.Common.{◌≡◌, ℕ, Bool, List, [], ◌∷◌, Option, Some, None, refl, sym, ◌∙◌, ap, subst}
 use Rattle.std.specs.Prelude.{All, Result, Ok, Err}
 use Rattle.std.proofs.lemmas.List.Elements.{All-nil, All-cons}

@@ -1,4 +1,4 @@
--- The version that is chosen among those of a subject, and what few versions tell which one it is.
+-- The chosen version of a subject, and which few versions suffice to choose it.
 use Rattle.std.proofs.Common.{◌≡◌, ◌≢◌, inl, inr, ◌∙◌, ℕ, zero, suc, ◌<◌, ◌==◌, Bool, true, false, true≢false, List, [], ◌∷◌, map, length, refl, ap, sym, subst, eqb-true, arith}
 use Rattle.std.specs.Prelude.{All, Option, None, Some, Ok, Err, find, filter, not, ◌||◌, option_map, option_to_list, slice_index_or, if◌then◌else◌}
 use Rattle.std.specs.FinMap.{get}
@@ -16,7 +16,7 @@ use Rattle.reg_core.specs.Rows.{rows_of, shown_rows, chosen_row}
 use Rattle.reg_core.specs.ReadCommands.{found_row}
 use Rattle.reg_core.proofs.RowLemmas.{rows_of-subject, rows_of-got, got-rows_of, filter_keeps}
 
--- ---- what holds of each version holds of a chosen one
+-- ---- facts about the chosen version
 
 pub All-latest : {X : Type 0} (P : X → Type 0) (xs : List X) → All P xs → All P (latest xs)
 All-latest P [] h = h
@@ -39,36 +39,35 @@ ok_of : {C : Type 0} (o : Option Row) (code : C) (row : Row) → ok_or o code �
 ok_of None code row e = absurd cc
 ok_of (Some other) code row e = cc
 
--- what holds of each version holds of the one that is found
+-- if `P` is true of each version, it is true of the found one
 pub All-found : (P : Row → Type 0) (choice : VersionChoice) (rows : List Row) (row : Row) → All P rows → found_row (Some choice) rows ≡ Ok row → P row
 All-found P choice [] row h e = absurd cc
 All-found P choice (r ∷ rows) row h e = All-chosen P choice (r ∷ rows) row h (ok_of (chosen_row choice (r ∷ rows)) VersionNotFound row e)
 
--- ---- the last of some versions in place of all
+-- ---- only the last version in place of all
 
 pub last_or-map : {X Y : Type 0} (f : X → Y) (o : Option X) (xs : List X) → last_or (option_map f o) (map f xs) ≡ option_map f (last_or o xs)
 last_or-map f o [] = refl
 last_or-map f o (x ∷ xs) = last_or-map f (Some x) xs
 
--- a filter leaves a list alone where each passes
 pub filter_all : {X : Type 0} (p : X → Bool) (xs : List X) → All (λ x. p x ≡ true) xs → filter p xs ≡ xs
 filter_all p [] h = refl
 filter_all p (x ∷ xs) h =
     ap (λ b. if b then x ∷ filter p xs else filter p xs) (All-head (λ y. p y ≡ true) x xs h) ∙ ap (λ rest. x ∷ rest) (filter_all p xs (All-tail (λ y. p y ≡ true) x xs h))
 
--- the last version that is shown is shown
+-- the last shown version is shown
 pub last_is_shown : (deleted : Bool) (rows : List Row) → shown_rows deleted (latest (shown_rows deleted rows)) ≡ latest (shown_rows deleted rows)
 last_is_shown deleted rows =
     let p = λ (row : Row). deleted || not row.1.deleted in
     filter_all p (latest (shown_rows deleted rows)) (All-latest (λ row. p row ≡ true) (shown_rows deleted rows) (filter_passes p rows))
 
--- the last of some tells whether there are any, and which is the last
+-- the last version suffices to find the latest one, or that there is none
 last_alone : (rows : List Row) → found_row (Some Latest) (latest rows) ≡ found_row (Some Latest) rows
 last_alone [] = refl
 last_alone (row ∷ []) = refl
 last_alone (row ∷ next ∷ rows) = last_alone (next ∷ rows)
 
--- the latest version that is shown is found by it alone
+-- the last shown version suffices to find the latest shown one
 pub latest_tells : (deleted : Bool) (rows : List Row) → found_row (Some Latest) (shown_rows deleted (latest (shown_rows deleted rows))) ≡ found_row (Some Latest) (shown_rows deleted rows)
 latest_tells deleted rows = ap (found_row (Some Latest)) (last_is_shown deleted rows) ∙ last_alone (shown_rows deleted rows)
 
@@ -89,7 +88,7 @@ some_last row (next ∷ rows) e = some_last next rows e
 none_found : (number : ℕ) (row : Row) (rows : List Row) → All (HasNotNumber number) (row ∷ rows) → found_row (Some (Numbered number)) (row ∷ rows) ≡ Err VersionNotFound
 none_found number row rows none = ap (λ (o : Option Row). ok_or o VersionNotFound) (find_none (λ (r : Row). r.0.1 == number) (row ∷ rows) none)
 
--- where no version has the number, the last of them tells so as all do
+-- if no version has the number, the last version suffices to find none
 absent_among : (number : ℕ) (rows : List Row) → All (HasNotNumber number) rows → found_row (Some (Numbered number)) (latest rows) ≡ found_row (Some (Numbered number)) rows
 absent_among number [] h = refl
 absent_among number (row ∷ rows) h = by (latest (row ∷ rows)) refl (All-latest (HasNotNumber number) (row ∷ rows) h) ∙ sym (none_found number row rows h)
@@ -108,7 +107,7 @@ module _ (g : Registry) (subject : List ℕ) (number : ℕ) (deleted : Bool) whe
   abbrev IsShown : Row → Bool
   IsShown row = deleted || not row.1.deleted
 
-  -- where no version with the number is shown, the last that is shown tells so
+  -- if no shown version has the number, the last shown one suffices to find none
   pub absent_told : ((version : Version) → get g.rows (subject, number) ≡ Some version → (deleted || not version.deleted) ≡ false)
       → found_row (Some (Numbered number)) (shown_rows deleted (latest rows)) ≡ found_row (Some (Numbered number)) rows
   absent_told hidden = ap (found_row (Some (Numbered number))) (last_is_shown deleted (rows_of g subject)) ∙ absent_among number rows (λ k d lt. not_it _ (of_subject k d lt) (got k d lt) (filter_passes IsShown (rows_of g subject) k d lt))
@@ -129,7 +128,7 @@ module _ (g : Registry) (subject : List ℕ) (number : ℕ) (deleted : Bool) whe
     abbrev row : Row
     row = ((subject, number), version)
 
-    -- the version with the number is the only one that has it
+    -- only this version has the number
     only : All (λ (r : Row). HasNumber r ≡ true → r ≡ row) rows
     only = λ k d lt has. same _ (of_subject k d lt) (got k d lt) has
       where
@@ -161,7 +160,7 @@ module _ (g : Registry) (subject : List ℕ) (number : ℕ) (deleted : Bool) whe
     found_only [] one there = absurd (omega (arith, there.1))
     found_only (r ∷ rs) one there = ap (λ (o : Option Row). ok_or o VersionNotFound) (find_only (r ∷ rs) one there)
 
-    -- the version with the number tells which one it is
+    -- the version with the number suffices to find it
     pub number_told : found_row (Some (Numbered number)) (shown_rows deleted (row ∷ [])) ≡ found_row (Some (Numbered number)) rows
     number_told =
         ap (found_row (Some (Numbered number))) (filter_all IsShown (row ∷ []) (All-cons (λ (r : Row). IsShown r ≡ true) row [] shown (All-nil (λ (r : Row). IsShown r ≡ true))))

@@ -1,4 +1,4 @@
--- Different writes have different texts: a text is read back as its write.
+-- Different writes have different texts: parsing a text gives back its write.
 use Rattle.std.proofs.Common.{◌≡◌, ℕ, ◌≤◌, List, [], lit≤, true, refl, ap, sym, ◌∙◌, codes, true≢false}
 use Rattle.std.specs.Prelude.{Option, Some, None, bytes_eq, if◌then◌else◌}
 use Rattle.std.specs.Option.{option_map_or}
@@ -12,7 +12,7 @@ use Rattle.reg_core.specs.declared.command.Command.TheVariants.{SetGlobal, SetLe
 use Rattle.reg_core.specs.Machine.{is_write}
 use Rattle.reg_core.specs.CommandTexts.{command_data, command_text}
 
--- the write of a name and members, if there is one
+-- the write with this name and these members, or `None`
 abbrev write_of : List ℕ → Items → Option Command
 write_of name (item (string level) no_items) = if bytes_eq name (codes "set-global") then Some (SetGlobal level) else if bytes_eq name (codes "set-global-mode") then Some (SetGlobalMode level) else None
 write_of name (item (string subject) (item (string level) no_items)) = if bytes_eq name (codes "set-level") then Some (SetLevel subject level) else if bytes_eq name (codes "set-mode") then Some (SetMode subject level) else None
@@ -21,12 +21,12 @@ write_of name (item (string subject) (item (string text) (item (boolean flag) no
     if bytes_eq name (codes "register") then Some (Register subject text flag) else if bytes_eq name (codes "delete-version") then Some (DeleteVersion subject text flag) else None
 write_of name members = None
 
--- the write that a JSON value is, if it is one
+-- the write that a JSON value represents, or `None`
 abbrev write_in : Data → Option Command
 write_in (array (item (string name) members)) = write_of name members
 write_in value = None
 
--- the JSON value of a write, which is read back from its text, and is the value of no other write
+-- the JSON value of a write: its text parses to it, and it is the value of no other write
 record HasValue (command : Command) : Type 0 where
   value : Data
   is_value : command_data command ≡ Some value
@@ -44,7 +44,7 @@ value_of (SetGlobalMode mode) w = record { value = _; is_value = refl; tidy = (t
 value_of (SetMode subject mode) w = record { value = _; is_value = refl; tidy = (tt, (tt, (tt, tt))); shallow = lit≤ tt; write = refl }
 value_of _ w = absurd (true≢false (sym w))
 
--- a write's text is read as its value
+-- parsing a write's text gives its value
 read_back : (command : Command) (it : HasValue command) → read (command_text command) ≡ Some it.value
 unfolding command_text
 read_back command it = ap (λ value. read (option_map_or compact_text value [])) it.is_value ∙ read-compact_text it.value it.tidy it.shallow

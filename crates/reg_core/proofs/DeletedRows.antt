@@ -1,4 +1,4 @@
--- What deletions leave of the versions, at each key.
+-- The versions after a deletion, key by key.
 use Rattle.std.proofs.Common.{◌≡◌, ◌∙◌, ℕ, List, [], ◌∷◌, Bool, true, false, true≢false, cond, refl, ap, sym, Ordering, Less, Equal, Greater}
 use Rattle.std.specs.Prelude.{Option, None, Some, not, bytes_eq, ◌||◌, map, option_map, unwrap_or, if◌then◌else◌}
 use Rattle.std.specs.FinMap.{entries, get, get-entries, get-insert, get-remove, get-retain_keys, get-from_entries, find, insert, remove, retain_keys, from_entries}
@@ -13,7 +13,7 @@ use Rattle.reg_core.proofs.RowLemmas.{row_order, row_keys_apart}
 abbrev pub same_key : RowKey → RowKey → Bool
 same_key = eq_by_cmp row_cmp
 
--- keys that tie are one
+-- keys that compare equal are equal
 pub key_is : (q key : RowKey) → same_key q key ≡ true → q ≡ key
 key_is q key e = by (row_cmp q key) refl e
   where
@@ -27,7 +27,7 @@ key_ties q key e = ap (λ k. is_eq (row_cmp q k)) (sym e) ∙ ap is_eq (tied_its
 
 -- ---- one version
 
--- what stays where the one that is told is the one that is there
+-- if `here` equals `there` whenever it is chosen, the choice is `there`
 same_there : (b : Bool) (here there : Option Version) → (b ≡ true → here ≡ there) → cond b here there ≡ there
 same_there true here there h = h refl
 same_there false here there h = refl
@@ -47,13 +47,13 @@ altered_by rows key change q (Some version) is =
     get-insert row_order rows key (change version) q
     ∙ same_here (same_key q key) (Some (change version)) (option_map change (get rows q)) (get rows q) (λ e. sym (ap (option_map change) (ap (get rows) (key_is q key e) ∙ is)))
 
--- what is found where a version was altered
+-- the version at a key after one version was altered
 pub altered_at : (rows : Rows) (key : RowKey) (change : Version → Version) (q : RowKey) → get (altered rows key change) q ≡ cond (same_key q key) (option_map change (get rows q)) (get rows q)
 altered_at rows key change q = altered_by rows key change q (get rows key) refl
 
 -- ---- several versions
 
--- one after the other
+-- the versions, with those at these keys soft-deleted in order
 abbrev pub delete_all : Rows → List RowKey → Rows
 delete_all rows [] = rows
 delete_all rows (key ∷ keys) = delete_all (altered rows key as_deleted) keys
@@ -62,7 +62,6 @@ abbrev pub all_removed : Rows → List RowKey → Rows
 all_removed rows [] = rows
 all_removed rows (key ∷ keys) = all_removed (remove rows key) keys
 
--- whether the key is one of these
 abbrev pub is_one_of : List RowKey → RowKey → Bool
 is_one_of keys q = list_any (λ key. same_key q key) keys
 
@@ -96,7 +95,7 @@ all_removed_at (key ∷ keys) rows q =
 
 -- ---- a subject
 
--- the version at this key, soft-deleted where it is the subject's
+-- the version, soft-deleted if the key is the subject's
 abbrev pub deleted_at : List ℕ → RowKey → Version → Version
 deleted_at subject key version = if bytes_eq key.0 subject then as_deleted version else version
 
@@ -110,12 +109,12 @@ deleted_found subject q (row ∷ rows) =
     by true e = ap (λ (key : RowKey). Some (deleted_at subject key row.1)) (sym (key_is q row.0 e))
     by false e = refl
 
--- what is found where a subject was soft-deleted
+-- the version at a key after a subject was soft-deleted
 pub subject_deleted_at : (rows : Rows) (subject : List ℕ) (q : RowKey) → get (from_entries {R = row_cmp} (map (deleted_of subject) (entries rows))) q ≡ option_map (deleted_at subject q) (get rows q)
 subject_deleted_at rows subject q =
     get-from_entries row_order (map (deleted_of subject) (entries rows)) q ∙ deleted_found subject q (entries rows) ∙ ap (option_map (deleted_at subject q)) (sym (get-entries rows q))
 
--- what is found where a subject was removed
+-- the version at a key after a subject was removed
 pub subject_removed_at : (rows : Rows) (subject : List ℕ) (q : RowKey) → get (retain_keys rows (λ (key : RowKey). not (bytes_eq key.0 subject))) q ≡ cond (not (bytes_eq q.0 subject)) (get rows q) None
 subject_removed_at rows subject q =
     get-retain_keys rows (λ (key : RowKey). not (bytes_eq key.0 subject)) q (λ key tie. ap (λ (k : RowKey). not (bytes_eq k.0 subject)) (sym (row_keys_apart q key tie)))

@@ -1,4 +1,4 @@
--- What the changes of a deletion make of a registry is what the machine makes of it.
+-- The changes of a deletion give the same registry as the abstract machine.
 use Rattle.std.proofs.Common.{◌≡◌, ◌∙◌, ℕ, List, [], ◌∷◌, ◌++◌, Bool, true, false, true≢false, cond, refl, ap, sym, subst}
 use Rattle.std.specs.Prelude.{All, Option, None, Some, not, bytes_eq, ◌||◌, map, option_map, if◌then◌else◌}
 use Rattle.std.specs.FinMap.{entries, get, remove, retain_keys, from_entries, same_map}
@@ -36,14 +36,14 @@ keys_of subject rows = map (λ (row : Row). (subject, row.0.1)) rows
 abbrev pub changes_of : Bool → List ℕ → List Row → List Change
 changes_of permanent subject rows = map (λ (row : Row). version_change permanent subject row.0.1) rows
 
--- a registry can have each of them, at its turn
+-- the changes can be applied to any registry, in order
 pub changes_of-fit : (permanent : Bool) (subject : List ℕ) (rows : List Row) (g : Registry) → ChangesFit (changes_of permanent subject rows ++ own_settings_dropped permanent subject) g
 changes_of-fit false subject [] g = (tt, tt)
 changes_of-fit true subject [] g = (tt, (tt, tt))
 changes_of-fit false subject (row ∷ rows) g = (tt, changes_of-fit false subject rows _)
 changes_of-fit true subject (row ∷ rows) g = (tt, changes_of-fit true subject rows _)
 
--- and they add no version
+-- the changes add no version
 pub changes_of-add_none : (permanent : Bool) (subject : List ℕ) (rows : List Row) → AddNoVersion (changes_of permanent subject rows ++ own_settings_dropped permanent subject)
 changes_of-add_none false subject [] = (tt, tt)
 changes_of-add_none true subject [] = (tt, (tt, tt))
@@ -58,7 +58,7 @@ changes_removed : (g : Registry) (subject : List ℕ) (rows : List Row) (rest : 
 changes_removed g subject [] rest = refl
 changes_removed g subject (row ∷ rows) rest = changes_removed (record g { rows = remove g.rows (subject, row.0.1) }) subject rows rest
 
--- a key among those of a subject is the subject's
+-- each of these keys is the subject's
 of_subject : (subject : List ℕ) (rows : List Row) (q : RowKey) → is_one_of (keys_of subject rows) q ≡ true → q.0 ≡ subject
 of_subject subject [] q e = absurd (true≢false (sym e))
 of_subject subject (row ∷ rows) q e = by (same_key q (subject, row.0.1)) refl e (of_subject subject rows q)
@@ -67,7 +67,7 @@ of_subject subject (row ∷ rows) q e = by (same_key q (subject, row.0.1)) refl 
     by true is h rest = ap (λ (key : RowKey). key.0) (key_is q (subject, row.0.1) is)
     by false is h rest = rest h
 
--- and that of a version of the subject is among them
+-- the key of each of the subject's versions is one of these
 among : (subject : List ℕ) (rows : List Row) (q : RowKey) (version : Version) → q.0 ≡ subject → Contains rows (q, version) → is_one_of (keys_of subject rows) q ≡ true
 among subject rows q version its there = All-contains (λ (row : Row). row.0 ≡ q → is_one_of (keys_of subject rows) q ≡ true) rows (q, version) (each rows) there refl
   where
@@ -84,13 +84,13 @@ among subject rows q version its there = All-contains (λ (row : Row). row.0 ≡
     each [] = All-nil (λ (row : Row). row.0 ≡ q → is_one_of [] q ≡ true)
     each (row ∷ rs) = All-cons (λ (r : Row). r.0 ≡ q → is_one_of (keys_of subject (row ∷ rs)) q ≡ true) row rs (first row rs) (λ k d lt h. or_right (same_key q (subject, row.0.1)) (is_one_of (keys_of subject rs) q) (each rs k d lt h))
 
--- ---- a subject, softly
+-- ---- soft deletion of a subject
 
 module _ (g : Registry) (subject : List ℕ) where
   abbrev live : List Row
   live = live_rows (rows_of g subject)
 
-  -- a live version of the subject is one of those that are deleted
+  -- the deleted versions include each live version of the subject
   live_among : (q : RowKey) (version : Version) → q.0 ≡ subject → get g.rows q ≡ Some version → version.deleted ≡ false → is_one_of (keys_of subject live) q ≡ true
   live_among q version its there alive =
       let here : get g.rows (subject, q.1) ≡ Some version = ap (λ (s : List ℕ). get g.rows (s, q.1)) (sym its) ∙ there in
@@ -114,7 +114,7 @@ module _ (g : Registry) (subject : List ℕ) where
           already true e = λ i. Some (record { id = version.id; deleted = e i })
           already false e = absurd (true≢false (sym (live_among q version ((bytes_eq-Decides q.0 subject).0 same) there e) ∙ is))
 
-  -- its live versions deleted one after the other, and its level dropped
+  -- soft-deleting the live versions in order and removing the own level soft-deletes the subject
   pub subject_deleted_as : after_changes (changes_of false subject live ++ own_settings_dropped false subject) g ≡ with_subject_deleted g subject
   subject_deleted_as =
       changes_deleted g subject live (own_settings_dropped false subject)
@@ -122,7 +122,7 @@ module _ (g : Registry) (subject : List ℕ) where
       (same_map row_order row_keys_apart (delete_all g.rows (keys_of subject live)) (from_entries (map (deleted_of subject) (entries g.rows)))
       (λ q. all_deleted_at (keys_of subject live) g.rows q ∙ agrees q ∙ sym (subject_deleted_at g.rows subject q)))
 
--- ---- a subject, for good
+-- ---- permanent deletion of a subject
 
 module _ (g : Registry) (subject : List ℕ) where
   abbrev all : List Row
@@ -144,7 +144,7 @@ module _ (g : Registry) (subject : List ℕ) where
       by false is true same None there = refl
       by false is true same (Some version) there = absurd (true≢false (sym (all_among q version ((bytes_eq-Decides q.0 subject).0 same) there) ∙ is))
 
-  -- its versions removed one after the other, and its level dropped
+  -- removing the versions in order, the own level and the own mode removes the subject
   pub subject_removed_as : after_changes (changes_of true subject all ++ own_settings_dropped true subject) g ≡ without_subject g subject
   subject_removed_as =
       changes_removed g subject all (own_settings_dropped true subject)

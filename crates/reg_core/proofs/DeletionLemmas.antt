@@ -1,4 +1,4 @@
--- What deletions leave: no version that wasn't there.
+-- Each version after a deletion was there before.
 use Rattle.std.proofs.Common.{◌≡◌, ◌∙◌, ℕ, List, [], ◌∷◌, Bool, true, false, cond, refl, ap, sym, subst}
 use Rattle.std.specs.Prelude.{All, Option, None, Some, Result, Ok, Err, not, bytes_eq, map, option_map, option_to_list, if◌then◌else◌}
 use Rattle.std.specs.FinMap.{entries, get, get-remove, remove, from_entries}
@@ -20,12 +20,12 @@ use Rattle.reg_core.proofs.ChosenRows.{All-latest, All-found}
 use Rattle.reg_core.proofs.DeletedRows.{same_key, altered_at, subject_deleted_at, subject_removed_at}
 use Rattle.reg_core.proofs.RowLemmas.{row_order, get_inserted, rows_of-got, All-live_rows}
 
--- ---- a version that is there was there
+-- ---- retained versions
 
 pub itself : (rows : Rows) (key : RowKey) (version : Version) → get rows key ≡ Some version → IsRetained rows key version
 itself rows key version there = record { old = version; there = there; same = refl; stays_deleted = λ d. d }
 
--- soft-deleted where a test says so, it was there too
+-- a version that a test may have soft-deleted was there before
 deleted_was : (rows : Rows) (key : RowKey) (b : Bool) (found : Option Version) (version : Version) → get rows key ≡ found → cond b (option_map as_deleted found) found ≡ Some version → IsRetained rows key version
 deleted_was rows key true None version there e = absurd (none-some version e)
 deleted_was rows key true (Some old) version there e =
@@ -43,7 +43,7 @@ left_was false found version e = e
 pub removed_was : (rows : Rows) (key : RowKey) (q : RowKey) (version : Version) → get (remove rows key) q ≡ Some version → IsRetained rows q version
 removed_was rows key q version e = itself rows q version (left_was (same_key q key) (get rows q) version (sym (get-remove row_order rows key q) ∙ e))
 
--- ---- which version is deleted
+-- ---- facts about the deleted version
 
 found_ok : (test : Row → Result Row Code) (found : Result Row Code) (row : Row) → ((r : Row) → test r ≡ Ok row → r ≡ row) → found_and test found ≡ Ok row → found ≡ Ok row
 found_ok test (Err code) row same e = e
@@ -72,7 +72,7 @@ All-last P rows row h e = by (last_or None rows) refl e
         let same : r ≡ row = cc in
         subst P same (All-head P r [] (subst (λ (o : Option Row). All P (option_to_list o)) is (All-latest P rows h)))
 
--- what holds of each version holds of the one that is soft-deleted
+-- if `P` is true of each version, it is true of the soft-deleted one
 pub All-row_to_soft_delete : (P : Row → Type 0) (choice : Option VersionChoice) (rows : List Row) (row : Row) → All P rows → row_to_soft_delete choice rows ≡ Ok row → P row
 All-row_to_soft_delete P None rows row h e = absurd cc
 All-row_to_soft_delete P (Some choice) [] row h e = absurd cc
@@ -80,7 +80,7 @@ All-row_to_soft_delete P (Some Latest) (r ∷ rows) row h e = All-last P (live_r
 All-row_to_soft_delete P (Some (Numbered number)) (r ∷ rows) row h e =
     All-found P (Numbered number) (r ∷ rows) row h (found_ok require_live (ok_or (chosen_row (Numbered number) (r ∷ rows)) VersionNotFound) row (λ x. live_same x row) e)
 
--- and of the one that is removed
+-- if `P` is true of each version, it is true of the removed one
 pub All-row_to_remove : (P : Row → Type 0) (choice : Option VersionChoice) (rows : List Row) (row : Row) → All P rows → row_to_remove choice rows ≡ Ok row → P row
 All-row_to_remove P None rows row h e = absurd cc
 All-row_to_remove P (Some choice) rows row h e = All-found P choice rows row h (found_ok require_deleted (found_row (Some choice) rows) row (λ x. deleted_same x row) e)
@@ -105,7 +105,7 @@ removed_were : (g : Registry) (found : Result Row Code) → WereThere g (version
 removed_were g (Err code) = all_were g
 removed_were g (Ok row) = λ key version e. removed_was g.rows row.0 key version e
 
--- the version that is found stands at its key
+-- the found version is the registry's version at its key
 pub row_to_soft_delete-got : (g : Registry) (subject : List ℕ) (choice : Option VersionChoice) (row : Row) → row_to_soft_delete choice (rows_of g subject) ≡ Ok row → get g.rows row.0 ≡ Some row.1
 row_to_soft_delete-got g subject choice row e = All-row_to_soft_delete (λ (r : Row). get g.rows r.0 ≡ Some r.1) choice (rows_of g subject) row (rows_of-got g subject) e
 

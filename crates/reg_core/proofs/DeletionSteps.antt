@@ -1,4 +1,4 @@
--- What a command that deletes makes of a registry, and what it answers.
+-- The registry and the reply after a command that deletes.
 use Rattle.std.proofs.Common.{◌≡◌, ◌∙◌, ℕ, List, [], ◌∷◌, ◌++◌, Bool, true, false, refl, ap, sym}
 use Rattle.std.specs.Prelude.{Option, None, Some, Ok, Err, not, ◌||◌}
 use Rattle.std.proofs.lemmas.Option.{none-some, same_Some}
@@ -21,12 +21,12 @@ use Rattle.reg_core.proofs.DeletionLemmas.{All-row_to_soft_delete, All-row_to_re
 use Rattle.reg_core.proofs.RowLemmas.{rows_of-subject}
 use Rattle.reg_core.proofs.DeletionChanges.{deleted_as, removed_as, changes_of, subject_deleted_as, subject_removed_as}
 
--- where deleted ones are asked for, all are shown
+-- with `deleted`, all versions are shown
 pub all_shown : (rows : List Row) → shown_rows true rows ≡ rows
 all_shown rows = filter_all (λ (row : Row). true || not row.1.deleted) rows (λ k d lt. refl)
 
 module _ (g : Registry) (subject version : List ℕ) (permanent : Bool) (view : View) (schema : Option (List NodeView)) (input : IsDecisionInput g (DeleteVersion subject version permanent) schema view) where
-  -- a version that can't be deleted is refused
+  -- the command rejects a version that can't be deleted
   pub deletion_refused : (code : Code) → Err code ≡ row_to_delete permanent (parse_choice version) view.rows.items → permitted_step g (DeleteVersion subject version permanent) ≡ (g, fault code)
   unfolding permitted_step
   deletion_refused code is = by permanent (is ∙ input.shows.rows)
@@ -35,7 +35,7 @@ module _ (g : Registry) (subject version : List ℕ) (permanent : Bool) (view : 
       by false e = ap (version_deleted with_deleted g) (sym e)
       by true e = ap (version_deleted without_row g) (sym e)
 
-  -- and one that can is deleted by its one change, and its number is answered
+  -- else a single change deletes the version, and the reply has its number
   pub version_gone : (row : Row) → Ok row ≡ row_to_delete permanent (parse_choice version) view.rows.items
       → permitted_step g (DeleteVersion subject version permanent) ≡ (after_changes (version_change permanent subject row.0.1 ∷ []) g, answer (number_body row.0.1))
   unfolding permitted_step
@@ -54,7 +54,7 @@ module _ (g : Registry) (subject : List ℕ) (permanent : Bool) (view : View) (s
   goes false rows live = soft_delete g subject rows live
   goes true rows live = remove_subject g subject rows live
 
-  -- a subject that can't be deleted is refused
+  -- the command rejects a subject that can't be deleted
   pub subject_refused : (code : Code) → Some code ≡ subject_refusal permanent view.rows.items (live_rows view.rows.items) → permitted_step g (DeleteSubject subject permanent) ≡ (g, fault code)
   unfolding permitted_step
   subject_refused code is = start permanent (is ∙ ap (λ (rows : List Row). subject_refusal permanent rows (live_rows rows)) input.shows.rows)
@@ -77,7 +77,7 @@ module _ (g : Registry) (subject : List ℕ) (permanent : Bool) (view : View) (s
       start false e = by false (rows_of g subject) (live_rows (rows_of g subject)) e
       start true e = by true (rows_of g subject) (live_rows (rows_of g subject)) e
 
--- and one that can is deleted by these changes, and the numbers are answered
+-- else these changes delete the subject, and the reply has the numbers
 module _ (g : Registry) (subject : List ℕ) (view : View) (schema : Option (List NodeView)) where
   pub subject_gone : IsDecisionInput g (DeleteSubject subject false) schema view → None ≡ subject_refusal false view.rows.items (live_rows view.rows.items)
       → permitted_step g (DeleteSubject subject false) ≡ (after_changes (changes_of false subject (live_rows view.rows.items) ++ own_settings_dropped false subject) g, numbers_reply (live_rows view.rows.items))

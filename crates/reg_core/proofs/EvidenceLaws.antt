@@ -1,4 +1,4 @@
--- Evidence stays true, whatever command comes.
+-- Evidence stays true after any command.
 use Rattle.std.proofs.Common.{◌≡◌, ◌⊎◌, ◌∙◌, inl, inr, ℕ, Bool, true, false, cond, List, [], ◌∷◌, ◌++◌, append-nil, refl, ap, sym, subst}
 use Rattle.std.specs.Prelude.{Option, None, Some, Result, Ok, Err, is_some}
 use Rattle.std.specs.FinMap.{get}
@@ -30,9 +30,8 @@ use Rattle.reg_core.proofs.IdLemmas.{schema_more}
 use Rattle.reg_core.proofs.ModeLemmas.{step-either}
 use Rattle.reg_core.proofs.RowLemmas.{row_schema}
 
--- ---- no schema goes
+-- ---- no command removes a schema
 
--- the same schemas, and perhaps more
 abbrev Grows : Schemas → Schemas → Type 0
 Grows old new = (more : Schemas) × (new ≡ old ++ more)
 
@@ -129,7 +128,7 @@ true-grown old new nodes evidence (more, is) holds = subst (λ (schemas : Schema
 schema_grown : (old new : Schemas) (id : ℕ) (nodes : List NodeView) → Grows old new → schema_at old id ≡ Some nodes → schema_at new id ≡ Some nodes
 schema_grown old new id nodes (more, is) there = ap (λ (schemas : Schemas). schema_at schemas id) is ∙ schema_more old more id nodes there
 
--- the schemas that versions have, one by one, are all that they have
+-- schemas that match the versions one by one are `schemas_of` these versions
 each_is : (schemas : Schemas) (rows : List Row) (live : List (List NodeView)) → AllZip (λ (row : Row) nodes. schema_at schemas row.1.id ≡ Some nodes) rows live → live ≡ schemas_of schemas rows
 each_is schemas [] [] h = refl
 each_is schemas [] (nodes ∷ live) h = absurd h
@@ -142,7 +141,7 @@ was-true g ok subject text was =
     admitted-true g ok subject was.new
     (subst (λ (live : List (List NodeView)). Admits (level_in g subject) live was.new) (each_is g.schemas (live_rows (rows_of g subject)) was.live was.are) was.admits)
 
--- where the evidence of a registry's versions is true, what a command makes of it is true
+-- if the evidence of a registry's versions is true, it is true after a command
 pub evidence_stays_true : (g : Registry) (c : Command) (had has : EvidenceMap) → IsRegistry g → IsTrueEvidence g had → IsEvidenceAfter g c had has → IsTrueEvidence (step g c).0 has
 evidence_stays_true g c had has ok holds becomes key version one nodes there is schema = by (step_adds_admitted g c ok key version there)
   where

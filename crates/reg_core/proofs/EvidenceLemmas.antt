@@ -1,4 +1,4 @@
--- What changes make of the evidence of versions, and that it is true.
+-- The evidence of versions after changes, and that it is true.
 use Rattle.std.proofs.Common.{◌≡◌, ◌∙◌, ◌⊎◌, inl, inr, ℕ, Bool, true, false, cond, List, [], ◌∷◌, ◌++◌, map, refl, ap, sym, subst, true≢false}
 use Rattle.std.specs.Prelude.{All, Option, None, Some, is_some, option_map}
 use Rattle.std.specs.FinMap.{get, insert, get-insert, get-remove}
@@ -27,7 +27,7 @@ use Rattle.reg_core.proofs.VersionVerdicts.{HasSchema, All-named, live-HasSchema
 
 -- ---- changes that add no version
 
--- what stays at a key: all that was there, or nothing
+-- at a key, the version and its evidence both stay, or both are gone
 Stays : Option Version → Option Version → Option Evidence → Option Evidence → Type 0
 Stays before after had has = ((is_some after ≡ is_some before) × (has ≡ had)) ⊎ ((after ≡ None) × (has ≡ None))
 
@@ -46,7 +46,7 @@ is_some-altered true None = refl
 is_some-altered true (Some version) = refl
 is_some-altered false o = refl
 
--- what one change leaves
+-- each change that adds no version keeps or removes both
 stays : (c : Change) → AddsNoVersion c → (g : Registry) (had : EvidenceMap) (key : RowKey) → Stays (get g.rows key) (get (after_change c g).rows key) (get had key) (get (evidence_after_change c had) key)
 unfolding Stays
 stays (change.SetGlobal level) none g had key = inl (refl, refl)
@@ -66,21 +66,21 @@ stays (change.SetGlobalMode mode) none g had key = inl (refl, refl)
 stays (change.SetMode subject mode) none g had key = inl (refl, refl)
 stays (change.DropMode subject) none g had key = inl (refl, refl)
 
--- and several, one after the other
+-- the same for several changes in order
 all_stay : (cs : List Change) → AddNoVersion cs → (g : Registry) (had : EvidenceMap) (key : RowKey) → Stays (get g.rows key) (get (after_changes cs g).rows key) (get had key) (get (evidence_after_changes cs had) key)
 unfolding Stays
 all_stay [] none g had key = inl (refl, refl)
 all_stay (c ∷ cs) none g had key =
     stays-joined _ _ _ _ _ _ (stays c none.0 g had key) (all_stay cs none.1 (after_change c g) (evidence_after_change c had) key)
 
--- what was there is kept
+-- evidence that stays is what `kept_or_new` gives
 kept : (before after : Option Version) (had : Option Evidence) (own : Evidence) → is_some after ≡ is_some before → (before ≡ None → had ≡ None) → had ≡ kept_or_new before after had own
 kept None None had own same none = none refl
 kept (Some version) None had own same none = absurd (true≢false (sym same))
 kept None (Some after) had own same none = absurd (true≢false same)
 kept (Some version) (Some after) had own same none = refl
 
--- changes that add no version tell what becomes of the evidence
+-- changes that add no version update the evidence as they update the registry
 pub add_none-tell : (cs : List Change) → AddNoVersion cs → (g : Registry) → UpdateEvidence cs g
 unfolding Stays
 add_none-tell cs none g had ok key = by (get (after_changes cs g).rows key) (all_stay cs none g had key)
@@ -90,9 +90,9 @@ add_none-tell cs none g had ok key = by (get (after_changes cs g).rows key) (all
     by after (inl same) = same.1 ∙ kept (get g.rows key) after (get had key) (next_evidence g key.0) same.0 (ok key)
     by after (inr gone) = gone.1 ∙ sym (ap (λ (o : Option Version). kept_or_new (get g.rows key) o (get had key) (next_evidence g key.0)) gone.0)
 
--- ---- a version that is added
+-- ---- an added version
 
--- a new version has what the registry names
+-- a new version with the subject's `next_evidence` updates the evidence as it updates the registry
 pub added_becomes : (g : Registry) (row : Row) (evidence : Evidence) → get g.rows row.0 ≡ None → evidence ≡ next_evidence g row.0.0 → (had : EvidenceMap) → HasOnlyVersions g had
     → IsEvidenceUpdate g (record g { rows = insert g.rows row.0 row.1 }) had (insert had row.0 evidence)
 added_becomes g row evidence absent named had ok key =
@@ -109,7 +109,7 @@ added_becomes g row evidence absent named had ok key =
 
 -- ---- true evidence
 
--- what is true stays so where there are more schemas
+-- true evidence stays true with more schemas
 pub true-more : (schemas more : Schemas) (new : List NodeView) (evidence : Evidence) → IsTrueForSchema schemas new evidence → IsTrueForSchema (schemas ++ more) new evidence
 true-more schemas more new evidence holds = λ k d l. let (earlier, there, goes) = holds k d l in (earlier, schema_more schemas more _ earlier there, goes)
 
@@ -123,7 +123,7 @@ true-with schemas new evidence holds = by (is_some (id_of schemas (identity new)
 is_compatible_with : (schemas : Schemas) (level : Level) (new : List NodeView) (row : Row) → HasSchema schemas row → Compatible level (schema_or schemas row) new → IsCompatibleWith schemas level new row.1.id
 is_compatible_with schemas level new row (nodes, e) goes = (nodes, e, subst (λ (x : List NodeView). Compatible level x new) (schema_or-is schemas row nodes e) goes)
 
--- what the level admits after the live versions goes with those that it names
+-- if the level admits a schema after the live versions, the subject's next evidence is true for it
 pub admitted-true : (g : Registry) → IsRegistry g → (subject : List ℕ) (new : List NodeView) → Admits (level_in g subject) (schemas_of g.schemas (live_rows (rows_of g subject))) new → IsTrueForSchema g.schemas new (next_evidence g subject)
 admitted-true g ok subject new admits =
     let level = level_in g subject in
@@ -136,6 +136,6 @@ admitted-true g ok subject new admits =
     let there = All-named (HasSchema g.schemas) level rows has in
     All-map (IsCompatibleWith g.schemas level new) (λ (row : Row). row.1.id) (named_versions level rows) (λ k d l. is_compatible_with g.schemas level new _ (there k d l) (each k d l))
 
--- the schema that a new version has is the one that was sent
+-- a new version has the sent schema
 pub new_is : (g : Registry) (subject : List ℕ) (new nodes : List NodeView) → IsRegistry g → IsSchema new → schema_at (schemas_with g.schemas new) (id_for g.schemas new) ≡ Some nodes → new ≡ nodes
 new_is g subject new nodes ok schema there = same_Some new nodes (sym (with_version-has_schema g subject new ok schema) ∙ there)

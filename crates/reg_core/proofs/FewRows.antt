@@ -1,4 +1,4 @@
--- Few versions of a subject in place of all: those that tell what a command answers and changes.
+-- A few versions of a subject that suffice in place of all: they determine the reply and the changes of a command.
 use Rattle.std.proofs.Common.{◌≡◌, ◌≢◌, ◌∙◌, ℕ, suc, ◌≤◌, ◌==◌, Bool, true, false, true≢false, List, [], ◌∷◌, ◌++◌, append-nil, refl, ap, sym, subst, arith}
 use Rattle.std.specs.Prelude.{All, Option, None, Some, Ok, Err, not, ◌||◌, filter, length, nat_lt, option_to_list, if◌then◌else◌}
 use Rattle.std.specs.List.{Contains, last_or}
@@ -37,9 +37,9 @@ passes_none : {X : Type 0} (p : X → Bool) (xs : List X) → All (λ x. p x ≡
 passes_none p [] h = refl
 passes_none p (x ∷ xs) h = ap (λ b. if b then x ∷ filter p xs else filter p xs) (All-head (λ y. p y ≡ false) x xs h) ∙ passes_none p xs (All-tail (λ y. p y ≡ false) x xs h)
 
--- ---- the last of some
+-- ---- the last version
 
--- another level names of the last alone what it names of all
+-- a level that isn't transitive compares with the last version only
 pub named_latest : (level : Level) (rows : List Row) → is_transitive level ≡ false → named_versions level (latest rows) ≡ named_versions level rows
 named_latest Backward rows e = latest_again rows
 named_latest BackwardTransitive rows e = absurd (true≢false e)
@@ -51,7 +51,7 @@ named_latest Off rows e = refl
 
 -- ---- ids
 
--- a version with the id is among these
+-- if a version has the id, the id is among these
 pub among_of : (id : ℕ) (row : Row) (rows : List Row) → Contains rows row → row.1.id ≡ id → is_among (Some id) rows ≡ true
 among_of id row rows there e = some (rows_with id rows) (filter_keeps (λ (r : Row). r.1.id == id) rows row there (eq-eqb row.1.id id e))
   where
@@ -81,7 +81,7 @@ none_latest (Some id) rows e = with_latest id rows e
 
 -- ---- Register
 
--- a live version with the id tells that there is one
+-- a live version with the id suffices
 pub registers_found : (level : Level) (id : ℕ) (row : Row) (all : List Row) → Contains (live_rows all) row → row.1.id ≡ id → row.1.deleted ≡ false → SufficeToRegister level (Some id) (row ∷ []) all
 registers_found level id row all there e alive =
     let here : Contains (live_rows (row ∷ [])) row = filter_keeps (λ (r : Row). not r.1.deleted) (row ∷ []) row (0, omega arith, refl) (ap not alive) in
@@ -91,7 +91,7 @@ registers_found level id row all there e alive =
       named = λ none. absurd (true≢false (sym among ∙ none));
     }
 
--- where no live version has the id, the last live one and the next number tell the rest
+-- if no live version has the id, the last live version and the next number suffice
 pub registers_few : (level : Level) (known : Option ℕ) (seen all : List Row) → is_transitive level ≡ false → is_among known (live_rows all) ≡ false
     → next_number seen ≡ next_number all → live_rows seen ≡ latest (live_rows all) → SufficeToRegister level known seen all
 registers_few level known seen all few unknown next live =
@@ -102,7 +102,7 @@ registers_few level known seen all few unknown next live =
       named = λ _. ap (named_versions level) live ∙ named_latest level (live_rows all) few;
     }
 
--- the last one alone tells the next number and the last live one, where it is live
+-- the last version suffices if it is live
 pub registers_last : (level : Level) (known : Option ℕ) (last : Row) (all : List Row) → is_transitive level ≡ false → is_among known (live_rows all) ≡ false → Rising all → latest all ≡ last ∷ [] → last.1.deleted ≡ false
     → SufficeToRegister level known (last ∷ []) all
 registers_last level known last all few unknown rising e alive =
@@ -110,7 +110,7 @@ registers_last level known last all few unknown rising e alive =
     (next_onto [] all last rising e (All-nil (λ (r : Row). r.0.1 ≤ last.0.1)))
     (filter_all (λ (r : Row). not r.1.deleted) (last ∷ []) (All-cons (λ (r : Row). not r.1.deleted ≡ true) last [] (ap not alive) (All-nil (λ (r : Row). not r.1.deleted ≡ true))) ∙ sym (last_passes (λ (r : Row). not r.1.deleted) all last e (ap not alive)))
 
--- and where it isn't, it and the last live one do, if there is one
+-- if the last version is soft-deleted, it suffices with the last live one
 pub registers_ends : (level : Level) (known : Option ℕ) (last : Row) (all : List Row) → is_transitive level ≡ false → is_among known (live_rows all) ≡ false → Rising all → latest all ≡ last ∷ [] → last.1.deleted ≡ true
     → SufficeToRegister level known (latest (live_rows all) ++ last ∷ []) all
 registers_ends level known last all few unknown rising e gone =
@@ -122,7 +122,6 @@ registers_ends level known last all few unknown rising e gone =
     ∙ (ap (λ (rows : List Row). live_rows (latest (live_rows all)) ++ rows) alone
     ∙ (append-nil (live_rows (latest (live_rows all))) ∙ last_is_shown false all)))
 
--- all do
 pub registers_all : (level : Level) (known : Option ℕ) (seen all : List Row) → seen ≡ all → SufficeToRegister level known seen all
 registers_all level known seen all is = subst (λ (rows : List Row). SufficeToRegister level known rows all) (sym is) (record { among = refl; next = λ _. refl; named = λ _. refl })
 
@@ -134,13 +133,12 @@ all_tell level known (ToLookUp deleted) seen all is = ap (λ (rows : List Row). 
 all_tell level known ToCompare seen all is = ap (λ (rows : List Row). named_versions level (live_rows rows)) is
 all_tell level known ToRegister seen all is = registers_all level known seen all is
 
--- a subject with no version needs none
 pub registers_none : (level : Level) (known : Option ℕ) (all : List Row) → latest all ≡ [] → SufficeToRegister level known [] all
 registers_none level known all e = registers_all level known [] all (sym (none_latest_of all e))
 
 -- ---- CheckAll
 
--- the last live one tells what a level names that doesn't name all
+-- the last live version suffices for a level that isn't transitive
 pub checks_last : (level : Level) (all : List Row) → is_transitive level ≡ false → named_versions level (live_rows (latest (live_rows all))) ≡ named_versions level (live_rows all)
 checks_last level all few = ap (named_versions level) (last_is_shown false all) ∙ named_latest level (live_rows all) few
 
@@ -151,7 +149,7 @@ looked_some None rows row e = absurd (none-some row e)
 looked_some (Some id) [] row e = absurd (none-some row e)
 looked_some (Some id) (r ∷ rows) row e = ap (λ (o : Option Row). ok_or o SchemaNotFound) e
 
--- the last of those that are shown and have the id tells that it is the one
+-- the last shown version with the id suffices to look it up
 pub looks_up_found : (deleted : Bool) (id : ℕ) (row : Row) (all : List Row) → last_or None (rows_with id (shown_rows deleted all)) ≡ Some row → (deleted || not row.1.deleted) ≡ true → row.1.id ≡ id
     → lookup_row (Some id) (shown_rows deleted (row ∷ [])) ≡ lookup_row (Some id) (shown_rows deleted all)
 looks_up_found deleted id row all e shown has =
@@ -175,7 +173,7 @@ looked_last known (row ∷ rows) e = by (latest (row ∷ rows)) refl (none_lates
     by [] is none = absurd (some_last row rows is)
     by (r ∷ rs) is none = looked_none known r rs none
 
--- where none has it, the last one that is shown tells whether there is one
+-- if no shown version has the id, the last shown one suffices
 pub looks_up_none : (deleted : Bool) (known : Option ℕ) (all : List Row) → last_or None (rows_with_id known (shown_rows deleted all)) ≡ None
     → lookup_row known (shown_rows deleted (latest (shown_rows deleted all))) ≡ lookup_row known (shown_rows deleted all)
 looks_up_none deleted known all e =
@@ -183,7 +181,7 @@ looks_up_none deleted known all e =
 
 -- ---- DeleteVersion
 
--- what tells which version is chosen among all tells which one is removed
+-- versions that suffice to choose one suffice to choose the removed one
 pub removes_as : (choice : Option VersionChoice) (seen all : List Row) → found_row choice seen ≡ found_row choice all → row_to_delete true choice seen ≡ row_to_delete true choice all
 removes_as choice seen all e = ap (found_and require_deleted) e
 
@@ -191,7 +189,7 @@ mark_is : (number : ℕ) (rows : List Row) → row_to_soft_delete (Some (Numbere
 mark_is number [] = refl
 mark_is number (row ∷ rows) = refl
 
--- and by a number which one is soft-deleted
+-- versions that suffice to find a number suffice to choose the soft-deleted one
 pub marks_as : (number : ℕ) (seen all : List Row) → found_row (Some (Numbered number)) seen ≡ found_row (Some (Numbered number)) all
     → row_to_delete false (Some (Numbered number)) seen ≡ row_to_delete false (Some (Numbered number)) all
 marks_as number seen all e = mark_is number seen ∙ (ap (found_and require_live) e ∙ sym (mark_is number all))
@@ -207,7 +205,7 @@ marked_last (r ∷ rows) row e = by (last_or None (live_rows (r ∷ rows))) e
 marked_none : (row : Row) (rows : List Row) → live_rows (row ∷ rows) ≡ [] → row_to_soft_delete (Some Latest) (row ∷ rows) ≡ Err SubjectSoftDeleted
 marked_none row rows e = ap (λ (xs : List Row). ok_or (last_or None xs) SubjectSoftDeleted) e
 
--- and where there is none, the last of all tells whether there is a version
+-- if no version is live, the last version suffices
 pub marks_none : (all : List Row) → latest (live_rows all) ≡ [] → row_to_delete false (Some Latest) (latest all) ≡ row_to_delete false (Some Latest) all
 marks_none [] e = refl
 marks_none (row ∷ rows) e = by (latest (row ∷ rows)) refl dead ∙ sym (marked_none row rows (none_latest_of (live_rows (row ∷ rows)) e))
@@ -219,7 +217,7 @@ marks_none (row ∷ rows) e = by (latest (row ∷ rows)) refl dead ∙ sym (mark
     by [] is h = absurd (some_last row rows is)
     by (r ∷ rs) is h = marked_none r rs (passes_none (λ (x : Row). not x.1.deleted) (r ∷ rs) h)
 
--- the same, where it is told of those that are shown where deleted ones are
+-- versions that suffice to choose one with `deleted` suffice to choose it of all
 found_shown : (choice : Option VersionChoice) (seen all : List Row) → found_row choice (shown_rows true seen) ≡ found_row choice (shown_rows true all) → found_row choice seen ≡ found_row choice all
 found_shown choice seen all e = ap (found_row choice) (sym (all_shown seen)) ∙ (e ∙ ap (found_row choice) (all_shown all))
 
@@ -230,7 +228,7 @@ pub marks_shown : (number : ℕ) (seen all : List Row) → found_row (Some (Numb
     → row_to_delete false (Some (Numbered number)) seen ≡ row_to_delete false (Some (Numbered number)) all
 marks_shown number seen all e = marks_as number seen all (found_shown (Some (Numbered number)) seen all e)
 
--- the last live one, where there is one
+-- the last live version suffices, if any version is live
 pub marks_live : (seen all : List Row) → seen ≡ latest (live_rows all) → seen ≢ [] → row_to_delete false (Some Latest) seen ≡ row_to_delete false (Some Latest) all
 marks_live seen all e some = by (last_or None (live_rows all)) refl
   where

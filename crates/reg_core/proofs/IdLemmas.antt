@@ -1,4 +1,4 @@
--- Ids of schemas, and the identity texts by which they are found.
+-- Ids of schemas, and how identity texts find them.
 use Rattle.std.proofs.Common.{◌≡◌, ◌≢◌, ℕ, zero, suc, ◌+◌, ◌<◌, ◌≤◌, ◌⊎◌, inl, inr, List, [], ◌∷◌, ◌++◌, length, get_or, Bool, true, false, cond, refl, sym, ap, subst, ◌∙◌, arith, add-one, true≢false}
 use Rattle.std.specs.Prelude.{Option, Some, None, option_map, slice_get, bytes_eq, position, nat_lt}
 use Rattle.std.specs.List.{position_or_len}
@@ -22,12 +22,12 @@ option_map_none f (Some x) e = absurd (none-some (f x) (sym e))
 
 -- ---- schemas by their ids
 
--- each id within the limits has a schema
+-- each id from 1 to the number of schemas has a schema
 pub schema_there : (schemas : Schemas) (id : ℕ) → 0 < id → id ≤ length schemas → (nodes : List NodeView) × (schema_at schemas id ≡ Some nodes)
 schema_there schemas zero l h = absurd (omega arith)
 schema_there schemas (suc n) l h = (get_or schemas n [], slice_get-get_or schemas n [] (omega arith))
 
--- and no other id has
+-- only an id from 1 to the number of schemas has a schema
 pub schema_within : (schemas : Schemas) (id : ℕ) (nodes : List NodeView) → schema_at schemas id ≡ Some nodes → (0 < id) × (id ≤ length schemas)
 schema_within schemas zero nodes e = absurd (none-some nodes e)
 schema_within schemas (suc n) nodes e = let k = slice_get_within schemas n nodes e in (omega arith, omega arith)
@@ -60,7 +60,7 @@ schema_more schemas more (suc n) nodes e = get_more schemas more n nodes e
 pub schema_last : (schemas : Schemas) (new : List NodeView) → schema_at (schemas ++ new ∷ []) (length schemas + 1) ≡ Some new
 schema_last schemas new = rw (add-one) (get_last schemas new)
 
--- and each other id has the schema that it had
+-- with a new schema, each other id keeps its schema
 pub schema_grown : (schemas : Schemas) (new : List NodeView) (id : ℕ) (nodes : List NodeView) → schema_at (schemas ++ new ∷ []) id ≡ Some nodes → (schema_at schemas id ≡ Some nodes) ⊎ ((id ≡ length schemas + 1) × (nodes ≡ new))
 schema_grown schemas new zero nodes e = absurd (none-some nodes e)
 schema_grown schemas new (suc n) nodes e = next (get_grown schemas new n nodes e)
@@ -71,7 +71,7 @@ schema_grown schemas new (suc n) nodes e = next (get_grown schemas new n nodes e
 
 -- ---- ids by identity texts
 
--- the test by which an id is found
+-- the test that finds an id
 abbrev has_text : List ℕ → List NodeView → Bool
 has_text text nodes = bytes_eq (identity nodes) text
 
@@ -106,15 +106,15 @@ id_of-none schemas text e (suc n) nodes is same =
 pub text_at-schema : (schemas : Schemas) (id : ℕ) (text : List ℕ) → text_at schemas id ≡ Some text → (nodes : List NodeView) × (schema_at schemas id ≡ Some nodes) × (identity nodes ≡ text)
 text_at-schema schemas id text e = option_map_some identity (schema_at schemas id) text e
 
--- and each schema's text is that of its id
+-- the text of each schema is that of its id
 pub text_at-identity : (schemas : Schemas) (id : ℕ) (nodes : List NodeView) → schema_at schemas id ≡ Some nodes → text_at schemas id ≡ Some (identity nodes)
 text_at-identity schemas id nodes e = ap (option_map identity) e
 
--- each id within the limits has a text
+-- each id from 1 to the number of schemas has a text
 pub text_there : (schemas : Schemas) (id : ℕ) → 0 < id → id ≤ length schemas → (text : List ℕ) × (text_at schemas id ≡ Some text)
 text_there schemas id l h = let (nodes, e) = schema_there schemas id l h in (identity nodes, text_at-identity schemas id nodes e)
 
--- and no other id has
+-- only an id from 1 to the number of schemas has a text
 pub text_within : (schemas : Schemas) (id : ℕ) (text : List ℕ) → text_at schemas id ≡ Some text → (0 < id) × (id ≤ length schemas)
 text_within schemas id text e = let (nodes, is, same) = text_at-schema schemas id text e in schema_within schemas id nodes is
 
@@ -126,7 +126,7 @@ id_of-text_at schemas text id e = let (nodes, is, same) = id_of-schema schemas t
 pub id_of-no_text : (schemas : Schemas) (text : List ℕ) → id_of schemas text ≡ None → (id : ℕ) → text_at schemas id ≢ Some text
 id_of-no_text schemas text none id e = let (nodes, is, same) = text_at-schema schemas id text e in id_of-none schemas text none id nodes is same
 
--- an id that is past them has no text
+-- an id beyond the number of schemas has no text
 pub text_past : (schemas : Schemas) (id : ℕ) → length schemas < id → text_at schemas id ≡ None
 text_past schemas zero l = refl
 text_past schemas (suc n) l = ap (option_map identity) (slice_get_past schemas n (omega arith))

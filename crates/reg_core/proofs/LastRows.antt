@@ -1,4 +1,4 @@
--- The last of some versions, and the numbers of a subject's versions, which rise.
+-- The last version of a list, and the ascending numbers of a subject's versions.
 use Rattle.std.proofs.Common.{◌≡◌, ◌∙◌, ℕ, ◌+◌, ◌<◌, ◌≤◌, Bool, true, false, List, [], ◌∷◌, ◌++◌, T, ◌&&◌, Ordering, Less, Equal, Greater, refl, ap, sym, subst, arith}
 use Rattle.std.specs.Prelude.{All, ⊤, filter, fold, max, bytes_eq, if◌then◌else◌}
 use Rattle.std.specs.FinMap.{entries, entries_sorted, is_sorted}
@@ -15,7 +15,7 @@ use Rattle.reg_core.specs.Rows.{rows_of, next_number}
 use Rattle.reg_core.proofs.ChosenRows.{some_last}
 use Rattle.reg_core.proofs.RowLemmas.{greatest_of}
 
--- ---- the last of some
+-- ---- the last version
 
 pub latest_again : {X : Type 0} (xs : List X) → latest (latest xs) ≡ latest xs
 latest_again [] = refl
@@ -26,7 +26,7 @@ latest_before : {X : Type 0} (x : X) (xs : List X) (last : X) → latest xs ≡ 
 latest_before x [] last e = absurd cc
 latest_before x (y ∷ ys) last e = e
 
--- where the last of all passes, it is the last one that does
+-- if the last item passes the filter, it is the last one that does
 pub last_passes : {X : Type 0} (p : X → Bool) (xs : List X) (last : X) → latest xs ≡ last ∷ [] → p last ≡ true → latest (filter p xs) ≡ last ∷ []
 last_passes p [] last e passes = absurd cc
 last_passes p (x ∷ []) last e passes = subst (λ ys. latest (filter p ys) ≡ last ∷ []) (sym e) (ap (λ b. latest (if b then last ∷ [] else [])) passes)
@@ -36,7 +36,7 @@ last_passes p (x ∷ y ∷ ys) last e passes = by (p x) (last_passes p (y ∷ ys
     by true h = latest_before x (filter p (y ∷ ys)) last h
     by false h = h
 
--- and it is among them
+-- the last item is one of the list
 pub last_there : {X : Type 0} (xs : List X) (last : X) → latest xs ≡ last ∷ [] → Contains xs last
 last_there [] last e = absurd cc
 last_there (x ∷ []) last e = let same : x ≡ last = cc in (0, omega arith, same)
@@ -48,7 +48,7 @@ none_latest_of (x ∷ xs) e = absurd (some_last x xs e)
 
 -- ---- the next number
 
--- the numbers rise
+-- the numbers are ascending
 abbrev pub Rising : List Row → Type 0
 Rising [] = ⊤
 Rising (row ∷ rows) = All (λ (r : Row). row.0.1 < r.0.1) rows × Rising rows
@@ -64,11 +64,11 @@ greatest_is (x ∷ y ∷ ys) most last rising above e =
     greatest_is (y ∷ ys) (max most x.0.1) last rising.1
     (λ k d lt. let a : x.0.1 < _ = rising.0 k d lt in let b : most ≤ _ = All-tail (λ (r : Row). most ≤ r.0.1) x (y ∷ ys) above k d lt in omega arith) e
 
--- the number after the last one is the next
+-- the next number is 1 more than the last one
 pub next_is : (rows : List Row) (last : Row) → Rising rows → latest rows ≡ last ∷ [] → next_number rows ≡ last.0.1 + 1
 next_is rows last rising e = ap (λ (n : ℕ). n + 1) (greatest_is rows 0 last rising (λ k d lt. omega arith) e)
 
--- and so it is where others that aren't above the last one stand before it
+-- the greatest number is the last one if no earlier one is greater
 greatest_onto : (rows : List Row) (most : ℕ) (last : Row) → most ≤ last.0.1 → All (λ (r : Row). r.0.1 ≤ last.0.1) rows → fold (λ greatest (r : Row). max greatest r.0.1) most (rows ++ last ∷ []) ≡ last.0.1
 greatest_onto [] most last below all = omega arith
 greatest_onto (x ∷ xs) most last below all =
@@ -88,7 +88,7 @@ both_of : (a b : Bool) → T (a && b) → T a × T b
 both_of true b h = (tt, h)
 both_of false b h = absurd h
 
--- ---- the numbers of a subject's versions rise
+-- ---- the numbers of a subject's versions are ascending
 
 less_second : (o : Ordering) (a b : ℕ) → o ≡ Equal → T (is_lt (ordering_then o (nat_cmp a b))) → a < b
 less_second o a b e h = below (nat_cmp a b) refl (subst (λ x. T (is_lt (ordering_then x (nat_cmp a b)))) e h)

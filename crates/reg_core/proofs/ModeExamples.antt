@@ -13,67 +13,67 @@ use Rattle.reg_core.specs.Machine.{step, permitted_step}
 import_is_no_mode : mode_of (codes "IMPORT") ≡ None
 import_is_no_mode = refl
 
--- all subjects are frozen
-frozen : Registry
-frozen = record new_registry { global_mode = Readonly }
+-- a registry whose global mode is READONLY
+read_only : Registry
+read_only = record new_registry { global_mode = Readonly }
 
-mode_is_set : step new_registry (SetGlobalMode (codes "READONLY")) ≡ (frozen, answer (codes "{\"mode\":\"READONLY\"}"))
-unfolding frozen step permitted_step serde_json_on_literals
+mode_is_set : step new_registry (SetGlobalMode (codes "READONLY")) ≡ (read_only, answer (codes "{\"mode\":\"READONLY\"}"))
+unfolding read_only step permitted_step serde_json_on_literals
 mode_is_set = refl
 
-mode_is_shown : (step frozen GlobalMode).1 ≡ answer (codes "{\"mode\":\"READONLY\"}")
-unfolding frozen step permitted_step serde_json_on_literals
+mode_is_shown : (step read_only GlobalMode).1 ≡ answer (codes "{\"mode\":\"READONLY\"}")
+unfolding read_only step permitted_step serde_json_on_literals
 mode_is_shown = refl
 
-other_mode_is_refused : step frozen (SetGlobalMode (codes "IMPORT")) ≡ (frozen, fault InvalidMode)
-unfolding frozen step permitted_step
+other_mode_is_refused : step read_only (SetGlobalMode (codes "IMPORT")) ≡ (read_only, fault InvalidMode)
+unfolding read_only step permitted_step
 other_mode_is_refused = refl
 
--- each write of levels and subjects is refused, whatever it sends
-level_is_refused : step frozen (SetGlobal (codes "x")) ≡ (frozen, fault NotPermitted)
-unfolding frozen step
+-- each write of levels and subjects is rejected, with any arguments
+level_is_refused : step read_only (SetGlobal (codes "x")) ≡ (read_only, fault NotPermitted)
+unfolding read_only step
 level_is_refused = refl
 
-own_level_is_refused : step frozen (SetLevel (codes "s") (codes "x")) ≡ (frozen, fault NotPermitted)
-unfolding frozen step
+own_level_is_refused : step read_only (SetLevel (codes "s") (codes "x")) ≡ (read_only, fault NotPermitted)
+unfolding read_only step
 own_level_is_refused = refl
 
-schema_is_refused : step frozen (Register (codes "s") (codes "x") false) ≡ (frozen, fault NotPermitted)
-unfolding frozen step
+schema_is_refused : step read_only (Register (codes "s") (codes "x") false) ≡ (read_only, fault NotPermitted)
+unfolding read_only step
 schema_is_refused = refl
 
-deletion_is_refused : step frozen (DeleteVersion (codes "s") (codes "x") false) ≡ (frozen, fault NotPermitted)
-unfolding frozen step
+deletion_is_refused : step read_only (DeleteVersion (codes "s") (codes "x") false) ≡ (read_only, fault NotPermitted)
+unfolding read_only step
 deletion_is_refused = refl
 
-subject_stays : step frozen (DeleteSubject (codes "s") true) ≡ (frozen, fault NotPermitted)
-unfolding frozen step
+subject_stays : step read_only (DeleteSubject (codes "s") true) ≡ (read_only, fault NotPermitted)
+unfolding read_only step
 subject_stays = refl
 
--- a subject that may be written all the same
-thawed_s : Registry
-thawed_s = (step frozen (SetMode (codes "s") (codes "READWRITE"))).0
+-- a subject whose own mode is READWRITE
+writable_s : Registry
+writable_s = (step read_only (SetMode (codes "s") (codes "READWRITE"))).0
 
-s_may_be_written : (step thawed_s (SetLevel (codes "s") (codes "FULL"))).1 ≡ answer (codes "{\"compatibility\":\"FULL\"}")
-unfolding frozen thawed_s step permitted_step serde_json_on_literals
+s_may_be_written : (step writable_s (SetLevel (codes "s") (codes "FULL"))).1 ≡ answer (codes "{\"compatibility\":\"FULL\"}")
+unfolding read_only writable_s step permitted_step serde_json_on_literals
 s_may_be_written = refl
 
-t_may_not : (step thawed_s (SetLevel (codes "t") (codes "FULL"))).1 ≡ fault NotPermitted
-unfolding frozen thawed_s step permitted_step
+t_may_not : (step writable_s (SetLevel (codes "t") (codes "FULL"))).1 ≡ fault NotPermitted
+unfolding read_only writable_s step permitted_step
 t_may_not = refl
 
-global_level_may_not : (step thawed_s (SetGlobal (codes "FULL"))).1 ≡ fault NotPermitted
-unfolding frozen thawed_s step permitted_step
+global_level_may_not : (step writable_s (SetGlobal (codes "FULL"))).1 ≡ fault NotPermitted
+unfolding read_only writable_s step permitted_step
 global_level_may_not = refl
 
-t_has_none : (step thawed_s (ModeOf (codes "t") false)).1 ≡ fault NoOwnMode
-unfolding frozen thawed_s step permitted_step
+t_has_none : (step writable_s (ModeOf (codes "t") false)).1 ≡ fault NoOwnMode
+unfolding read_only writable_s step permitted_step
 t_has_none = refl
 
-t_has_the_global_one : (step thawed_s (ModeOf (codes "t") true)).1 ≡ answer (codes "{\"mode\":\"READONLY\"}")
-unfolding frozen thawed_s step permitted_step serde_json_on_literals
+t_has_the_global_one : (step writable_s (ModeOf (codes "t") true)).1 ≡ answer (codes "{\"mode\":\"READONLY\"}")
+unfolding read_only writable_s step permitted_step serde_json_on_literals
 t_has_the_global_one = refl
 
-s_has_its_own : (step thawed_s (ModeOf (codes "s") false)).1 ≡ answer (codes "{\"mode\":\"READWRITE\"}")
-unfolding frozen thawed_s step permitted_step serde_json_on_literals
+s_has_its_own : (step writable_s (ModeOf (codes "s") false)).1 ≡ answer (codes "{\"mode\":\"READWRITE\"}")
+unfolding read_only writable_s step permitted_step serde_json_on_literals
 s_has_its_own = refl

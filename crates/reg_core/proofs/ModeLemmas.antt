@@ -1,4 +1,4 @@
--- A command that a mode forbids leaves the registry, and is answered so; each other is carried out.
+-- A mode that forbids a command rejects it and leaves the registry unchanged; any other command takes the permitted step.
 use Rattle.std.proofs.Common.{◌≡◌, ◌∙◌, Bool, true, false, refl, ap, sym}
 use Rattle.std.specs.Prelude.{IsTrue, Option, if◌then◌else◌, option_and_then}
 use Rattle.reg_core.specs.declared.code.Code.TheVariants.{NotPermitted}
@@ -17,7 +17,7 @@ either : (P : Registry × ReplyView → Type 0) (b : Bool) (one other : Registry
 either P true one other p q = p
 either P false one other p q = q
 
--- what holds of a refusal and of what is carried out holds of each command
+-- if `P` is true of the refusal and of the permitted step, it is true of the step
 pub step-either : (P : Registry × ReplyView → Type 0) (g : Registry) (c : Command) → P (g, fault NotPermitted) → P (permitted_step g c) → P (step g c)
 unfolding step
 step-either P g c p q = either P (is_read_only (mode_for g c)) (g, fault NotPermitted) (permitted_step g c) p q
@@ -25,7 +25,7 @@ step-either P g c p q = either P (is_read_only (mode_for g c)) (g, fault NotPerm
 same_mode : (c : Command) (own other : Option Mode) (global another : Mode) → (own ≡ other) × (global ≡ another) → governing_mode c own global ≡ governing_mode c other another
 same_mode c own other global another same = ap (λ o. governing_mode c o global) same.0 ∙ ap (governing_mode c other) same.1
 
--- the view shows the mode that may forbid the command, if one may
+-- the view shows the mode that may forbid the command
 mode_shown : (g : Registry) (c : Command) (view : View) → IsViewOf view g c → mode_of_view view c ≡ mode_for g c
 mode_shown g c view shows = by c shows.modes
   where
@@ -37,12 +37,12 @@ mode_shown g c view shows = by c shows.modes
     by (DeleteSubject subject permanent) modes = same_mode (DeleteSubject subject permanent) _ _ _ _ (modes refl)
     by _ modes = refl
 
--- what the view shows as forbidden is refused
-pub step-frozen : (g : Registry) (c : Command) (view : View) → IsViewOf view g c → is_read_only (mode_of_view view c) ≡ true → step g c ≡ (g, fault NotPermitted)
+-- if the view's mode forbids the command, the step rejects it
+pub step-read_only : (g : Registry) (c : Command) (view : View) → IsViewOf view g c → is_read_only (mode_of_view view c) ≡ true → step g c ≡ (g, fault NotPermitted)
 unfolding step
-step-frozen g c view shows e = ap (λ b. if b then (g, fault NotPermitted) else permitted_step g c) (sym (ap is_read_only (mode_shown g c view shows)) ∙ e)
+step-read_only g c view shows e = ap (λ b. if b then (g, fault NotPermitted) else permitted_step g c) (sym (ap is_read_only (mode_shown g c view shows)) ∙ e)
 
--- and the rest is carried out
-pub step-free : (g : Registry) (c : Command) (view : View) → IsViewOf view g c → is_read_only (mode_of_view view c) ≡ false → step g c ≡ permitted_step g c
+-- else the step is the permitted step
+pub step-permitted : (g : Registry) (c : Command) (view : View) → IsViewOf view g c → is_read_only (mode_of_view view c) ≡ false → step g c ≡ permitted_step g c
 unfolding step
-step-free g c view shows e = ap (λ b. if b then (g, fault NotPermitted) else permitted_step g c) (sym (ap is_read_only (mode_shown g c view shows)) ∙ e)
+step-permitted g c view shows e = ap (λ b. if b then (g, fault NotPermitted) else permitted_step g c) (sym (ap is_read_only (mode_shown g c view shows)) ∙ e)

@@ -1,4 +1,4 @@
--- Each reply is the registry's own.
+-- Each reply of the abstract machine is a command reply (`IsCommandReply`).
 use Rattle.std.proofs.Common.{◌≡◌, ◌≢◌, ℕ, Bool, true, List, [], ◌∷◌, false, refl, ap, get_or, sym, subst, ◌∙◌}
 use Rattle.std.specs.Prelude.{Option, None, Some, Result, Ok, Err, if◌then◌else◌}
 use Rattle.std.specs.Option.{ok_or}
@@ -25,21 +25,20 @@ use Rattle.reg_core.specs.DeletionCommands.{require_live, require_deleted, found
 other_status : (m n : ReplyView) → m.status ≢ n.status → m ≢ n
 other_status m n ne e = ne (ap (λ (t : ReplyView). t.status) e)
 
--- a reply with a body that isn't refused
 pub answer-IsCommandReply : (body : List ℕ) → IsCommandReply (answer body)
 answer-IsCommandReply body = record {
   kept = refl;
   no_reused_key = other_status _ _ (eqb-false 200 422 refl);
 }
 
--- something wasn't found
+-- a fault with status 404
 not_found : (code : Code) → (fault code).status ≡ 404 → IsCommandReply (fault code)
 not_found code e = record {
   kept = subst IsKeptStatus (sym e) refl;
   no_reused_key = other_status _ _ (λ h. eqb-false 404 422 refl (sym e ∙ h));
 }
 
--- something of the command can't be, and the number differs from that of a reused key in this digit
+-- a fault with status 422 whose number differs from that of a reused key in this digit
 unprocessable : (code : Code) (position : ℕ) → (fault code).status ≡ 422 → get_or (fault code).body position 0 ≢ get_or (fault KeyReused).body position 0 → IsCommandReply (fault code)
 unprocessable code position e ne = record {
   kept = subst IsKeptStatus (sym e) refl;
@@ -93,7 +92,7 @@ pub text_reply-IsCommandReply : (body : List ℕ → List ℕ) (text : Option (L
 text_reply-IsCommandReply body None = schema_not_found-IsCommandReply
 text_reply-IsCommandReply body (Some text) = answer-IsCommandReply _
 
--- why a version isn't found is a reply of the registry's own
+-- the code of a missing version gives a command reply
 abbrev pub HasOwnFault : Result Row Code → Type 0
 HasOwnFault (Err code) = IsCommandReply (fault code)
 HasOwnFault (Ok row) = Unit {0}
@@ -133,7 +132,7 @@ pub lookup_reply-IsCommandReply : (texts : Texts) (schema : Option (List NodeVie
 lookup_reply-IsCommandReply texts None known rows = invalid_schema-IsCommandReply
 lookup_reply-IsCommandReply texts (Some nodes) known rows = version_reply-IsCommandReply texts (lookup_row known rows) (lookup_row-fault known rows)
 
--- why no version is deleted is a reply of the registry's own too
+-- the code of a rejected deletion gives a command reply
 found_and-fault : (test : Row → Result Row Code) → ((row : Row) → HasOwnFault (test row)) → (found : Result Row Code) → HasOwnFault found → HasOwnFault (found_and test found)
 found_and-fault test each (Err code) own = own
 found_and-fault test each (Ok row) own = each row

@@ -1,8 +1,12 @@
--- Runs of a text that a JSON string has as they are, and the marks between them.
-use Rattle.std.proofs.Common.{◌≡◌, ℕ, ◌+◌, ◌-◌, ◌<◌, ◌≤◌, List, [], ◌∷◌, ◌++◌, length, take, drop, get_or, Bool, true, false, ◌||◌, refl, sym, ap, ◌∙◌, append_assoc, length-drop, arith}
+-- The runs of a text that a JSON string copies unchanged, and the escaped bytes between them.
+use Rattle.std.proofs.Common.{◌≡◌, ℕ, zero, suc, ◌+◌, ◌-◌, ◌<◌, ◌≤◌, List, [], ◌∷◌, ◌++◌, length, take, drop, get_or, Bool, true, false, ◌||◌, Some, None, inl, inr, refl, sym, ap, ap₂, ◌∙◌, append_assoc, length-drop, lt-ltb, get_or-drop, arith}
 use Rattle.std.specs.Prelude.{◌==◌, nat_lt, slice_range}
-use Rattle.std.proofs.lemmas.Bool.{or_parts, eqb-true, eqb-false, ltb-true, ltb-false}
-use Rattle.std.proofs.lemmas.List.{take_all}
+use Rattle.std.specs.List.{position, position_or_len}
+use Rattle.std.proofs.lemmas.Bool.{or_parts, eqb-true, eqb-false, ltb-true, ltb-false, cases_lt}
+use Rattle.std.proofs.lemmas.List.{take_all, take_rest}
+use Rattle.std.proofs.lemmas.List.Quantifiers.{position-Some}
+use Rattle.std.proofs.lemmas.List.Sums.{fails_before_first}
+use Rattle.std.proofs.lemmas.Option.{none-some}
 use Rattle.std.proofs.lemmas.List.Concat.{flat_map-append}
 use Rattle.json.specs.Print.{escape, escape_byte}
 use Rattle.json.proofs.Printed.Strings.{escape_byte_plain}
@@ -33,13 +37,36 @@ mark_escaped c is h = split (c == 34) (c == 92) refl refl where
   split false true e f = rw (eqb-true c 92 f) refl
   split false false e f = absurd (omega (arith, h, ltb-true c 32 (rw (e, f) at is)))
 
-pub plain_more : (bs : List ℕ) (from at : ℕ) → from ≤ at → at < length bs → needs_escape (get_or bs at 0) ≡ false → escape (slice_range bs from at) ≡ slice_range bs from at
-    → escape (slice_range bs from (at + 1)) ≡ slice_range bs from (at + 1)
-plain_more bs from at a h is before =
-    rw (range_more bs from at a h, flat_map-append escape_byte (slice_range bs from at) (get_or bs at 0 ∷ []), before, plain_kept (get_or bs at 0) is) refl
+-- a run without bytes to escape is copied unchanged
+plain_run : (xs : List ℕ) (n : ℕ) → n ≤ length xs → ((k : ℕ) → k < n → needs_escape (get_or xs k 0) ≡ false) → escape (take n xs) ≡ take n xs
+plain_run xs zero within none = refl
+plain_run [] (suc n) within none = refl
+plain_run (x ∷ xs) (suc n) within none = ap₂ (λ (a b : List ℕ). a ++ b) (plain_kept x (none 0 (omega arith))) (plain_run xs n (omega arith) (λ k lt. none (suc k) (omega arith)))
 
-pub none_yet : (bs : List ℕ) (at : ℕ) → escape (slice_range bs at at) ≡ slice_range bs at at
-none_yet bs at = let none : at - at ≡ 0 = omega arith in rw none refl
+abbrev after : List ℕ → ℕ → List ℕ
+after bs from = take (length bs - from) (drop from bs)
+
+-- the found byte needs an escape, and those before it don't
+pub escape_found : (bs : List ℕ) (from n : ℕ) → Some n ≡ position needs_escape (after bs from)
+    → (needs_escape (get_or bs (from + n) 0) ≡ true) × (escape (slice_range bs from (from + n)) ≡ slice_range bs from (from + n))
+escape_found bs from n is =
+    let (inside, found, plain) = position-Some needs_escape (drop from bs) n 0 (ap (position needs_escape) (sym (take_rest bs from)) ∙ sym is) in
+    let same : from + n - from ≡ n = omega arith in
+    (ap needs_escape (sym (get_or-drop from bs n 0)) ∙ found, rw same (plain_run (drop from bs) n (omega (arith, inside)) plain))
+
+-- no byte needs an escape
+pub escape_absent : (bs : List ℕ) (from : ℕ) → None ≡ position needs_escape (after bs from)
+    → escape (slice_range bs from (length bs)) ≡ slice_range bs from (length bs)
+escape_absent bs from is = plain_run rest (length bs - from) (omega (arith, length-drop from bs)) (λ k lt. plain k (omega (arith, lt, length-drop from bs)))
+  where
+    rest : List ℕ
+    rest = drop from bs
+
+    plain : (k : ℕ) → k < length rest → needs_escape (get_or rest k 0) ≡ false
+    plain k lt = elim (cases_lt (position_or_len needs_escape rest) (length rest)) [
+      | inl inside ↦ absurd (none-some (position_or_len needs_escape rest) (is ∙ ap (position needs_escape) (take_rest bs from) ∙ (rw (lt-ltb (position_or_len needs_escape rest) (length rest) inside) refl)))
+      | inr past ↦ fails_before_first needs_escape rest k 0 (omega arith)
+    ]
 
 from_start : (bs : List ℕ) (at : ℕ) → slice_range bs 0 at ≡ take at bs
 from_start bs at = let same : at - 0 ≡ at = omega arith in rw same refl
@@ -51,7 +78,7 @@ pub first_run : (bs out : List ℕ) (at : ℕ) → out ≡ 34 ∷ [] → escape 
 first_run bs out at is plain =
     ap (λ (xs : List ℕ). xs ++ slice_range bs 0 at) is ∙ ap (λ (xs : List ℕ). 34 ∷ xs) (sym plain ∙ ap escape (from_start bs at))
 
--- a mark has its backslash, and begins the next run
+-- an escaped byte follows its backslash, and begins the next run
 pub next_run : (bs out : List ℕ) (from mark next : ℕ) → from ≤ mark → mark < length bs → mark + 1 ≤ next → escape_byte (get_or bs mark 0) ≡ 92 ∷ get_or bs mark 0 ∷ []
     → escape (slice_range bs (mark + 1) next) ≡ slice_range bs (mark + 1) next
     → out ++ slice_range bs from mark ≡ 34 ∷ escape (take mark bs)
@@ -73,7 +100,7 @@ last_run bs out from mark a end so_far =
     let all : take mark bs ≡ bs = take_all mark bs (omega (arith, end)) in
     ap (λ (xs : List ℕ). xs ++ 34 ∷ []) (ap (λ (xs : List ℕ). out ++ xs) (sym rest) ∙ so_far ∙ ap (λ (xs : List ℕ). 34 ∷ escape xs) all)
 
--- what nine parts are that were added one after another
+-- nine parts appended in order
 pub joined_nine : (a b c d e f g h i : List ℕ) → (((((((([] ++ a) ++ b) ++ c) ++ d) ++ e) ++ f) ++ g) ++ h) ++ i ≡ a ++ (b ++ (c ++ (d ++ (e ++ (f ++ (g ++ (h ++ i)))))))
 joined_nine a b c d e f g h i =
     append_assoc (((((((a ++ b) ++ c) ++ d) ++ e) ++ f) ++ g)) h i

@@ -1,4 +1,4 @@
--- What was read of a text, by the nodes that the text denotes.
+-- The parsed schema of a text, by the nodes that the text denotes.
 use Rattle.std.proofs.Common.{◌≡◌, ℕ, List, Option, Some, None, Result, Ok, Err, refl}
 use Rattle.std.specs.Prelude.{◌≢◌, IfOk, IfErr}
 use Rattle.avro_nodes.specs.Nodes.{NodeView}

@@ -1,4 +1,4 @@
--- What is found and counted among a few versions.
+-- The definitions of registering and lookup, computed on a few versions.
 use Rattle.std.proofs.Common.{◌≡◌, ℕ, ◌∷◌, [], List, Bool, true, false, codes, refl}
 use Rattle.std.specs.Prelude.{None, Some, Ok, Err}
 use Rattle.serde_json.specs.Data.{no_members}
@@ -17,7 +17,7 @@ use Rattle.reg_core.specs.RegisterCommands.{is_among, id_for}
 abbrev row : ℕ → ℕ → Bool → Row
 row number id deleted = ((codes "s", number), record { id = id; deleted = deleted })
 
--- three versions, with a gap between their numbers, of which the last is soft-deleted
+-- three versions with a gap between their numbers; the last one is soft-deleted
 abbrev rows : List Row
 rows = row 1 4 false ∷ row 3 2 false ∷ row 7 4 true ∷ []
 

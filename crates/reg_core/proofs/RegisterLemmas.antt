@@ -1,4 +1,4 @@
--- What a view shows of the registry, for commands that compare and register schemas.
+-- Commands that register schemas give the same result from a view as from the registry.
 use Rattle.std.proofs.Common.{◌≡◌, ℕ, ◌+◌, ◌≤◌, List, [], ◌∷◌, ◌++◌, Bool, true, false, IsTrue, Option, Some, None, refl, sym, ◌∙◌, ap, subst, map, length, length-append, arith}
 use Rattle.std.specs.Prelude.{All, unwrap_or, option_to_list, is_some, if◌then◌else◌, nat_le}
 use Rattle.std.proofs.lemmas.Bool.{and_parts, leb-true}
@@ -48,7 +48,7 @@ not_told (Some id) rows e = by (is_among (Some id) rows) e
     by true f = f
     by false f = refl
 
--- a version is made just where numbers are left
+-- no version results only if no number is left
 pub no_row : (b : Bool) (row : Row) → None ≡ (if b then Some row else None) → b ≡ false
 no_row true row e = absurd (none-some row e)
 no_row false row e = refl
@@ -61,17 +61,17 @@ pub not_among : (known : Option ℕ) (rows : List Row) → None ≡ id_among kno
 not_among None rows e = refl
 not_among (Some id) rows e = if_none (is_among (Some id) rows) id (sym e)
 
--- the version that is added
+-- the added version
 abbrev next_row : Registry → List ℕ → List NodeView → Row
 next_row g subject new = ((subject, next_number (rows_of g subject)), record { id = id_for g.schemas new; deleted = false })
 
--- the registry after the changes that add it
+-- the changes that add the version give the machine's registry
 changes_are : (g : Registry) (subject : List ℕ) (new : List NodeView) → IsSchema new → (known : Option ℕ) → id_of g.schemas (identity new) ≡ known → (evidence : Evidence)
     → after_changes (version_added known (next_row g subject new) evidence new) g ≡ with_version g subject new
 changes_are g subject new s None e evidence = let text = identity_denoted new s in rw (e, text) refl
 changes_are g subject new s (Some id) e evidence = rw e refl
 
--- and the registry can have them
+-- the changes that add the version can be applied
 changes_fit : (g : Registry) (subject : List ℕ) (new : List NodeView) → IsSchema new → (known : Option ℕ) → id_of g.schemas (identity new) ≡ known → next_number (rows_of g subject) ≤ max_number → id_for g.schemas new ≤ max_number
     → (evidence : Evidence) → IsNewEvidence (record g { schemas = schemas_with g.schemas new }) (next_row g subject new) evidence
     → ChangesFit (version_added known (next_row g subject new) evidence new) g
@@ -102,7 +102,7 @@ changes_fit g subject new s (Some id) e number within evidence fits =
       tt,
     )
 
--- a schema that is sent is of a type that is supported
+-- if there is a schema, its type is supported
 is_supported : (text : List ℕ) (supported : Bool) (new : List NodeView) → supported_schema text supported ≡ Some new → IsTrue supported
 unfolding supported_schema
 is_supported text true new e = refl
@@ -195,7 +195,7 @@ module _ (g : Registry) (subject text : List ℕ) (supported : Bool) (view : Vie
           let levels = input.shows.levels refl in
           ap (λ (own : Option Level). unwrap_or own view.global) levels.0 ∙ ap (unwrap_or (g.own subject)) levels.1
 
-      -- what the version is admitted by is what the registry names
+      -- the version's evidence is the subject's `next_evidence`
       evidence_is : evidence_by_view view live ≡ next_evidence g subject
       evidence_is =
           ap (evidence_of (level_of_view view)) (input.shows.rows.named (sym among ∙ unknown))
@@ -204,7 +204,7 @@ module _ (g : Registry) (subject text : List ℕ) (supported : Bool) (view : Vie
           evidence_of : Level → List Row → Evidence
           evidence_of level rows = record { level = level; against = map (λ (row : Row). row.1.id) rows }
 
-      -- and it is true of the schema that is sent
+      -- the version's evidence is true for the sent schema
       new_evidence : IsNewEvidence (record g { schemas = schemas_with g.schemas new }) (next_row g subject new) (evidence_by_view view live)
       new_evidence =
           let passed = ap (λ (level : Level). is_admitted_after g.schemas level all new) (sym level_is) ∙ verdict in

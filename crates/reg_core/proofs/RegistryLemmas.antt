@@ -1,4 +1,4 @@
--- A registry stays one, whatever changes it can have and whatever commands come.
+-- Changes that can be applied and commands preserve the invariant of a registry (`IsRegistry`).
 use Rattle.std.proofs.Common.{◌≡◌, ℕ, zero, suc, ◌+◌, ◌<◌, ◌≤◌, ◌⊎◌, inl, inr, List, [], ◌∷◌, ◌++◌, length, Bool, true, false, refl, sym, ap, subst, ◌∙◌, arith, length-append}
 use Rattle.std.specs.Prelude.{All, Option, Some, None, Result, Ok, Err, option_to_list, if◌then◌else◌, is_some, unwrap_or, nat_le}
 use Rattle.std.specs.FinMap.{insert, remove, get}
@@ -37,16 +37,16 @@ use Rattle.reg_core.proofs.IdLemmas.{schema_within, schema_last, schema_grown, i
 use Rattle.reg_core.proofs.DeletionLemmas.{altered_was, removed_was, deleted_were, row_to_soft_delete-got, subject_deleted_was, remove_subject-were}
 use Rattle.reg_core.proofs.RowLemmas.{get_inserted}
 
--- ---- what a registry is made of
+-- ---- the parts of a registry
 
--- where a version's schemas are among more, it is one among these
+-- a valid version stays valid with more schemas
 more-IsRow : (schemas more : Schemas) (key : RowKey) (version : registry.Version) → IsRow schemas key version → IsRow (schemas ++ more) key version
 more-IsRow schemas more key version h =
     let longer = length-append schemas more in
     let there = h.has_schema in
     record { within = h.within; has_schema = (there.0, omega arith) }
 
--- a registry with another schema, whose identity text it doesn't have, is one
+-- adding a schema with a new identity text preserves the invariant
 pub grown-IsRegistry : (g : Registry) (new : List NodeView) → IsRegistry g → IsSchema new → length g.schemas + 1 ≤ max_number → id_of g.schemas (identity new) ≡ None → IsRegistry (record g { schemas = g.schemas ++ new ∷ [] })
 grown-IsRegistry g new ok schema few unknown = record {
   schemas = All-push IsSchema g.schemas new ok.schemas schema;
@@ -61,7 +61,7 @@ grown-IsRegistry g new ok schema few unknown = record {
     both i j one other same (inr here) (inl there) = absurd (id_of-none g.schemas (identity new) unknown j other there (sym same ∙ ap identity here.1))
     both i j one other same (inr here) (inr there) = here.0 ∙ sym there.0
 
--- a registry with another version, whose schema it has, is one
+-- adding a version whose schema is registered preserves the invariant
 pub inserted-IsRegistry : (g : Registry) (key : RowKey) (version : registry.Version) → IsRegistry g → IsRow g.schemas key version → IsRegistry (record g { rows = insert g.rows key version })
 inserted-IsRegistry g key version ok row = record {
   schemas = ok.schemas;
@@ -70,15 +70,15 @@ inserted-IsRegistry g key version ok row = record {
   rows = get_inserted g.rows key version (IsRow g.schemas) row ok.rows;
 }
 
--- a registry with other levels is one
+-- changing levels preserves the invariant
 pub levels-IsRegistry : (g : Registry) (global : Level) (own : registry.OwnLevels) → IsRegistry g → IsRegistry (record g { global = global; own = own })
 levels-IsRegistry g global own ok = record { schemas = ok.schemas; few = ok.few; apart = ok.apart; rows = ok.rows }
 
--- so is one with other modes
+-- changing modes preserves the invariant
 modes-IsRegistry : (g : Registry) (global : Mode) (own : registry.OwnModes) → IsRegistry g → IsRegistry (record g { global_mode = global; own_modes = own })
 modes-IsRegistry g global own ok = record { schemas = ok.schemas; few = ok.few; apart = ok.apart; rows = ok.rows }
 
--- a registry whose versions are all among those of another, soft-deleted or not, is one
+-- removing or soft-deleting versions preserves the invariant
 pub fewer-IsRegistry : (g : Registry) (rows : registry.Rows) (own : registry.OwnLevels) → IsRegistry g → ((key : RowKey) (version : registry.Version) → get rows key ≡ Some version → IsRetained g.rows key version) → IsRegistry (record g { rows = rows; own = own })
 fewer-IsRegistry g rows own ok were = record {
   schemas = ok.schemas;
@@ -96,14 +96,14 @@ fewer-IsRegistry g rows own ok were = record {
 pub identity_denoted : (nodes : List NodeView) → IsSchema nodes → denoted_nodes (identity nodes) ≡ Some nodes
 identity_denoted nodes schema = denotes_computes (identity nodes) nodes (identity_text_denotes nodes schema)
 
--- so does that of each id's schema
+-- the identity text of each id's schema denotes it
 pub schema_at-denoted : (schemas : Schemas) → All IsSchema schemas → (id : ℕ) (nodes : List NodeView) → schema_at schemas id ≡ Some nodes → denoted_nodes (identity nodes) ≡ Some nodes
 schema_at-denoted schemas are zero nodes e = absurd (none-some nodes e)
 schema_at-denoted schemas are (suc n) nodes e = identity_denoted nodes (subst IsSchema (get_or_from_slice_get schemas n nodes nodes e) (are n nodes (slice_get_within schemas n nodes e)))
 
 -- ---- changes
 
--- a change that a registry can have leaves a registry
+-- a change that can be applied preserves the invariant
 pub change_fits-IsRegistry : (change : Change) (g : Registry) → IsRegistry g → ChangeFits change g → IsRegistry (after_change change g)
 change_fits-IsRegistry (change.SetGlobal level) g ok fits = levels-IsRegistry g level g.own ok
 change_fits-IsRegistry (change.SetLevel subject level) g ok fits = levels-IsRegistry g g.global (own_with g.own subject level) ok
@@ -120,24 +120,24 @@ change_fits-IsRegistry (change.SetMode subject mode) g ok fits = modes-IsRegistr
 change_fits-IsRegistry (change.DropMode subject) g ok fits = modes-IsRegistry g g.global_mode (own_without g.own_modes subject) ok
 change_fits-IsRegistry (change.AddRow row evidence) g ok fits = inserted-IsRegistry g row.0 row.1 ok fits.0.fits
 
--- and so do changes, each of which it can have at its turn
+-- changes that can be applied in order preserve the invariant
 pub changes_fit-IsRegistry : (changes : List Change) (g : Registry) → IsRegistry g → ChangesFit changes g → IsRegistry (after_changes changes g)
 changes_fit-IsRegistry [] g ok fits = ok
 changes_fit-IsRegistry (change ∷ changes) g ok fits = changes_fit-IsRegistry changes (after_change change g) (change_fits-IsRegistry change g ok fits.0) fits.1
 
 -- ---- commands
 
--- the schema of a body is one
+-- the text denotes its supported schema
 pub supported_schema-denotes : (text : List ℕ) (supported : Bool) (new : List NodeView) → supported_schema text supported ≡ Some new → TextDenotes text new
 unfolding supported_schema
 supported_schema-denotes text true new e = computed_denotes text new e
 supported_schema-denotes text false new e = absurd (none-some new e)
 
--- the schemas with a new one, where its identity text has this id or none
+-- the schemas with a new one, given the id of its identity text
 abbrev schemas_by : Schemas → List NodeView → Option ℕ → Schemas
 schemas_by schemas new known = if is_some known then schemas else schemas ++ new ∷ []
 
--- the schemas with a new one have it at its id
+-- in the schemas with a new one, its id has the new schema
 schema_with : (g : Registry) (new : List NodeView) → IsRegistry g → IsSchema new → (known : Option ℕ) → id_of g.schemas (identity new) ≡ known → schema_at (schemas_by g.schemas new known) (unwrap_or known (length g.schemas + 1)) ≡ Some new
 schema_with g new ok schema None e = schema_last g.schemas new
 schema_with g new ok schema (Some id) e =
@@ -147,7 +147,7 @@ schema_with g new ok schema (Some id) e =
 pub with_version-has_schema : (g : Registry) (subject : List ℕ) (new : List NodeView) → IsRegistry g → IsSchema new → schema_at (with_version g subject new).schemas (id_for g.schemas new) ≡ Some new
 with_version-has_schema g subject new ok schema = schema_with g new ok schema (id_of g.schemas (identity new)) refl
 
--- the id that goes with the schema is within those with it
+-- the new schema's id is within the ids of the schemas with it
 id_within : (schemas : Schemas) (new : List NodeView) (known : Option ℕ) → id_of schemas (identity new) ≡ known → (0 < unwrap_or known (length schemas + 1)) × (unwrap_or known (length schemas + 1) ≤ length (schemas_by schemas new known))
 id_within schemas new None e = let longer = length-append schemas (new ∷ []) in (omega arith, omega arith)
 id_within schemas new (Some id) e = let (nodes, is, same) = id_of-schema schemas (identity new) id e in schema_within schemas id nodes is
@@ -157,7 +157,7 @@ with_schema-IsRegistry : (g : Registry) (new : List NodeView) (known : Option �
 with_schema-IsRegistry g new None e ok schema id = grown-IsRegistry g new ok schema id e
 with_schema-IsRegistry g new (Some known) e ok schema id = ok
 
--- a registry with the schema as its subject's next version is one, where numbers are left
+-- adding the schema as the subject's next version preserves the invariant if numbers are left
 pub with_version-IsRegistry : (g : Registry) (subject : List ℕ) (new : List NodeView) → IsRegistry g → IsSchema new → next_number (rows_of g subject) ≤ max_number → id_for g.schemas new ≤ max_number → IsRegistry (with_version g subject new)
 with_version-IsRegistry g subject new ok schema number id =
     let known = id_of g.schemas (identity new) in
@@ -180,7 +180,7 @@ register-IsRegistry : (g : Registry) (subject text : List ℕ) (supported : Bool
 register-IsRegistry g subject text supported None e ok = ok
 register-IsRegistry g subject text supported (Some new) e ok = registered-IsRegistry g subject new ok (text, supported_schema-denotes text supported new e) _ _ _ refl
 
--- a registry with a value is one
+-- setting a value preserves the invariant
 set-IsRegistry : {A : Type 0} (s : Setting A) (g : Registry) (subject : Option (List ℕ)) → ((value : A) → IsRegistry (s.put g subject value)) → (o : Option A) → IsRegistry g → IsRegistry (set s g subject o).0
 set-IsRegistry s g subject puts None ok = ok
 set-IsRegistry s g subject puts (Some value) ok = puts value
@@ -220,7 +220,7 @@ delete_subject-IsRegistry : (g : Registry) (subject : List ℕ) (permanent : Boo
 delete_subject-IsRegistry g subject false ok = soft_delete-IsRegistry g subject (rows_of g subject) (live_rows (rows_of g subject)) ok
 delete_subject-IsRegistry g subject true ok = remove_subject-IsRegistry g subject (rows_of g subject) (live_rows (rows_of g subject)) ok
 
--- a registry is one after each command that is carried out
+-- each permitted command preserves the invariant
 pub permitted_step-IsRegistry : (g : Registry) (c : Command) → IsRegistry g → IsRegistry (permitted_step g c).0
 unfolding permitted_step
 permitted_step-IsRegistry g (SetGlobal text) ok = set-IsRegistry level_setting g None (with_level-IsRegistry g None ok) (level_of text) ok
@@ -245,18 +245,18 @@ permitted_step-IsRegistry g (SetMode subject text) ok = set-IsRegistry mode_sett
 permitted_step-IsRegistry g GlobalMode ok = ok
 permitted_step-IsRegistry g (ModeOf subject default) ok = ok
 
--- and after each command
+-- each command preserves the invariant
 pub step-IsRegistry : (g : Registry) (c : Command) → IsRegistry g → IsRegistry (step g c).0
 step-IsRegistry g c ok = step-either (λ after. IsRegistry after.0) g c ok (permitted_step-IsRegistry g c ok)
 
--- and after any number of them
+-- any number of commands preserves the invariant
 pub run_commands-IsRegistry : (g : Registry) (commands : List Command) → IsRegistry g → IsRegistry (run_commands g commands)
 run_commands-IsRegistry g [] ok = ok
 run_commands-IsRegistry g (command ∷ commands) ok = run_commands-IsRegistry (step g command).0 commands (step-IsRegistry g command ok)
 
 -- ---- ids of a registry's schemas
 
--- each schema of a registry has the id at which it stands
+-- the id of each schema is its position
 pub schema_at-id_of : (g : Registry) → IsRegistry g → (id : ℕ) (nodes : List NodeView) → schema_at g.schemas id ≡ Some nodes → id_of g.schemas (identity nodes) ≡ Some id
 schema_at-id_of g ok id nodes e = by (id_of g.schemas (identity nodes)) refl
   where

@@ -1,4 +1,4 @@
--- Versions: which are found, and which a subject has.
+-- Lemmas on versions: lookups by key, and the versions of a subject.
 use Rattle.std.proofs.Common.{◌≡◌, ℕ, ◌<◌, ◌≤◌, List, [], ◌∷◌, map, get_or, true≢false, Bool, true, false, cond, T, ◌&&◌, refl, sym, ap, subst, ◌∙◌, Ordering, Less, Equal, Greater, arith}
 use Rattle.std.specs.Prelude.{All, Option, Some, None, not, filter, fold, max, bytes_eq, ◌||◌}
 use Rattle.std.specs.Cmp.{IsTotalOrder}
@@ -18,7 +18,7 @@ use Rattle.reg_core.proofs.IdLemmas.{schema_there, text_there}
 
 -- ---- lists
 
--- what holds of each of a mapped list's members holds of what they came from
+-- if `P` is true of each `f x`, then `P (f x)` is true for each `x`
 pub All-mapped : {X Y : Type 0} (P : Y → Type 0) (f : X → Y) (xs : List X) → All P (map f xs) → All (λ x. P (f x)) xs
 All-mapped P f [] all = All-nil (λ x. P (f x))
 All-mapped P f (x ∷ xs) all = All-cons (λ y. P (f y)) x xs (All-head P (f x) (map f xs) all) (All-mapped P f xs (All-tail P (f x) (map f xs) all))
@@ -59,7 +59,7 @@ module _ {K V : Type 0} (R : K → K → Ordering) (total : IsTotalOrder R) wher
       by Equal is h rest = let key = same k x.0 is in let value = same_Some x.1 v h in (0, omega arith, λ i. (sym key i, value i))
       by Greater is h rest = Contains-append_right (x ∷ []) es (k, v) (rest h)
 
-  -- what a map has at a key is one of its entries
+  -- the value at a key, with the key, is one of the map's entries
   pub got_entry : (m : FinMap R V) (k : K) (v : V) → IsAntisymmetric R → get m k ≡ Some v → Contains (entries m) (k, v)
   got_entry m k v same e = find_entry (entries m) k v same (sym (get-entries m k) ∙ e)
 
@@ -69,15 +69,15 @@ module _ {K V : Type 0} (R : K → K → Ordering) (total : IsTotalOrder R) wher
 
 -- ---- versions by subject and number
 
--- versions stand in a total order
+-- versions have a total order
 pub row_order : IsTotalOrder row_cmp
 row_order = then_total (on_total (λ (key : RowKey). key.0) nat_list_cmp_total) (on_total (λ (key : RowKey). key.1) nat_cmp_total)
 
--- and only equal keys tie in it
+-- keys that compare equal are equal
 pub row_keys_apart : IsAntisymmetric row_cmp
 row_keys_apart = exact_pairs _ _ exact_bytes exact_unsigned
 
--- what is found once a version is inserted is that version at its key, or was found before
+-- after an insertion, each version is the inserted one or was there before
 pub get_inserted : (rows : Rows) (key : RowKey) (version : Version) (P : RowKey → Version → Type 0) → P key version → ((k : RowKey) (v : Version) → get rows k ≡ Some v → P k v)
     → (k : RowKey) (v : Version) → get (insert rows key version) k ≡ Some v → P k v
 get_inserted rows key version P here others k v e = by (row_cmp k key) refl (sym (get-insert row_order rows key version k) ∙ e)
@@ -93,28 +93,28 @@ get_inserted rows key version P here others k v e = by (row_cmp k key) refl (sym
 pub row_schema : (schemas : Schemas) (key : RowKey) (version : Version) → IsRow schemas key version → (nodes : List NodeView) × (schema_at schemas version.id ≡ Some nodes)
 row_schema schemas key version h = schema_there schemas version.id h.has_schema.0 h.has_schema.1
 
--- and so a text
+-- a version's id has a text
 pub row_text : (schemas : Schemas) (key : RowKey) (version : Version) → IsRow schemas key version → (text : List ℕ) × (text_at schemas version.id ≡ Some text)
 row_text schemas key version h = text_there schemas version.id h.has_schema.0 h.has_schema.1
 
--- each version has its number within the limits and a schema
+-- each version is valid
 pub each-IsRow : (g : Registry) → IsRegistry g → All (λ (row : Row). IsRow g.schemas row.0 row.1) (entries g.rows)
 each-IsRow g ok = λ k d l. ok.rows _ _ (each_got row_cmp row_order g.rows k d l)
 
--- so that each version has a schema
+-- each version has a schema
 pub each-schema : (g : Registry) → IsRegistry g → All (λ (row : Row). (nodes : List NodeView) × (schema_at g.schemas row.1.id ≡ Some nodes)) (entries g.rows)
 each-schema g ok = All-weaker (λ (row : Row). IsRow g.schemas row.0 row.1) (λ (row : Row). (nodes : List NodeView) × (schema_at g.schemas row.1.id ≡ Some nodes)) (λ row h. row_schema g.schemas row.0 row.1 h) (entries g.rows) (each-IsRow g ok)
 
--- each version of a subject has its number within the limits and a schema
+-- each version of a subject is valid
 pub rows_of-IsRow : (g : Registry) → IsRegistry g → (subject : List ℕ) → All (λ (row : Row). IsRow g.schemas row.0 row.1) (rows_of g subject)
 rows_of-IsRow g ok subject = All-filter (λ (row : Row). bytes_eq row.0.0 subject) (λ (row : Row). IsRow g.schemas row.0 row.1) (entries g.rows) (each-IsRow g ok)
 
--- and is that subject's
+-- each version of a subject has that subject in its key
 pub rows_of-subject : (g : Registry) (subject : List ℕ) → All (λ (row : Row). row.0.0 ≡ subject) (rows_of g subject)
 rows_of-subject g subject =
     All-weaker (λ (row : Row). bytes_eq row.0.0 subject ≡ true) (λ (row : Row). row.0.0 ≡ subject) (λ row h. (bytes_eq-Decides row.0.0 subject).0 h) (rows_of g subject) (filter_passes (λ (row : Row). bytes_eq row.0.0 subject) (entries g.rows))
 
--- and is found at its key
+-- each version of a subject is the registry's version at its key
 pub rows_of-got : (g : Registry) (subject : List ℕ) → All (λ (row : Row). get g.rows row.0 ≡ Some row.1) (rows_of g subject)
 rows_of-got g subject = All-filter (λ (row : Row). bytes_eq row.0.0 subject) (λ (row : Row). get g.rows row.0 ≡ Some row.1) (entries g.rows) (each_got row_cmp row_order g.rows)
 
@@ -134,7 +134,7 @@ filter_keeps p xs x there passes = All-contains (λ y. p y ≡ true → Contains
     each p [] = All-nil (λ y. p y ≡ true → Contains [] y)
     each p (x ∷ xs) = All-cons (λ y. p y ≡ true → Contains (filter p (x ∷ xs)) y) x xs (one p x xs (p x) refl) (λ k d l h. rest p x _ xs (p x) (each p xs k d l h))
 
--- a version that is found is among those of its subject
+-- a version of the registry is one of its subject's versions
 pub got-rows_of : (g : Registry) (subject : List ℕ) (number : ℕ) (version : Version) → get g.rows (subject, number) ≡ Some version → Contains (rows_of g subject) ((subject, number), version)
 got-rows_of g subject number version e =
     filter_keeps (λ (row : Row). bytes_eq row.0.0 subject) (entries g.rows) ((subject, number), version) (got_entry row_cmp row_order g.rows (subject, number) version row_keys_apart e) ((bytes_eq-Decides subject subject).1 refl)
@@ -149,11 +149,11 @@ greatest_of (row ∷ rows) most =
     let grows = greatest_grows rows (max most row.0.1) in
     All-cons (λ (r : Row). r.0.1 ≤ fold (λ greatest (x : Row). max greatest x.0.1) (max most row.0.1) rows) row rows (omega arith) (greatest_of rows (max most row.0.1))
 
--- the next number is greater than each
+-- the next number is greater than each version's number
 pub below_next_number : (rows : List Row) → All (λ (row : Row). row.0.1 < next_number rows) rows
 below_next_number rows = All-weaker (λ (row : Row). row.0.1 ≤ fold (λ greatest (r : Row). max greatest r.0.1) 0 rows) (λ (row : Row). row.0.1 < next_number rows) (λ row h. omega arith) rows (greatest_of rows 0)
 
--- and no version of the subject has it
+-- no version of the subject has the next number
 pub next_number-absent : (g : Registry) (subject : List ℕ) → get g.rows (subject, next_number (rows_of g subject)) ≡ None
 next_number-absent g subject = by (get g.rows (subject, next_number (rows_of g subject))) refl
   where
@@ -164,10 +164,10 @@ next_number-absent g subject = by (get g.rows (subject, next_number (rows_of g s
         let below : next_number rows < next_number rows = All-contains (λ (row : Row). row.0.1 < next_number rows) rows ((subject, next_number rows), version) (below_next_number rows) (got-rows_of g subject (next_number rows) version e) in
         absurd (omega arith)
 
--- what holds of each version holds of each that isn't soft-deleted
+-- if `P` is true of each version, it is true of each live one
 pub All-live_rows : (P : Row → Type 0) (rows : List Row) → All P rows → All P (live_rows rows)
 All-live_rows P rows h = All-filter (λ (row : Row). not row.1.deleted) P rows h
 
--- and of each that is shown
+-- if `P` is true of each version, it is true of each shown one
 pub All-shown_rows : (P : Row → Type 0) (deleted : Bool) (rows : List Row) → All P rows → All P (shown_rows deleted rows)
 All-shown_rows P deleted rows h = All-filter (λ (row : Row). deleted || not row.1.deleted) P rows h

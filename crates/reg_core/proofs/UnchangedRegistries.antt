@@ -1,4 +1,4 @@
--- A read leaves the registry as it is.
+-- A read leaves the registry unchanged.
 use Rattle.std.proofs.Common.{◌≡◌, false, refl, true≢false}
 use Rattle.reg_core.specs.declared.command.Command.{Command}
 use Rattle.reg_core.specs.declared.command.Command.TheVariants.{SetGlobal, SetLevel, Register, DeleteVersion, DeleteSubject, Global, LevelOf, Lookup, Subjects, Versions, Version, Text, ById, VersionsOfId, Types, Check, CheckAll, SetGlobalMode, SetMode, GlobalMode, ModeOf}
@@ -6,7 +6,7 @@ use Rattle.reg_core.specs.Registry.{Registry}
 use Rattle.reg_core.specs.Machine.{is_write, permitted_step, step}
 use Rattle.reg_core.proofs.ModeLemmas.{step-either}
 
--- a read that is carried out leaves the registry
+-- a permitted read leaves the registry unchanged
 pub permitted_step-read : (g : Registry) (c : Command) → is_write c ≡ false → (permitted_step g c).0 ≡ g
 unfolding permitted_step
 permitted_step-read g (SetGlobal text) e = absurd (true≢false e)
@@ -31,6 +31,6 @@ permitted_step-read g (SetMode subject text) e = absurd (true≢false e)
 permitted_step-read g GlobalMode e = refl
 permitted_step-read g (ModeOf subject default) e = refl
 
--- and so does each read
+-- each read leaves the registry unchanged
 pub step-read : (g : Registry) (c : Command) → is_write c ≡ false → (step g c).0 ≡ g
 step-read g c e = step-either (λ after. after.0 ≡ g) g c refl (permitted_step-read g c e)

@@ -1,4 +1,4 @@
--- The computed verdict of a level is that of the rules.
+-- The test `is_admitted` decides `Admits`.
 use Rattle.std.proofs.Common.{List, refl}
 use Rattle.std.specs.Prelude.{Decides, IsTrue, ◌↔◌}
 use Rattle.std.specs.List.{list_all}

@@ -1,4 +1,4 @@
--- Verdicts on the versions that a level names, by the texts of a view and by their schemas.
+-- The verdict on the versions that a level compares with is the same by the texts of a view and by their schemas.
 use Rattle.std.proofs.Common.{◌≡◌, ℕ, List, [], ◌∷◌, Bool, Option, Some, refl, sym, ◌∙◌, ap, subst, map}
 use Rattle.std.specs.Prelude.{All, bytes_eq, unwrap_or, option_map}
 use Rattle.std.specs.List.{list_all}
@@ -29,7 +29,7 @@ pub read_compatible : (view : View) (level : Level) (new : List NodeView) (row :
     → is_compatible_in_view view level new row ≡ is_compatible level earlier new
 read_compatible view level new row text earlier there is = rw (there, is) refl
 
--- the verdict on versions that are known by other values
+-- the verdict on versions that are given as images of other values
 pub admitted_named : {X : Type 0} (f : X → Row) (view : View) (level : Level) (xs : List X) (new : List NodeView) → is_admitted_in_view view level (map f xs) new ≡ list_all (λ x. is_compatible_in_view view level new (f x)) (named_versions level xs)
 admitted_named f view level xs new = ap (list_all (is_compatible_in_view view level new)) (named-map f level xs) ∙ list_all-map (is_compatible_in_view view level new) f (named_versions level xs)
 
@@ -52,7 +52,7 @@ HasSchema schemas row = (nodes : List NodeView) × (schema_at schemas row.1.id �
 abbrev pub ShowsText : View → Schemas → Row → Type 0
 ShowsText view schemas row = view_text view row.1.id ≡ text_at schemas row.1.id
 
--- what holds of each version holds of those that a level names
+-- if `P` is true of each version, it is true of those that a level compares with
 pub All-named : {X : Type 0} (P : X → Type 0) (level : Level) (xs : List X) → All P xs → All P (named_versions level xs)
 All-named P Backward xs h = All-latest P xs h
 All-named P BackwardTransitive xs h = h
@@ -62,7 +62,6 @@ All-named P Full xs h = All-latest P xs h
 All-named P FullTransitive xs h = h
 All-named P Off xs h = All-nil P
 
--- the schema of a version that has one
 pub schema_or : Schemas → Row → List NodeView
 schema_or schemas row = unwrap_or (schema_at schemas row.1.id) []
 
@@ -93,7 +92,7 @@ row_compatible view schemas ok level new row (nodes, e) shows =
     let is : nodes ≡ unwrap_or (schema_at schemas row.1.id) [] = sym (ap (λ (o : Option (List NodeView)). unwrap_or o []) e) in
     read_compatible view level new row (identity nodes) nodes text (schema_at-denoted schemas ok row.1.id nodes e) ∙ ap (λ (x : List NodeView). is_compatible level x new) is
 
--- The verdict on versions by the texts of a view is the one by their schemas, where the view has the texts of those that the level names
+-- if the view has the texts of the versions that the level compares with, the verdict by texts is the verdict by schemas
 pub admitted_shown : (view : View) (schemas : Schemas) → All IsSchema schemas → (level : Level) (rows : List Row) (new : List NodeView) → All (HasSchema schemas) rows → All (ShowsText view schemas) (named_versions level rows)
     → is_admitted_in_view view level rows new ≡ is_admitted_after schemas level rows new
 unfolding is_admitted
@@ -106,13 +105,13 @@ admitted_shown view schemas ok level rows new has shows =
     ∙ (ap (list_all p) (sym (named-map (schema_or schemas) level rows))
     ∙ ap (λ (live : List (List NodeView)). list_all p (named_versions level live)) (sym (schemas_mapped schemas rows has))))
 
--- the same, where the view has the versions that the level names, and perhaps no others
+-- the same if the view has only the versions that the level compares with
 pub admitted_as : (view : View) (schemas : Schemas) → All IsSchema schemas → (level : Level) (seen rows : List Row) (new : List NodeView) → named_versions level seen ≡ named_versions level rows → All (HasSchema schemas) rows
     → All (ShowsText view schemas) (named_versions level seen) → is_admitted_in_view view level seen new ≡ is_admitted_after schemas level rows new
 admitted_as view schemas ok level seen rows new named has shows =
     ap (list_all (is_compatible_in_view view level new)) named ∙ admitted_shown view schemas ok level rows new has (subst (All (ShowsText view schemas)) named shows)
 
--- the verdict at the level in force and the versions that are known to be these
+-- the verdict for an equal level and equal versions is equal
 pub verdict_of : (view : View) (new : List NodeView) (level : Level) (rows others : List Row) → level ≡ level_of_view view → rows ≡ others → (b : Bool) → b ≡ is_admitted_in_view view level rows new → b ≡ is_admitted_in_view view (level_of_view view) others new
 verdict_of view new level rows others l r b e = e ∙ (rw (l, r) refl)
 

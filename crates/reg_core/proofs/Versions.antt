@@ -1,4 +1,4 @@
--- The versions that a level names, and the schemas that it admits.
+-- The versions that a level compares with, and the schemas that it admits.
 use Rattle.std.proofs.Common.{◌≡◌, ℕ, ◌≤◌, ◌-◌, List, [], ◌∷◌, map, length, take, drop, refl, sym, subst, ◌∙◌, arith}
 use Rattle.std.specs.Prelude.{All, ◌↔◌}
 use Rattle.std.proofs.lemmas.List.{take_all, length-drop, length-map}
@@ -31,7 +31,7 @@ latest-map f [] = refl
 latest-map f (x ∷ []) = refl
 latest-map f (x ∷ y ∷ ys) = latest-map f (y ∷ ys)
 
--- which versions are named doesn't depend on what they hold
+-- `named_versions` chooses by position only, so it commutes with `map`
 pub named-map : {X Y : Type 0} (f : X → Y) (level : Level) (xs : List X) → named_versions level (map f xs) ≡ map f (named_versions level xs)
 named-map f Backward xs = latest-map f xs
 named-map f BackwardTransitive xs = refl
@@ -44,7 +44,7 @@ named-map f Off xs = refl
 all_of : {X Y : Type 0} (P : Y → Type 0) (f : X → Y) (xs : List X) → All P (map f xs) → All (λ x. P (f x)) xs
 all_of P f xs h k d l = subst P (get_or-map f xs k d) (h k (f d) (rw length-map l))
 
--- a schema is admitted exactly if each version that is named is compatible with it
+-- a level admits a schema exactly if each version that it compares with is compatible with the schema
 pub admits_named : (level : Level) (earlier : List (List Node)) (new : List NodeView) → All (λ s. Compatible level (nodes_view s) new) (named_versions level earlier) ↔ Admits level (map nodes_view earlier) new
 admits_named level earlier new =
     let P = λ (e : List NodeView). Compatible level e new in

@@ -1,4 +1,4 @@
--- What is answered from a view is what the registry answers.
+-- Reads give the same reply from a view as from the registry.
 use Rattle.std.proofs.Common.{◌≡◌, ◌≢◌, ◌∙◌, ℕ, ◌==◌, Bool, true, false, List, [], ◌∷◌, map, IsTrue, refl, ap, sym, subst, arith, eqb-true}
 use Rattle.std.specs.Prelude.{All, Option, None, Some, Result, Ok, Err, if◌then◌else◌}
 use Rattle.std.specs.FinMap.{entries}
@@ -62,17 +62,17 @@ same_rows_of_id : (one other : Texts) (id : ℕ) (rows : List Row) → HaveId id
 same_rows_of_id one other id [] ids same = refl
 same_rows_of_id one other id (row ∷ rows) ids same = ap (text_reply schema_body) (text_of_last one other id row rows ids same)
 
--- the same, where the ids of the versions are told alone
+-- the same for versions with the same ids
 agree_ids : (one other : Texts) (seen rows : List Row) → map (λ (row : Row). row.1.id) seen ≡ map (λ (row : Row). row.1.id) rows → Agree one other seen → Agree one other rows
 agree_ids one other seen rows ids same =
     All-mapped (λ id. one id ≡ other id) (λ (row : Row). row.1.id) rows (subst (All (λ id. one id ≡ other id)) ids (All-map (λ id. one id ≡ other id) (λ (row : Row). row.1.id) seen same))
 
--- a version is the last of some, unless there is none
+-- a list that isn't empty has a last version
 none_last : (row : Row) (rows : List Row) → map (λ (r : Row). r.1.id) (latest (row ∷ rows)) ≢ []
 none_last row [] h = cc
 none_last row (next ∷ rows) h = none_last next rows h
 
--- whether there is a version is told by the last one's id
+-- the id of the last version suffices to reply with an id's schema
 same_last : (texts : Texts) (id : ℕ) (seen rows : List Row) → map (λ (row : Row). row.1.id) (latest seen) ≡ map (λ (row : Row). row.1.id) (latest rows) → id_reply texts (Some id) seen ≡ id_reply texts (Some id) rows
 same_last texts id [] [] ids = refl
 same_last texts id [] (row ∷ rows) ids = absurd (none_last row rows (sym ids))
@@ -88,7 +88,7 @@ same_id one other (Some id) all seen ids same =
 
 -- ---- commands
 
--- what is told of a command is told of what it is
+-- a reply for a command is the reply for an equal command
 pub at_command : (g : Registry) (schema : Option (List NodeView)) (view : View) (told : ReplyView) (command variant : Command) → command ≡ variant
     → (IsDecisionInput g variant schema view → told ≡ (permitted_step g variant).1) → IsDecisionInput g command schema view → told ≡ (permitted_step g command).1
 at_command g schema view told command variant is tells input =
@@ -112,12 +112,12 @@ pub told_id : (g : Registry) (view : View) (id : List ℕ) → IsViewOf view g (
 unfolding permitted_step
 told_id g view id shows = same_id (view_text view) (text_at g.schemas) (parse_id id) (entries g.rows) view.rows.items shows.rows shows.texts
 
--- a version that is looked up among some is told as among others where it is the same
+-- equal lookups give equal replies
 lookup_as : (texts : Texts) (schema : Option (List NodeView)) (known : Option ℕ) (seen rows : List Row) → lookup_row known seen ≡ lookup_row known rows → lookup_reply texts schema known seen ≡ lookup_reply texts schema known rows
 lookup_as texts None known seen rows same = refl
 lookup_as texts (Some nodes) known seen rows same = ap (version_reply texts) same
 
--- the id of the schema is looked at only where one is sent
+-- the id matters only if a schema is sent
 known_as : (texts : Texts) (text : List ℕ) (supported : Bool) (known own : Option ℕ) (rows : List Row) → (IsTrue supported → known ≡ own)
     → lookup_reply texts (supported_schema text supported) known rows ≡ lookup_reply texts (supported_schema text supported) own rows
 unfolding supported_schema
@@ -133,7 +133,7 @@ told_lookup g view schema subject text supported deleted sent shows =
     ∙ (lookup_as (text_at g.schemas) (supported_schema text supported) view.known (shown_rows deleted view.rows.items) (shown_rows deleted (rows_of g subject)) shows.rows
     ∙ known_as (text_at g.schemas) text supported view.known (known_id g.schemas (supported_schema text supported)) (shown_rows deleted (rows_of g subject)) shows.known))
 
--- a command takes the schema that it sends
+-- the used schema is the command's schema
 pub used_schema-sent : (c : Command) → used_schema c (command_schema c) ≡ command_schema c
 unfolding supported_schema
 used_schema-sent (SetGlobal level) = refl

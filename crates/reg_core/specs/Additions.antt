@@ -1,4 +1,4 @@
--- Each version that was accepted was admitted by its subject's level.
+-- A command adds a version only if the subject's level admits its schema.
 use Rattle.std.specs.Prelude.{◌≡◌, ◌⊎◌, ℕ, Bool, true, false, List, None, Some}
 use Rattle.std.specs.FinMap.{get}
 use Rattle.std.specs.List.{AllZip}
@@ -12,8 +12,8 @@ use Rattle.reg_core.specs.Rows.{rows_of, live_rows, next_number}
 use Rattle.reg_core.specs.RegisterCommands.{level_in}
 use Rattle.reg_core.specs.Machine.{step}
 
--- Schema Evolution and Compatibility, Compatibility Types: the text denotes a schema, the subject's live versions, in order of number, have these
--- schemas, and the subject's level admits the new one after them
+-- Schema Evolution and Compatibility, Compatibility Types: the text denotes `new`; the subject's live versions, in order of number, have
+-- the schemas `live`; and the subject's level admits `new` after them
 pub record WasAdmitted (g : Registry) (subject text : List ℕ) : Type 0 where
   pub new : List NodeView
   pub denotes : TextDenotes text new
@@ -21,8 +21,8 @@ pub record WasAdmitted (g : Registry) (subject text : List ℕ) : Type 0 where
   pub are : AllZip (λ row nodes. schema_at g.schemas row.1.id ≡ Some nodes) (live_rows (rows_of g subject)) live
   pub admits : Admits (level_in g subject) live new
 
--- Schema Registry API reference, POST /subjects/{subject}/versions: a command that adds a version registers a schema that the level admits. The
--- version is the subject's next one, where none stood; it has this schema in the registry after the command, and isn't soft-deleted.
+-- Schema Registry API reference, POST /subjects/{subject}/versions: the command added this version: it registered a schema that the level
+-- admits. The version has the subject's next number, which no version had. In the registry after the command it has this schema, and isn't soft-deleted.
 pub record IsAddition (g : Registry) (command : Command) (after : Registry) (key : RowKey) (version : Version) : Type 0 where
   pub subject : List ℕ
   pub text : List ℕ
@@ -34,17 +34,17 @@ pub record IsAddition (g : Registry) (command : Command) (after : Registry) (key
   pub has_schema : schema_at after.schemas version.id ≡ Some admitted.new
   pub live : version.deleted ≡ false
 
--- Schema Registry API reference, Subjects: the version stood among these under its key, with its schema; it is soft-deleted if it was
+-- Schema Registry API reference, Subjects: an earlier version had this key and the same id; if it was soft-deleted, so is this one
 pub record IsRetained (rows : Rows) (key : RowKey) (version : Version) : Type 0 where
   pub old : Version
   pub there : get rows key ≡ Some old
   pub same : version.id ≡ old.id
   pub stays_deleted : old.deleted ≡ true → version.deleted ≡ true
 
--- Schema Registry API reference, POST /subjects/{subject}/versions: each version of the second registry stood in the first, or the command added it
+-- Schema Registry API reference, POST /subjects/{subject}/versions: each version of the second registry was in the first, or the command added it
 abbrev pub OnlyAdditions : Registry → Command → Registry → Type 0
 OnlyAdditions g command after = (key : RowKey) (version : Version) → get after.rows key ≡ Some version → IsRetained g.rows key version ⊎ IsAddition g command after key version
 
--- so it is of a registry and the one after the command
+-- each version after the command was there before, or the command added it
 abbrev pub AddsAdmitted : Registry → Command → Type 0
 AddsAdmitted g command = OnlyAdditions g command (step g command).0

@@ -1,4 +1,4 @@
--- The JSON bodies of answers (RFC 8259), compact, with members in the order of their keys' bytes.
+-- The JSON bodies of replies (RFC 8259), compact, with members in the order of their keys' bytes.
 use Rattle.std.specs.Prelude.{ℕ, Bool, List, codes, map}
 use Rattle.serde_json.specs.Data.{Data, unsigned, boolean, number, string, array, object, member, no_members}
 use Rattle.serde_json.specs.View.{items_of}

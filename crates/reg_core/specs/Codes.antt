@@ -1,4 +1,4 @@
--- The codes of refusals and faults.
+-- The error codes of refusals and faults.
 use Rattle.std.specs.Prelude.{ℕ, ◌/◌, nat_lt, if◌then◌else◌, List, ◌++◌, codes, decimal}
 use Rattle.reg_core.specs.declared.code.Code.{Code}
 use Rattle.reg_core.specs.declared.code.Code.TheVariants.{MalformedRequest, NotFound, SubjectNotFound, VersionNotFound, SchemaNotFound, SubjectSoftDeleted, SubjectNotSoftDeleted, VersionSoftDeleted, VersionNotSoftDeleted, NoOwnLevel, NoOwnMode, MethodNotAllowed, Incompatible, BodyTooLarge, InvalidSchema, InvalidVersion, InvalidLevel, InvalidMode, NotPermitted, KeyReused, NoNumberLeft, CodingNotSupported, BackendFault}
@@ -30,15 +30,15 @@ number_of NoNumberLeft = 42292
 number_of CodingNotSupported = 501
 number_of BackendFault = 50001
 
--- RFC 9110, section 15: a status has three digits. These are the first three of a number that has three or five.
+-- RFC 9110, section 15: a status has three digits; here, the first three of a number of three or five digits
 abbrev pub first_three_digits : ℕ → ℕ
 first_three_digits n = if nat_lt n 1000 then n else n / 100
 
--- Schema Registry API reference, errors: a code begins with its HTTP status.
+-- Schema Registry API reference, errors: the HTTP status of a code, with which its number begins
 abbrev pub status_of : Code → ℕ
 status_of code = first_three_digits (number_of code)
 
--- this project's choice: the words that go with a code
+-- this project's choice: the message of a code
 abbrev pub message_of : Code → List ℕ
 message_of MalformedRequest = codes "Malformed request"
 message_of NotFound = codes "Not found"

@@ -1,4 +1,4 @@
--- The text by which a write is kept and compared (this project's choice).
+-- The text of a write, which is kept with its reply and compared on a retry (this project's choice).
 use Rattle.std.specs.Prelude.{ℕ, List, [], codes, Option, Some, None}
 use Rattle.std.specs.Option.{option_map_or}
 use Rattle.serde_json.specs.Data.{Data, boolean, string, array, item, no_items}
@@ -6,7 +6,7 @@ use Rattle.serde_json.specs.Written.{compact_text}
 use Rattle.reg_core.specs.declared.command.Command.{Command}
 use Rattle.reg_core.specs.declared.command.Command.TheVariants.{SetGlobal, SetLevel, Register, DeleteVersion, DeleteSubject, SetGlobalMode, SetMode}
 
--- a write as a JSON array (RFC 8259, sections 5 and 7) of its name and its members; a read is none
+-- a write as a JSON array (RFC 8259, sections 5 and 7) of its name and its members; a read has none
 abbrev pub command_data : Command → Option Data
 command_data (SetGlobal level) = Some (array (item (string (codes "set-global")) (item (string level) no_items)))
 command_data (SetLevel subject level) = Some (array (item (string (codes "set-level")) (item (string subject) (item (string level) no_items))))

@@ -6,12 +6,12 @@ use Rattle.avro_resolve.specs.Resolution.{Resolves}
 use Rattle.reg_core.specs.declared.level.Level.{Level}
 use Rattle.reg_core.specs.declared.level.Level.TheVariants.{Backward, BackwardTransitive, Forward, ForwardTransitive, Full, FullTransitive, Off}
 
--- the last version, if there is one
+-- a list of the last version, empty if there is none
 abbrev pub latest : {X : Type 0} → List X → List X
 latest live = option_to_list (last_or None live)
 
--- Schema Registry API reference, Compatibility; Schema Evolution and Compatibility, Compatibility Types: the live versions, in order of number,
--- that a level compares with: the latest, all for the transitive levels, none for NONE
+-- Schema Registry API reference, Compatibility; Schema Evolution and Compatibility, Compatibility Types: of the live versions, in order of
+-- number, those that a level compares a new schema with: the latest one, all for the transitive levels, none for NONE
 abbrev pub named_versions : {X : Type 0} → Level → List X → List X
 named_versions Backward live = latest live
 named_versions BackwardTransitive live = live

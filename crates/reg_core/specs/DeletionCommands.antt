@@ -16,12 +16,12 @@ use Rattle.reg_core.specs.Bodies.{number_body, numbers_body}
 
 -- ---- a version
 
--- this project's choice: a version that is soft-deleted already is refused with 40406
+-- this project's choice: rejects a version that is already soft-deleted with 40406
 abbrev pub require_live : Row → Result Row Code
 require_live row = if row.1.deleted then Err VersionSoftDeleted else Ok row
 
 -- Schema Registry API reference, DELETE /subjects/{subject}/versions/{version}, `permanent`: only a soft-deleted version can be removed.
--- (This project's choice: any other is refused with 40407.)
+-- (This project's choice: rejects any other with 40407.)
 abbrev pub require_deleted : Row → Result Row Code
 require_deleted row = if row.1.deleted then Ok row else Err VersionNotSoftDeleted
 
@@ -30,8 +30,8 @@ abbrev pub found_and : (Row → Result Row Code) → Result Row Code → Result 
 found_and test (Err code) = Err code
 found_and test (Ok row) = test row
 
--- Schema Registry API reference, DELETE /subjects/{subject}/versions/{version}: the version to soft-delete, or the code of the refusal; `latest` is the last
--- one that isn't soft-deleted. (This project's choice: if all are, `latest` is refused with 40404.)
+-- Schema Registry API reference, DELETE /subjects/{subject}/versions/{version}: the version to soft-delete, or the code of the refusal; `latest` is
+-- the last one that isn't soft-deleted. (This project's choice: if all are, rejects `latest` with 40404.)
 abbrev pub row_to_soft_delete : Option VersionChoice → List Row → Result Row Code
 row_to_soft_delete None rows = Err InvalidVersion
 row_to_soft_delete (Some choice) [] = Err SubjectNotFound
@@ -47,7 +47,7 @@ abbrev pub row_to_delete : Bool → Option VersionChoice → List Row → Result
 row_to_delete false choice rows = row_to_soft_delete choice rows
 row_to_delete true choice rows = row_to_remove choice rows
 
--- Schema Registry API reference, Subjects: the version as a soft deletion leaves it
+-- Schema Registry API reference, Subjects: the version, soft-deleted
 abbrev pub as_deleted : Version → Version
 as_deleted version = record version { deleted = true }
 
@@ -59,7 +59,7 @@ with_deleted g row = record g { rows = insert g.rows row.0 (as_deleted row.1) }
 abbrev pub without_row : Registry → Row → Registry
 without_row g row = record g { rows = remove g.rows row.0 }
 
--- the registry with this change of the version that was found, and the version's number as the reply
+-- changes the found version, and replies with its number; else replies with the code
 abbrev pub version_deleted : (Registry → Row → Registry) → Registry → Result Row Code → Registry × ReplyView
 version_deleted change g (Err code) = (g, fault code)
 version_deleted change g (Ok row) = (change g row, answer (number_body row.0.1))
@@ -77,15 +77,15 @@ abbrev pub deleted_of : List ℕ → Row → Row
 deleted_of subject row = (row.0, if bytes_eq row.0.0 subject then as_deleted row.1 else row.1)
 
 -- Schema Registry API reference, DELETE /subjects/{subject}: the registry with all of the subject's versions soft-deleted, and without its own level.
--- (This project's choice: the level goes with the soft deletion, and the subject keeps its own mode.)
+-- (This project's choice: the soft deletion removes the subject's own level, and keeps its own mode.)
 abbrev pub with_subject_deleted : Registry → List ℕ → Registry
 with_subject_deleted g subject = record g { rows = from_entries (map (deleted_of subject) (entries g.rows)); own = own_without g.own subject }
 
--- The same with `permanent`: the registry without the subject's versions. (This project's choice: its own level and its own mode go too.)
+-- The same with `permanent`: the registry without the subject's versions. (This project's choice: it removes its own level and its own mode too.)
 abbrev pub without_subject : Registry → List ℕ → Registry
 without_subject g subject = record g { rows = retain_keys g.rows (λ (key : RowKey). not (bytes_eq key.0 subject)); own = own_without g.own subject; own_modes = own_without g.own_modes subject }
 
--- the numbers of these versions
+-- the reply with the numbers of these versions
 abbrev pub numbers_reply : List Row → ReplyView
 numbers_reply rows = answer (numbers_body (map (λ (row : Row). row.0.1) rows))
 

@@ -17,6 +17,6 @@ level_text Off = codes "NONE"
 abbrev pub levels : List Level
 levels = Backward ∷ BackwardTransitive ∷ Forward ∷ ForwardTransitive ∷ Full ∷ FullTransitive ∷ Off ∷ []
 
--- The level that is spelt exactly so, if there is one. (This project's choice: no other case, and no blanks.)
+-- The level with exactly this spelling, or `None`. (This project's choice: upper case only, and no blanks.)
 abbrev pub level_of : List ℕ → Option Level
 level_of text = find (λ level. bytes_eq text (level_text level)) levels

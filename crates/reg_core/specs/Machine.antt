@@ -1,4 +1,4 @@
--- The plain registry: what each command does and answers, family by family. It knows nothing of retry keys and connections.
+-- The registry as an abstract machine: the effect and the reply of each command. It has no retry keys and no connections.
 use Rattle.std.specs.Prelude.{ℕ, Bool, true, false, List, [], ◌∷◌, unwrap_or, if◌then◌else◌, Option, None, Some, option_and_then}
 use Rattle.std.specs.FinMap.{entries}
 use Rattle.avro_nodes.specs.Nodes.{NodeView}
@@ -28,7 +28,7 @@ is_write (SetGlobalMode mode) = true
 is_write (SetMode subject mode) = true
 is_write _ = false
 
--- Schema Registry API reference, Subjects, Compatibility, Config and Mode: the subject that a command is about, if it is about one
+-- Schema Registry API reference, Subjects, Compatibility, Config and Mode: the subject of a command, or `None` if it has none
 abbrev pub subject_of : Command → Option (List ℕ)
 subject_of (SetGlobal level) = None
 subject_of (SetLevel subject level) = Some subject
@@ -52,7 +52,7 @@ subject_of (SetMode subject mode) = Some subject
 subject_of GlobalMode = None
 subject_of (ModeOf subject default_to_global) = Some subject
 
--- Schema Registry API reference, Subjects and Compatibility: whether a command sends a text of a type that is supported
+-- Schema Registry API reference, Subjects and Compatibility: whether a command sends a schema's text of a supported type
 abbrev pub sends_schema : Command → Bool
 sends_schema (Register subject text supported) = supported
 sends_schema (Lookup subject text supported deleted) = supported
@@ -60,7 +60,8 @@ sends_schema (Check subject version text supported) = supported
 sends_schema (CheckAll subject text supported) = supported
 sends_schema _ = false
 
--- Schema Registry API reference, Subjects and Compatibility: the schema that a command sends, if it sends one
+-- Schema Registry API reference, Subjects and Compatibility: the schema that a command's text denotes; `None` if the command sends no text, the
+-- text's type isn't supported, or the text denotes no schema
 abbrev pub command_schema : Command → Option (List NodeView)
 command_schema (Register subject text supported) = supported_schema text supported
 command_schema (Lookup subject text supported deleted) = supported_schema text supported
@@ -68,8 +69,8 @@ command_schema (Check subject version text supported) = supported_schema text su
 command_schema (CheckAll subject text supported) = supported_schema text supported
 command_schema _ = None
 
--- This project's choice: the mode that may forbid a command, if one may, by its subject's own mode and the global one. A write of a subject
--- looks at the subject's own mode, else at the global one; the global level is guarded by the global mode alone. No mode forbids to set a mode.
+-- This project's choice: the mode that may forbid a command, given its subject's own mode and the global mode. The subject's own mode, or else the
+-- global one, governs a write to the subject. Only the global mode governs the global level. No mode forbids a read, or setting a mode.
 abbrev pub governing_mode : Command → Option Mode → Mode → Option Mode
 governing_mode (SetGlobal level) own global = Some global
 governing_mode (SetLevel subject level) own global = Some (unwrap_or own global)
@@ -78,11 +79,11 @@ governing_mode (DeleteVersion subject version permanent) own global = Some (unwr
 governing_mode (DeleteSubject subject permanent) own global = Some (unwrap_or own global)
 governing_mode _ own global = None
 
--- this project's choice: the mode of a registry that may forbid a command, if one may
+-- this project's choice: the mode of a registry that may forbid a command, or `None` if no mode may
 abbrev pub mode_for : Registry → Command → Option Mode
 mode_for g command = governing_mode command (option_and_then g.own_modes (subject_of command)) g.global_mode
 
--- Schema Registry API reference: the registry after a command that is carried out, and the reply
+-- Schema Registry API reference: the registry after a command that no mode forbids, and the reply
 unfoldable pub permitted_step : Registry → Command → Registry × ReplyView
 permitted_step g (SetGlobal level) = set level_setting g None (level_of level)
 permitted_step g (SetLevel subject level) = set level_setting g (Some subject) (level_of level)
@@ -106,11 +107,11 @@ permitted_step g (SetMode subject mode) = set mode_setting g (Some subject) (mod
 permitted_step g GlobalMode = (g, setting_answer mode_setting g.global_mode)
 permitted_step g (ModeOf subject default_to_global) = (g, shown_reply mode_setting (own_or_global (g.own_modes subject) g.global_mode default_to_global))
 
--- Schema Registry API reference: the registry after a command, and the reply. (This project's choice: a mode forbids a command before anything else.)
+-- Schema Registry API reference: the registry after a command, and the reply. (This project's choice: the mode is checked before all else.)
 unfoldable pub step : Registry → Command → Registry × ReplyView
 step g command = if is_read_only (mode_for g command) then (g, fault NotPermitted) else permitted_step g command
 
--- this project's choice: the registry after the commands, one after the other
+-- this project's choice: the registry after the commands, in order
 abbrev pub run_commands : Registry → List Command → Registry
 run_commands g [] = g
 run_commands g (command ∷ commands) = run_commands (step g command).0 commands

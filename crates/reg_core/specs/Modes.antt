@@ -12,11 +12,11 @@ mode_text Readonly = codes "READONLY"
 abbrev pub modes : List Mode
 modes = Readwrite ∷ Readonly ∷ []
 
--- The mode that is spelt exactly so, if there is one. (This project's choice: no other case, and no blanks.)
+-- The mode with exactly this spelling, or `None`. (This project's choice: upper case only, and no blanks.)
 abbrev pub mode_of : List ℕ → Option Mode
 mode_of text = find (λ mode. bytes_eq text (mode_text mode)) modes
 
--- Schema Registry API reference, Mode: there is a mode, and it forbids writes
+-- Schema Registry API reference, Mode: whether the mode that may forbid a command does forbid it
 abbrev pub is_read_only : Option Mode → Bool
 is_read_only (Some Readonly) = true
 is_read_only (Some Readwrite) = false

@@ -12,7 +12,7 @@ use Rattle.reg_core.specs.Replies.{ReplyView, answer, fault}
 use Rattle.reg_core.specs.Rows.{rows_with, shown_rows, chosen_row}
 use Rattle.reg_core.specs.Bodies.{texts_body, numbers_body, subject_versions_body, version_body, schema_body}
 
--- Schema Registry API reference, GET /schemas/types: Avro alone
+-- Schema Registry API reference, GET /schemas/types: only Avro
 abbrev pub types_reply : ReplyView
 types_reply = answer (texts_body (codes "AVRO" ∷ []))
 
@@ -21,22 +21,22 @@ abbrev pub subjects_reply : List Row → ReplyView
 subjects_reply rows = answer (texts_body (dedup bytes_eq (map (λ (row : Row). row.0.0) rows)))
 
 -- Schema Registry API reference, GET /subjects/{subject}/versions: the numbers of these versions. (This project's choice: no list is empty. A subject
--- of which no version is shown is refused with 40401.)
+-- that shows no version is rejected with 40401.)
 abbrev pub versions_reply : List Row → ReplyView
 versions_reply [] = fault SubjectNotFound
 versions_reply (row ∷ rows) = answer (numbers_body (map (λ (r : Row). r.0.1) (row ∷ rows)))
 
--- Schema Registry API reference, Subjects: the version that is chosen among these, or the code of the refusal
+-- Schema Registry API reference, Subjects: the chosen one of these versions, or the code of the refusal
 abbrev pub found_row : Option VersionChoice → List Row → Result Row Code
 found_row None rows = Err InvalidVersion
 found_row (Some choice) [] = Err SubjectNotFound
 found_row (Some choice) (row ∷ rows) = ok_or (chosen_row choice (row ∷ rows)) VersionNotFound
 
--- the identity texts of ids, where they have one
+-- the identity texts, by id
 abbrev pub Texts : Type 0
 Texts = ℕ → Option (List ℕ)
 
--- an answer over the identity text of an id (a registry has one for each id of a version)
+-- the reply that shows an identity text, or a fault if there is none (a registry has one for each version's id)
 abbrev pub text_reply : (List ℕ → List ℕ) → Option (List ℕ) → ReplyView
 text_reply body None = fault SchemaNotFound
 text_reply body (Some text) = answer (body text)
@@ -46,25 +46,25 @@ abbrev pub version_reply : Texts → Result Row Code → ReplyView
 version_reply texts (Err code) = fault code
 version_reply texts (Ok row) = text_reply (version_body row) (texts row.1.id)
 
--- Schema Registry API reference, GET /subjects/{subject}/versions/{version}/schema: its schema's text alone
+-- Schema Registry API reference, GET /subjects/{subject}/versions/{version}/schema: only its schema's text
 abbrev pub version_text_reply : Texts → Result Row Code → ReplyView
 version_text_reply texts (Err code) = fault code
 version_text_reply texts (Ok row) = text_reply (λ text. text) (texts row.1.id)
 
--- Schema Registry API reference, GET /schemas/ids/{id}: the schema of an id that some version has. (This project's choice: a soft-deleted one counts.)
+-- Schema Registry API reference, GET /schemas/ids/{id}: the schema of an id that some version has. (This project's choice: soft-deleted versions count.)
 abbrev pub id_reply : Texts → Option ℕ → List Row → ReplyView
 id_reply texts None rows = fault SchemaNotFound
 id_reply texts (Some id) [] = fault SchemaNotFound
 id_reply texts (Some id) (row ∷ rows) = text_reply schema_body (texts id)
 
--- Schema Registry API reference, GET /schemas/ids/{id}/versions: those of the id's versions that are shown. (This project's choice: the list is empty if
--- all of them are soft-deleted and `deleted` isn't asked for; only an id that no version has is refused.)
+-- Schema Registry API reference, GET /schemas/ids/{id}/versions: the shown versions of the id. (This project's choice: the list is empty if all of
+-- them are soft-deleted and `deleted` is off; only an id that no version has is rejected.)
 abbrev pub id_versions_reply : Option ℕ → Bool → List Row → ReplyView
 id_versions_reply None deleted rows = fault SchemaNotFound
 id_versions_reply (Some id) deleted [] = fault SchemaNotFound
 id_versions_reply (Some id) deleted (row ∷ rows) = answer (subject_versions_body (shown_rows deleted (row ∷ rows)))
 
--- the versions with this id, if there is an id
+-- the versions with this id; none if there is no id
 abbrev pub rows_with_id : Option ℕ → List Row → List Row
 rows_with_id None rows = []
 rows_with_id (Some id) rows = rows_with id rows
@@ -74,7 +74,7 @@ abbrev pub lookup_row : Option ℕ → List Row → Result Row Code
 lookup_row id [] = Err SubjectNotFound
 lookup_row id (row ∷ rows) = ok_or (last_or None (rows_with_id id (row ∷ rows))) SchemaNotFound
 
--- Schema Registry API reference, POST /subjects/{subject}: the last of these versions that has the schema, which has this id if it has one
+-- Schema Registry API reference, POST /subjects/{subject}: the last of these versions that has the schema, whose id is `known`
 abbrev pub lookup_reply : Texts → Option (List NodeView) → Option ℕ → List Row → ReplyView
 lookup_reply texts None known rows = fault InvalidSchema
 lookup_reply texts (Some nodes) known rows = version_reply texts (lookup_row known rows)

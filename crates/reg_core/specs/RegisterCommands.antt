@@ -16,7 +16,7 @@ use Rattle.reg_core.specs.ReadCommands.{rows_with_id, found_row}
 use Rattle.reg_core.specs.Bodies.{id_body, verdict_body}
 use Rattle.reg_core.specs.Verdicts.{is_admitted}
 
--- Schema Registry API reference, Subjects: the schema of a body, if its type is supported and its text denotes one
+-- Schema Registry API reference, Subjects: the schema that a text denotes; `None` if its type isn't supported, or it denotes none
 unfoldable pub supported_schema : List ℕ → Bool → Option (List NodeView)
 supported_schema text supported = if supported then denoted_nodes text else None
 
@@ -34,7 +34,7 @@ is_admitted_after schemas level rows new = is_admitted level (schemas_of schemas
 abbrev pub id_for : Schemas → List NodeView → ℕ
 id_for schemas new = unwrap_or (id_of schemas (identity new)) (length schemas + 1)
 
--- this project's choice: the schemas with this one, which is added where none has its identity text
+-- this project's choice: the schemas, with this one added if none has its identity text
 abbrev pub schemas_with : Schemas → List NodeView → Schemas
 schemas_with schemas new = if is_some (id_of schemas (identity new)) then schemas else schemas ++ new ∷ []
 
@@ -45,14 +45,15 @@ with_version g subject new = record g {
   rows = insert g.rows (subject, next_number (rows_of g subject)) (record { id = id_for g.schemas new; deleted = false });
 }
 
--- Schema Registry API reference, POST /subjects/{subject}/versions: the tests, in their order: a live version has the schema; the level admits it; a number is left
+-- Schema Registry API reference, POST /subjects/{subject}/versions: the tests, in their order: a live version has the schema; the level admits it; a
+-- number is left
 abbrev pub registered : Registry → List ℕ → List NodeView → Bool → Bool → Bool → Registry × ReplyView
 registered g subject new true admitted left = (g, answer (id_body (id_for g.schemas new)))
 registered g subject new false false left = (g, fault Incompatible)
 registered g subject new false true false = (g, fault NoNumberLeft)
 registered g subject new false true true = (with_version g subject new, answer (id_body (id_for g.schemas new)))
 
--- whether one of the versions has the id, if there is an id
+-- whether one of the versions has the id; no if there is no id
 abbrev pub is_among : Option ℕ → List Row → Bool
 is_among id rows = nat_lt 0 (length (rows_with_id id rows))
 
@@ -74,12 +75,12 @@ abbrev pub check_all_reply : Registry → List ℕ → Option (List NodeView) �
 check_all_reply g subject None = fault InvalidSchema
 check_all_reply g subject (Some new) = answer (verdict_body (is_admitted_after g.schemas (level_in g subject) (live_rows (rows_of g subject)) new))
 
--- the verdict on one version, or why there is none
+-- the verdict on one version, or the code if there is no such version
 abbrev pub verdict_reply : Registry → List ℕ → List NodeView → Result Row Code → ReplyView
 verdict_reply g subject new (Err code) = fault code
 verdict_reply g subject new (Ok row) = answer (verdict_body (is_admitted_after g.schemas (level_in g subject) (row ∷ []) new))
 
--- Schema Registry API reference, POST /compatibility/subjects/{subject}/versions/{version}: by the subject's level, against that live version alone
+-- Schema Registry API reference, POST /compatibility/subjects/{subject}/versions/{version}: by the subject's level, against only that live version
 abbrev pub check_reply : Registry → List ℕ → Option VersionChoice → Option (List NodeView) → ReplyView
 check_reply g subject None schema = fault InvalidVersion
 check_reply g subject (Some choice) None = fault InvalidSchema

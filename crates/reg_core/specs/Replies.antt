@@ -18,7 +18,7 @@ statuses = 200 ∷ 400 ∷ 404 ∷ 405 ∷ 409 ∷ 413 ∷ 422 ∷ 500 ∷ 501 �
 abbrev pub IsStatus : ℕ → Type 0
 IsStatus n = IsTrue (list_any (λ status. n == status) statuses)
 
--- this project's choice: what a command is answered, which is carried out or refused; such replies are kept
+-- this project's choice: the statuses of replies to commands that succeed or are rejected; such replies are kept
 abbrev pub kept_statuses : List ℕ
 kept_statuses = 200 ∷ 404 ∷ 409 ∷ 422 ∷ []
 
@@ -26,7 +26,7 @@ kept_statuses = 200 ∷ 404 ∷ 409 ∷ 422 ∷ []
 abbrev pub IsKeptStatus : ℕ → Type 0
 IsKeptStatus n = IsTrue (list_any (λ status. n == status) kept_statuses)
 
--- RFC 9110, section 15.3.1: what a command answers that isn't refused
+-- RFC 9110, section 15.3.1: the reply to a command that succeeds
 abbrev pub answer : List ℕ → ReplyView
 answer body = record { status = 200; body = body }
 
@@ -34,8 +34,8 @@ answer body = record { status = 200; body = body }
 abbrev pub fault : Code → ReplyView
 fault code = record { status = status_of code; body = fault_body code }
 
--- This project's choice: a reply of the registry's own rules has one of the four statuses, so it reports no fault of memory or disk. It also isn't the
--- reply for a retry key that came with another command.
+-- This project's choice: a reply by the rules of commands. It has one of the four kept statuses, so it reports no memory or disk fault. It also isn't
+-- the reply for a retry key that was used for another command.
 pub record IsCommandReply (reply : ReplyView) : Type 0 where
   pub kept : IsKeptStatus reply.status
   pub no_reused_key : reply ≢ fault KeyReused

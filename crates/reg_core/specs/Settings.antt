@@ -1,4 +1,4 @@
--- Commands that set and show what holds of all subjects, or of one of its own: compatibility levels, and modes.
+-- Commands that set and show compatibility levels and modes, global ones and those of a subject.
 use Rattle.std.specs.Prelude.{ℕ, Bool, List, codes, Option, None, Some, if◌then◌else◌}
 use Rattle.std.specs.Option.{option_or}
 use Rattle.serde_json.specs.Data.{string, object, member, no_members}
@@ -12,9 +12,9 @@ use Rattle.reg_core.specs.Modes.{mode_of, mode_text}
 use Rattle.reg_core.specs.Replies.{ReplyView, answer, fault}
 use Rattle.reg_core.specs.Registry.{Registry, own_with}
 
--- Schema Registry API reference, Config and Mode: how values are spelt, and which one a text spells; the registry with a value, of the subject's own
--- if there is a subject, else global; the names under which a value is answered that was set, and one that is shown; and the codes where a text spells
--- none, and where a subject has none of its own
+-- Schema Registry API reference, Config and Mode: a kind of setting, levels or modes. `text_of` and `value_of` relate values and their spellings.
+-- `put` sets a subject's own value, or the global one if there is no subject. `member_in_put` and `member_in_get` name the member in the replies to
+-- PUT and GET. `unknown` is the code for a text that spells no value, and `absent` the code for a subject without a value of its own.
 pub record Setting (A : Type 0) : Type 0 where
   pub text_of : A → List ℕ
   pub value_of : List ℕ → Option A
@@ -28,33 +28,33 @@ pub record Setting (A : Type 0) : Type 0 where
 abbrev pub setting_object : List ℕ → List ℕ → List ℕ
 setting_object name text = compact_text (object (member name (string text) no_members))
 
--- Schema Registry API reference, PUT /config and PUT /config/{subject}: a text that spells none is refused, else the value is set and answered
+-- Schema Registry API reference, PUT /config and PUT /config/{subject}: sets the value and replies with it; rejects a text that spells no value
 abbrev pub set : {A : Type 0} → Setting A → Registry → Option (List ℕ) → Option A → Registry × ReplyView
 set s g subject None = (g, fault s.unknown)
 set s g subject (Some value) = (s.put g subject value, answer (setting_object s.member_in_put (s.text_of value)))
 
--- Schema Registry API reference, GET /config: the value is answered
+-- Schema Registry API reference, GET /config: the reply that shows the value
 abbrev pub setting_answer : {A : Type 0} → Setting A → A → ReplyView
 setting_answer s value = answer (setting_object s.member_in_get (s.text_of value))
 
--- Schema Registry API reference, GET /config/{subject}: the subject's own value, else the global one where `defaultToGlobal` asks for it
+-- Schema Registry API reference, GET /config/{subject}: the subject's own value; if it has none, the global one with `defaultToGlobal`, else `None`
 abbrev pub own_or_global : {A : Type 0} → Option A → A → Bool → Option A
 own_or_global own global default_to_global = option_or own (if default_to_global then Some global else None)
 
--- Schema Registry API reference, GET /config/{subject}: a value is answered; where there is none, that is a fault
+-- Schema Registry API reference, GET /config/{subject}: the reply that shows the value, or a fault if there is none
 abbrev pub shown_reply : {A : Type 0} → Setting A → Option A → ReplyView
 shown_reply s None = fault s.absent
 shown_reply s (Some value) = setting_answer s value
 
 -- ---- levels
 
--- Schema Registry API reference, PUT /config and PUT /config/{subject}: the registry with this level, of the subject's own if there is a subject,
--- else global
+-- Schema Registry API reference, PUT /config and PUT /config/{subject}: the registry with this level as the subject's own, or as the
+-- global one if there is no subject
 abbrev pub with_level : Registry → Option (List ℕ) → Level → Registry
 with_level g None level = record g { global = level }
 with_level g (Some subject) level = record g { own = own_with g.own subject level }
 
--- Schema Registry API reference, Config
+-- Schema Registry API reference, Config: levels
 abbrev pub level_setting : Setting Level
 level_setting = record {
   text_of = level_text;
@@ -68,13 +68,13 @@ level_setting = record {
 
 -- ---- modes
 
--- Schema Registry API reference, PUT /mode and PUT /mode/{subject}: the registry with this mode, of the subject's own if there is a subject, else
--- global
+-- Schema Registry API reference, PUT /mode and PUT /mode/{subject}: the registry with this mode as the subject's own, or as the global
+-- one if there is no subject
 abbrev pub with_mode : Registry → Option (List ℕ) → Mode → Registry
 with_mode g None mode = record g { global_mode = mode }
 with_mode g (Some subject) mode = record g { own_modes = own_with g.own_modes subject mode }
 
--- Schema Registry API reference, Mode
+-- Schema Registry API reference, Mode: modes
 abbrev pub mode_setting : Setting Mode
 mode_setting = record {
   text_of = mode_text;

@@ -7,7 +7,7 @@ use Rattle.reg_core.specs.declared.level.Level.{Level}
 use Rattle.reg_core.specs.declared.level.Level.TheVariants.{Backward, BackwardTransitive, Forward, ForwardTransitive, Full, FullTransitive, Off}
 use Rattle.reg_core.specs.Compatibility.{named_versions}
 
--- whether the earlier schema and the new one are compatible, as the level asks (Compatible)
+-- `Compatible` as a test
 abbrev pub is_compatible : Level → List NodeView → List NodeView → Bool
 is_compatible Backward earlier new = is_resolved earlier new
 is_compatible BackwardTransitive earlier new = is_resolved earlier new
@@ -17,6 +17,6 @@ is_compatible Full earlier new = is_resolved earlier new && is_resolved new earl
 is_compatible FullTransitive earlier new = is_resolved earlier new && is_resolved new earlier
 is_compatible Off earlier new = true
 
--- whether the level admits the new schema after these live versions (Admits)
+-- `Admits` as a test
 unfoldable pub is_admitted : Level → List (List NodeView) → List NodeView → Bool
 is_admitted level live new = list_all (λ earlier. is_compatible level earlier new) (named_versions level live)

@@ -1,4 +1,4 @@
--- What a decision looks at, and what it changes.
+-- The view that a decision reads, and the changes that it makes.
 use Rattle.std.specs.Prelude.{◌≡◌, ◌≢◌, ◌≤◌, ◌+◌, ⊤, ℕ, false, IsTrue, All, List, [], ◌∷◌, ◌++◌, length, string_bytes, if◌then◌else◌, unwrap_or, Option, None, Some, option_map, option_and_then, option_to_list, Result, Ok, Err}
 use Rattle.std.specs.BTreeMap as tree
 use Rattle.std.specs.Ordering.{nat_cmp}
@@ -30,20 +30,20 @@ use Rattle.reg_core.specs.Machine.{is_write, subject_of, sends_schema, command_s
 
 -- ---- views
 
--- Schema Registry API reference, Compatibility: the level in force, as a view has it
+-- Schema Registry API reference, Compatibility: the level in force, by a view
 abbrev pub level_of_view : View → Level
 level_of_view view = unwrap_or view.own view.global
 
--- this project's choice: the mode that may forbid a command, if one may, as a view has it
+-- this project's choice: the mode that may forbid a command, by a view; `None` if no mode may
 abbrev pub mode_of_view : View → Command → Option Mode
 mode_of_view view command = governing_mode command view.own_mode view.global_mode
 
--- the version that was found, if one was
+-- a list of the found version, empty if none was found
 abbrev pub found_as_list : {E : Type 0} → Result Row E → List Row
 found_as_list (Ok row) = row ∷ []
 found_as_list (Err code) = []
 
--- Schema Registry API reference: the versions of a view whose schemas a command shows, or compares with the one that it sends
+-- Schema Registry API reference: the versions of a view whose schemas a command shows, or compares with the sent schema
 abbrev pub rows_to_read : Command → View → List Row
 rows_to_read (Register subject text supported) view =
     let live = live_rows view.rows.items in
@@ -56,7 +56,7 @@ rows_to_read (Check subject version text supported) view = named_versions (level
 rows_to_read (CheckAll subject text supported) view = named_versions (level_of_view view) (live_rows view.rows.items)
 rows_to_read _ view = []
 
--- Schema Registry API reference, Schemas: the text that a view has for an id
+-- Schema Registry API reference, Schemas: the identity text that a view has for an id, or `None`
 abbrev pub view_text : View → ℕ → Option (List ℕ)
 view_text view id = option_map string_bytes (tree.get nat_cmp view.texts id)
 
@@ -64,7 +64,7 @@ view_text view id = option_map string_bytes (tree.get nat_cmp view.texts id)
 abbrev pub IsCommandIdentity : Command → Option (List ℕ) → Type 0
 IsCommandIdentity command text = IsTrue (sends_schema command) → text ≡ option_map identity (command_schema command)
 
--- This project's choice: the view shows what the command needs of the registry. More may be there, but no text that isn't the id's.
+-- This project's choice: the view shows what the command needs of the registry. It may show more, but each text in it is that of its id.
 pub record IsViewOf (view : View) (g : Registry) (command : Command) : Type 0 where
   pub rows : SufficeFor (level_of_view view) view.known (row_needs command) view.rows.items (rows_needed g (subject_of command) (row_needs command))
   pub levels : IsTrue (needs_levels command) → (view.own ≡ option_and_then g.own (subject_of command)) × (view.global ≡ g.global)
@@ -74,19 +74,19 @@ pub record IsViewOf (view : View) (g : Registry) (command : Command) : Type 0 wh
   pub texts : All (λ (row : Row). view_text view row.1.id ≡ text_at g.schemas row.1.id) (rows_to_read command view)
   pub true_texts : (id : ℕ) (text : List ℕ) → view_text view id ≡ Some text → text_at g.schemas id ≡ Some text
 
--- this project's choice: what a decision stands on: a registry, the schema that the command sends, and a view
+-- this project's choice: the input of a decision: a valid registry, the schema that the command sends, and a view of this registry
 pub record IsDecisionInput (g : Registry) (command : Command) (schema : Option (List NodeView)) (view : View) : Type 0 where
   pub registry : IsRegistry g
   pub sent : schema ≡ command_schema command
   pub shows : IsViewOf view g command
 
--- this project's choice: what a command takes of the schema that is lent beside it: none where it sends none of a type that is supported
+-- this project's choice: the schema passed next to a command; `None` if the command sends no text of a supported type
 abbrev pub used_schema : Command → Option (List NodeView) → Option (List NodeView)
 used_schema command schema = if sends_schema command then schema else None
 
 -- ---- changes
 
--- the map with another value in place of the key's, if it has one
+-- the map with the key's value changed, if the key has one
 abbrev pub altered : Rows → RowKey → (registry.Version → registry.Version) → Rows
 altered rows key change = unwrap_or (option_map (λ version. insert rows key (change version)) (get rows key)) rows
 
@@ -103,12 +103,12 @@ after_change (change.SetGlobalMode mode) g = record g { global_mode = mode }
 after_change (change.SetMode subject mode) g = record g { own_modes = own_with g.own_modes subject mode }
 after_change (change.DropMode subject) g = record g { own_modes = own_without g.own_modes subject }
 
--- this project's choice: the registry after the changes, one after the other
+-- this project's choice: the registry after the changes, in order
 abbrev pub after_changes : List Change → Registry → Registry
 after_changes [] g = g
 after_changes (change ∷ changes) g = after_changes changes (after_change change g)
 
--- this project's choice: the evidence after one change: a new version comes with its own, and one that is removed takes its own along
+-- this project's choice: the evidence after one change: a new version comes with its own, and a removed one loses its own
 abbrev pub evidence_after_change : Change → EvidenceMap → EvidenceMap
 evidence_after_change (change.SetGlobal level) evidence = evidence
 evidence_after_change (change.SetLevel subject level) evidence = evidence
@@ -121,12 +121,12 @@ evidence_after_change (change.SetGlobalMode mode) evidence = evidence
 evidence_after_change (change.SetMode subject mode) evidence = evidence
 evidence_after_change (change.DropMode subject) evidence = evidence
 
--- this project's choice: the evidence after the changes, one after the other
+-- this project's choice: the evidence after the changes, in order
 abbrev pub evidence_after_changes : List Change → EvidenceMap → EvidenceMap
 evidence_after_changes [] evidence = evidence
 evidence_after_changes (change ∷ changes) evidence = evidence_after_changes changes (evidence_after_change change evidence)
 
--- this project's choice: the text of a new schema, and the next id
+-- this project's choice: the identity text of a schema that isn't registered, and the next id
 pub record IsNewText (schemas : Schemas) (id : ℕ) (text : List ℕ) : Type 0 where
   pub nodes : List NodeView
   pub schema : IsSchema nodes
@@ -135,17 +135,17 @@ pub record IsNewText (schemas : Schemas) (id : ℕ) (text : List ℕ) : Type 0 w
   pub within : id ≤ max_number
   pub unknown : id_of schemas text ≡ None
 
--- this project's choice: a new version of a subject, whose schema the registry has
+-- this project's choice: a version whose key is unused and whose schema is registered
 pub record IsNewRow (g : Registry) (row : Row) : Type 0 where
   pub absent : get g.rows row.0 ≡ None
   pub fits : IsRow g.schemas row.0 row.1
 
--- this project's choice: what a new version comes with is what the registry names for it, and it is true of the version's schema
+-- this project's choice: a new version's evidence is the subject's `next_evidence`, and it is true for the version's schema
 pub record IsNewEvidence (g : Registry) (row : Row) (evidence : Evidence) : Type 0 where
   pub named : evidence ≡ next_evidence g row.0.0
   pub holds : (nodes : List NodeView) → schema_at g.schemas row.1.id ≡ Some nodes → IsTrueForSchema g.schemas nodes evidence
 
--- this project's choice: the registry can have the change
+-- this project's choice: the change can be applied to the registry
 abbrev pub ChangeFits : Change → Registry → Type 0
 ChangeFits (change.SetGlobal level) g = ⊤
 ChangeFits (change.SetLevel subject level) g = ⊤
@@ -158,16 +158,16 @@ ChangeFits (change.SetGlobalMode mode) g = ⊤
 ChangeFits (change.SetMode subject mode) g = ⊤
 ChangeFits (change.DropMode subject) g = ⊤
 
--- this project's choice: so it can each change, at its turn
+-- this project's choice: the changes can be applied to the registry, in order
 abbrev pub ChangesFit : List Change → Registry → Type 0
 ChangesFit [] g = ⊤
 ChangesFit (change ∷ changes) g = ChangeFits change g × ChangesFit changes (after_change change g)
 
 -- ---- decisions
 
--- This project's choice: on each ground a decision tells and changes what the plain machine does, the evidence of versions too, and the registry can
--- have each change, at its turn.
--- A read changes nothing, and a refusal neither. The reply is no fault of the backend, and doesn't say that a key was used for another request.
+-- This project's choice: for each registry that the view shows, the decision has the reply of `step`, its changes give the registry and the evidence
+-- after `step`, and they can be applied in order. A read or a refusal changes nothing. The reply is neither a backend fault nor that of a reused
+-- retry key.
 pub record IsDecisionFor (command : Command) (schema : Option (List NodeView)) (view : View) (decision : Decision) : Type 0 where
   pub reply : (g : Registry) → IsDecisionInput g command (used_schema command schema) view → decision.reply ≡ (step g command).1
   pub changes : (g : Registry) → IsDecisionInput g command (used_schema command schema) view → after_changes decision.changes.items g ≡ (step g command).0

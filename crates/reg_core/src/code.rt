@@ -1,29 +1,29 @@
-//! The codes of refusals and faults.
+//! The error codes of refusals and faults.
 
 ghost use Rattle.std.specs.Prelude.{◌≡◌};
 ghost use Rattle.reg_core.specs.Codes.{number_of, status_of, message_of, fault_body};
 
-/// Why a request is refused, or failed. (Schema Registry API reference, errors; some codes are
+/// Why a request was rejected or failed. (Schema Registry API reference, errors; some codes are
 /// this project's own.)
 #[derive(Clone, Copy, Debug, PartialEq, Eq)]
 pub enum Code {
-    /// 40001: the request isn't well formed.
+    /// 40001: the request is malformed.
     MalformedRequest,
     /// 404: no such path.
     NotFound,
-    /// 40401: the subject has no rows to look at.
+    /// 40401: the subject has no version that the request may see.
     SubjectNotFound,
     /// 40402: the subject has no such version.
     VersionNotFound,
     /// 40403: no such schema, or no such id.
     SchemaNotFound,
-    /// 40404: all rows of the subject are marked deleted.
+    /// 40404: all versions of the subject are soft-deleted.
     SubjectSoftDeleted,
-    /// 40405: the subject still has a live row.
+    /// 40405: a version of the subject isn't soft-deleted.
     SubjectNotSoftDeleted,
-    /// 40406: the version is marked deleted already.
+    /// 40406: the version is already soft-deleted.
     VersionSoftDeleted,
-    /// 40407: the version is still live.
+    /// 40407: the version isn't soft-deleted.
     VersionNotSoftDeleted,
     /// 40408: the subject has no level of its own.
     NoOwnLevel,
@@ -33,11 +33,11 @@ pub enum Code {
     MethodNotAllowed,
     /// 409: the subject's level doesn't admit the schema.
     Incompatible,
-    /// 413: the body is longer than a body may be.
+    /// 413: the body is too long.
     BodyTooLarge,
-    /// 42201: the text denotes no schema.
+    /// 42201: the text denotes no schema, or its type isn't supported.
     InvalidSchema,
-    /// 42202: the text is no version.
+    /// 42202: the text is neither `latest` nor a version number.
     InvalidVersion,
     /// 42203: the text is no compatibility level.
     InvalidLevel,
@@ -45,13 +45,14 @@ pub enum Code {
     InvalidMode,
     /// 42205: the mode doesn't permit writes.
     NotPermitted,
-    /// 42290: the retry key came before with another command.
+    /// 42290: the retry key was used with another command.
     KeyReused,
-    /// 42292: the next version or id would pass the limit.
+    /// 42292: the next version number or id would exceed the limit.
     NoNumberLeft,
-    /// 501: the body comes in a transfer coding.
+    /// 501: the body has an unsupported transfer coding.
     CodingNotSupported,
-    /// 50001: memory or the disk failed; nothing was changed.
+    /// 50001: an allocation or the disk failed; the command wasn't executed, except perhaps if the
+    /// server crashes after a disk fault.
     BackendFault,
 }
 
@@ -118,7 +119,7 @@ impl Code {
         }
     }
 
-    /// The words that go with the code.
+    /// The message of the code.
     pub fn message(self) -> &'static str
         ensures { result.now ≡ message_of self }
     {

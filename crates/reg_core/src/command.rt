@@ -1,4 +1,4 @@
-//! Commands.
+//! The commands of the registry.
 
 ghost use Rattle.std.specs.Prelude.{◌≡◌, option_and_then, option_copied};
 ghost use Rattle.avro_schema.specs.DenotedNodes.{denoted_nodes};
@@ -7,99 +7,98 @@ ghost use Rattle.reg_core.specs.Machine.{is_write, command_schema, sends_schema,
 use crate::subject::Subject;
 use crate::text::Text;
 
-/// What a client asks of the registry. Levels, schemas, versions and ids are texts as they were sent.
-/// A schema is `supported` where its type is Avro and it refers to no other. Where `deleted` is on,
-/// soft-deleted versions are shown too. (Schema Registry API reference, Schemas, Subjects,
-/// Compatibility, Config and Mode.)
+/// A client's command. Levels, schemas, versions and ids are unparsed texts. A schema is
+/// `supported` if its type is Avro and it has no references. If `deleted` is on, soft-deleted
+/// versions are shown too. (Schema Registry API reference, Schemas, Subjects, Compatibility, Config
+/// and Mode.)
 #[derive(Debug, Drop)]
 pub enum Command {
     /// Sets the global compatibility level.
     SetGlobal {
         level: Text,
     },
-    /// Sets the compatibility level that the subject has of its own. (Schema Registry API reference,
-    /// Config.)
+    /// Sets the subject's own compatibility level. (Schema Registry API reference, Config.)
     SetLevel {
         subject: Subject,
         level: Text,
     },
     /// Adds the schema to the subject as its next version, if no live version has it and the
-    /// subject's level admits it. Answers the schema's id.
+    /// subject's level admits it. Returns the schema's id.
     Register {
         subject: Subject,
         text: Text,
         supported: bool,
     },
-    /// Soft-deletes the version of the subject that is chosen; where `permanent` is on, it removes a
-    /// soft-deleted one for good. Answers the version's number.
+    /// Soft-deletes the chosen version of the subject. If `permanent` is on, removes it
+    /// permanently; it must be soft-deleted. Returns the version's number.
     DeleteVersion {
         subject: Subject,
         version: Text,
         permanent: bool,
     },
-    /// Soft-deletes the versions of the subject; where `permanent` is on, it removes them for good, if
-    /// all are soft-deleted. The level that the subject has of its own goes too, and where they are
-    /// removed its own mode. Answers the numbers of the versions.
+    /// Soft-deletes the versions of the subject, and removes its own level. If `permanent` is on,
+    /// removes the versions permanently, which must all be soft-deleted, and the subject's own mode
+    /// too. Returns the numbers of the versions.
     DeleteSubject {
         subject: Subject,
         permanent: bool,
     },
-    /// Answers the global compatibility level.
+    /// Returns the global compatibility level.
     Global,
-    /// Answers the level that the subject has of its own; where it has none, and that is asked for,
-    /// the global one. (Schema Registry API reference, Config, `defaultToGlobal`.)
+    /// Returns the subject's own level. If it has none and `default_to_global` is on, returns the
+    /// global one. (Schema Registry API reference, Config, `defaultToGlobal`.)
     LevelOf {
         subject: Subject,
         default_to_global: bool,
     },
-    /// Answers the last version of the subject that has this schema.
+    /// Returns the last version of the subject that has this schema.
     Lookup {
         subject: Subject,
         text: Text,
         supported: bool,
         deleted: bool,
     },
-    /// Answers the subjects that have versions.
+    /// Returns the subjects that have versions.
     Subjects {
         deleted: bool,
     },
-    /// Answers the numbers of the subject's versions.
+    /// Returns the numbers of the subject's versions.
     Versions {
         subject: Subject,
         deleted: bool,
     },
-    /// Answers the version of the subject that is chosen, with its schema.
+    /// Returns the chosen version of the subject, with its schema.
     Version {
         subject: Subject,
         version: Text,
         deleted: bool,
     },
-    /// Answers the schema of that version alone.
+    /// Returns only the schema of the chosen version.
     Text {
         subject: Subject,
         version: Text,
         deleted: bool,
     },
-    /// Answers the schema of the id.
+    /// Returns the schema of the id.
     ById {
         id: Text,
     },
-    /// Answers the versions that have the id.
+    /// Returns the versions that have the id.
     VersionsOfId {
         id: Text,
         deleted: bool,
     },
-    /// Answers the types of schemas that are supported.
+    /// Returns the supported schema types.
     Types,
-    /// Answers whether the schema is compatible with the live version that is chosen, by the
-    /// subject's level.
+    /// Returns whether the schema is compatible with the chosen live version, by the subject's
+    /// level.
     Check {
         subject: Subject,
         version: Text,
         text: Text,
         supported: bool,
     },
-    /// Answers whether the subject's level would admit the schema.
+    /// Returns whether the subject's level would admit the schema.
     CheckAll {
         subject: Subject,
         text: Text,
@@ -109,15 +108,15 @@ pub enum Command {
     SetGlobalMode {
         mode: Text,
     },
-    /// Sets the mode that the subject has of its own.
+    /// Sets the subject's own mode.
     SetMode {
         subject: Subject,
         mode: Text,
     },
-    /// Answers the global mode.
+    /// Returns the global mode.
     GlobalMode,
-    /// Answers the mode that the subject has of its own; where it has none, and that is asked for,
-    /// the global one.
+    /// Returns the subject's own mode. If it has none and `default_to_global` is on, returns the
+    /// global one.
     ModeOf {
         subject: Subject,
         default_to_global: bool,
@@ -141,7 +140,7 @@ impl Command {
         }
     }
 
-    /// The subject that the command is about, if it is about one.
+    /// The command's subject, or `None` if it has none.
     pub fn subject(&self) -> Option<&Subject>
         ensures { option_copied result ≡ subject_of self.now }
     {
@@ -170,7 +169,7 @@ impl Command {
         }
     }
 
-    /// Whether the command sends a text of a type that is supported.
+    /// Whether the command sends a schema's text of a supported type.
     pub(crate) fn sends_schema(&self) -> bool
         ensures { result ≡ sends_schema self.now }
     {
@@ -183,7 +182,7 @@ impl Command {
         }
     }
 
-    /// The text of the schema that the command sends, if it sends one that is supported.
+    /// The schema's text that the command sends, or `None` if it sends none of a supported type.
     #[tactic(auto, unfolding(crate::specs::RegisterCommands::supported_schema))]
     pub fn schema_text(&self) -> Option<&Text>
         ensures { option_and_then denoted_nodes (option_copied result) ≡ command_schema self.now }

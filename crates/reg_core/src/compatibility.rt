@@ -12,15 +12,15 @@ use avro_resolve::resolves;
 use avro_schema::Schema;
 use std::alloc::Global;
 
-/// Whether the level admits the new schema. The earlier schemas are those of the subject's live
+/// Whether the level admits the new schema. `earlier` has the schemas of the subject's live
 /// versions, in order of number. (Schema Registry API reference, Compatibility; Schema Evolution
 /// and Compatibility, Compatibility Types.)
 ///
-/// It ends at the first earlier schema that isn't compatible.
+/// Stops at the first earlier schema that isn't compatible.
 ///
 /// # Errors
 ///
-/// `OutOfMemory` where memory for a comparison is refused.
+/// `OutOfMemory` if an allocation for a comparison fails.
 pub fn admits(
     alloc: Global,
     level: Level,
@@ -50,14 +50,14 @@ pub(crate) fn named<T>(level: Level, earlier: &[T]) -> &[T]
     }
 }
 
-/// The last of the versions, if there is one.
+/// A slice of the last version, empty if there is none.
 pub(crate) fn latest<T>(versions: &[T]) -> &[T]
     ensures { result.now ≡ latest versions.now }
 {
     &versions[versions.len().saturating_sub(1)..]
 }
 
-/// Whether the earlier schema and the new one are compatible in each direction of the level.
+/// Whether the earlier schema and the new one are compatible in the level's directions.
 pub(crate) fn is_compatible(
     alloc: Global,
     level: Level,
@@ -77,7 +77,7 @@ pub(crate) fn is_compatible(
     }
 }
 
-/// Whether the reader's schema reads what the writer's wrote.
+/// Whether the reader's schema can read data written with the writer's.
 fn can_read(alloc: Global, writer: &Schema, reader: &Schema) -> Result<bool, OutOfMemory>
     ensures { IfOk result (λ yes. IsTrue yes
         ↔ Resolves (nodes_view writer.now) (nodes_view reader.now)) }
@@ -85,7 +85,7 @@ fn can_read(alloc: Global, writer: &Schema, reader: &Schema) -> Result<bool, Out
     Ok(resolves(alloc, writer, reader)?.yes)
 }
 
-/// Whether a level admits a schema can be computed: a law of the rules, for any lists of nodes.
+/// A law: `is_admitted` decides whether a level admits a schema, for any lists of nodes.
 pub fn admission_is_decided()
     ensures { (level : Level) (live : List (List NodeView)) (new : List NodeView)
         → IsTrue (is_admitted level live new) ↔ Admits level live new }

@@ -1,4 +1,4 @@
-//! What a command does to the registry, and its reply.
+//! Decides what a command changes in the registry, and its reply.
 
 ghost use Rattle.std.specs.Prelude.{◌≡◌, ◌≢◌, [], false, IfOk, option_copied, option_map};
 ghost use Rattle.avro_nodes.specs.Nodes.{nodes_view};
@@ -44,24 +44,24 @@ mod settings;
 pub use comparing::{is_compatible_with, schema_of};
 pub use needs::ids_to_read;
 
-/// What a command needs to know of the registry. The rest may be anything.
+/// The parts of the registry that a command needs. Other parts may have any value.
 #[derive(Drop)]
 pub struct View {
-    /// The versions of the command's subject or id, or of all subjects, deleted ones too, in the
-    /// order of the bytes of their subjects, and then of their numbers. Those that change neither
-    /// the answer nor the changes may be left out.
+    /// The versions of the command's subject or id, or of all subjects, soft-deleted ones included,
+    /// in the order of the bytes of their subjects, then of their numbers. Versions that affect
+    /// neither the reply nor the changes may be missing.
     pub rows: Vec<Row>,
-    /// The identity texts of ids: of those that the command shows or compares with.
+    /// The identity texts, by id, of the schemas that the command shows or compares with.
     pub texts: BTreeMap<u32, String>,
-    /// The level that the command's subject has of its own, if it has one.
+    /// The own level of the command's subject, or `None`.
     pub own: Option<Level>,
     /// The global compatibility level.
     pub global: Level,
-    /// The mode that the command's subject has of its own, if it has one.
+    /// The own mode of the command's subject, or `None`.
     pub own_mode: Option<Mode>,
     /// The global mode.
     pub global_mode: Mode,
-    /// The id of the schema that the command sends, if it has one.
+    /// The id of the schema that the command sends; `None` if it isn't registered.
     pub known: Option<u32>,
     /// The number of schemas, which is the greatest id.
     pub count: u32,
@@ -70,29 +70,29 @@ pub struct View {
 /// One change of the registry.
 #[derive(Debug, Drop)]
 pub enum Change {
-    /// The global compatibility level becomes this one.
+    /// Sets the global compatibility level.
     SetGlobal { level: Level },
-    /// The level that the subject has of its own becomes this one.
+    /// Sets the subject's own level.
     SetLevel { subject: Subject, level: Level },
-    /// A new schema, which has this identity text, gets the id.
+    /// Registers the schema with this identity text under the id.
     AddText { id: u32, text: Text },
-    /// A subject gets a new version, and this is what it was admitted by.
+    /// Adds a version, with its evidence.
     AddRow { row: Row, evidence: Evidence },
-    /// The subject's version with this number is soft-deleted, if there is one.
+    /// Soft-deletes the subject's version with this number, if it exists.
     MarkDeleted { subject: Subject, version: u32 },
-    /// The subject's version with this number goes for good, if there is one.
+    /// Removes the subject's version with this number permanently, if it exists.
     Remove { subject: Subject, version: u32 },
-    /// The level that the subject has of its own goes, if it has one.
+    /// Removes the subject's own level, if any.
     DropLevel { subject: Subject },
-    /// The global mode becomes this one.
+    /// Sets the global mode.
     SetGlobalMode { mode: Mode },
-    /// The mode that the subject has of its own becomes this one.
+    /// Sets the subject's own mode.
     SetMode { subject: Subject, mode: Mode },
-    /// The mode that the subject has of its own goes, if it has one.
+    /// Removes the subject's own mode, if any.
     DropMode { subject: Subject },
 }
 
-/// What a command does, and its reply.
+/// The changes that a command makes, and its reply.
 #[derive(Debug, Drop)]
 pub struct Decision {
     /// The changes, in order.
@@ -101,13 +101,13 @@ pub struct Decision {
     pub reply: Reply,
 }
 
-/// What the command does to the registry that the view is of, and its reply. The schema is the one
-/// that the command's text denotes, if it denotes one. Where the command's type isn't supported, the
-/// schema isn't looked at. It is pure.
+/// Decides the command for the registry that the view shows: the changes, and the reply. `schema`
+/// is the schema that the command's text denotes, if it denotes one. It is ignored if the command's
+/// schema type isn't supported. The call reads nothing else and changes nothing.
 ///
 /// # Errors
 ///
-/// `OutOfMemory` where memory for the changes, for the reply or for a comparison is refused.
+/// `OutOfMemory` if an allocation for the changes, the reply or a comparison fails.
 pub fn decide(
     alloc: Global,
     view: &View,
@@ -119,12 +119,11 @@ pub fn decide(
     decide_with_cache(alloc, view, command, schema, None)
 }
 
-/// The same, where schemas that are remembered aren't read again. The memory changes nothing of the
-/// answer.
+/// The same, with a cache of parsed schemas. The cache never changes the result.
 ///
 /// # Errors
 ///
-/// `OutOfMemory` where memory for the changes, for the reply or for a comparison is refused.
+/// `OutOfMemory` if an allocation for the changes, the reply or a comparison fails.
 pub fn decide_with_cache(
     alloc: Global,
     view: &View,
@@ -140,7 +139,7 @@ pub fn decide_with_cache(
     decide_permitted(alloc, view, command, schema_if_sent(command, schema), cache)
 }
 
-/// The schema, if the command sends one of a type that is supported.
+/// The schema, or `None` if the command sends none of a supported type.
 fn schema_if_sent<'a>(command: &Command, schema: Option<&'a Schema>) -> Option<&'a Schema>
     ensures { option_map nodes_view (option_copied result)
         ≡ used_schema command.now (option_map nodes_view (option_copied schema.entry)) }
@@ -148,7 +147,7 @@ fn schema_if_sent<'a>(command: &Command, schema: Option<&'a Schema>) -> Option<&
     if command.sends_schema() { schema } else { None }
 }
 
-/// What a command does that no mode forbids.
+/// Decides a command that no mode forbids.
 #[tactic(auto, unfolding(crate::specs::Machine::permitted_step))]
 fn decide_permitted(
     alloc: Global,
@@ -164,21 +163,21 @@ fn decide_permitted(
         → IsDecisionInput g command.now (option_map nodes_view (option_copied schema.entry)) view.now
         → after_changes decision.changes.items g ≡ (permitted_step g command.now).0) }
 
-    // The registry can have each change, at its turn.
+    // The changes can be applied to the registry, in order.
     ensures fit { IfOk result (λ decision. (g : Registry)
         → IsDecisionInput g command.now (option_map nodes_view (option_copied schema.entry)) view.now
         → ChangesFit decision.changes.items g) }
 
-    // What versions were admitted by goes with them, and a new one comes with its own.
+    // A removed version loses its evidence; a new one comes with its own.
     ensures evidence { IfOk result (λ decision. (g : Registry)
         → IsDecisionInput g command.now (option_map nodes_view (option_copied schema.entry)) view.now
         → UpdateEvidence decision.changes.items g) }
 
-    // A read changes nothing, and a refusal neither.
+    // A read or a refusal changes nothing.
     ensures read { IfOk result (λ decision. is_write command.now ≡ false → decision.changes.items ≡ []) }
     ensures refusal { IfOk result (λ decision. decision.reply.status ≢ 200 → decision.changes.items ≡ []) }
 
-    // A fault of the backend and a reused key are no reply of the registry's own.
+    // The reply is neither a backend fault nor that of a reused retry key.
     ensures own { IfOk result (λ decision. IsCommandReply decision.reply) }
 {
     match command {
@@ -258,7 +257,7 @@ fn reply_to_read(
     }
 }
 
-/// A reply that comes with no change.
+/// A decision with this reply and no changes.
 fn unchanged(alloc: Global, reply: Reply) -> Decision
     ensures changes { result.changes.items ≡ [] }
     ensures reply { result.reply ≡ reply }

@@ -1,13 +1,13 @@
-//! Commands as they come in.
+//! A delivery: a command with its retry key.
 
 use crate::command::Command;
 use crate::key::Key;
 
-/// A command as it came in, with the retry key beside it if there is one.
+/// A command as a client sent it, with its retry key, if any.
 #[derive(Debug, Drop)]
 pub struct Delivery<'a> {
-    /// The retry key. That of a read is ignored.
+    /// The retry key. A read's key is ignored.
     pub key: Option<Key<'a>>,
-    /// What is asked.
+    /// The command.
     pub command: Command,
 }

@@ -1,12 +1,12 @@
-//! Why a version was let in.
+//! The evidence for an accepted version.
 
 ghost use Rattle.std.specs.Prelude.{◌≡◌};
 
 use crate::level::Level;
 use std::marker::Model;
 
-/// What a version was admitted by when it was registered: the level in force then, and the ids of
-/// the versions that it named, in the order of their numbers.
+/// Why a version was accepted when it was registered: the level in force, and the schema ids of the
+/// versions that the level compared with, in the order of their numbers.
 #[derive(Debug, Drop)]
 pub struct Evidence {
     level: Level,
@@ -36,7 +36,7 @@ impl Evidence {
         self.level
     }
 
-    /// The ids.
+    /// The ids of the schemas that the level compared with.
     pub fn against(&self) -> &[u32]
         ensures { result.now ≡ self.now.against }
     {

@@ -5,7 +5,7 @@ ghost use Rattle.reg_core.specs.Keys.{is_key_byte, IsKey};
 
 use std::marker::Model;
 
-/// A retry key, which names one delivery and its repeats. It borrows its text, and contracts see
+/// A retry key, which identifies one delivery and its retries. It borrows its text. Contracts see
 /// the bytes.
 #[derive(Debug, Drop)]
 pub struct Key<'a> {
@@ -30,8 +30,8 @@ fn is_key_byte(byte: u8) -> bool
 }
 
 impl<'a> Key<'a> {
-    /// The key with this text, where it has 1 to 64 bytes, each an ASCII letter, a digit, `.`,
-    /// `_` or `-`; else `None`.
+    /// The key with this text, or `None` unless the text has 1 to 64 bytes, each an ASCII letter, a
+    /// digit, `.`, `_` or `-`.
     pub fn parse(text: &'a str) -> Option<Key<'a>>
         ensures { SomeIff result (IsKey text.now) text.now }
     {

@@ -4,7 +4,7 @@ ghost use Rattle.std.specs.Prelude.{◌≡◌, IfSome, Some};
 ghost use Rattle.reg_core.specs.Compatibility.{is_transitive};
 ghost use Rattle.reg_core.specs.Levels.{level_of, level_text};
 
-/// A compatibility level: which earlier schemas of a subject a new one has to resolve with, and
+/// A compatibility level: which earlier schemas of a subject a new one must be compatible with, and
 /// in which direction. (Schema Registry API reference, Config.)
 #[derive(Clone, Copy, Debug, PartialEq, Eq)]
 pub enum Level {
@@ -25,7 +25,7 @@ pub enum Level {
 }
 
 impl Level {
-    /// The level that is spelt exactly so, in upper case with `_`; every other text is `None`.
+    /// The level with exactly this spelling, in upper case with `_`, or `None`.
     pub fn parse(text: &str) -> Option<Level>
         ensures value { result ≡ level_of text.now }
         ensures round_trip { IfSome result (λ level. level_text level ≡ text.now) }
@@ -49,7 +49,7 @@ impl Level {
         }
     }
 
-    /// How the level is spelt.
+    /// The level's spelling.
     pub fn text(self) -> &'static str
         ensures value { result.now ≡ level_text self }
         ensures parses_back { level_of result.now ≡ Some self }

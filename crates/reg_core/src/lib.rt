@@ -1,5 +1,5 @@
-//! The plain registry: levels, codes, replies, retry keys and commands, and what each command
-//! does and answers.
+//! The registry as an abstract machine: levels, modes, codes, replies, retry keys and commands, and
+//! the changes and the reply of each command. It uses no database and no HTTP.
 
 #![tactic(auto)]
 

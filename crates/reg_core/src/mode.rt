@@ -3,18 +3,18 @@
 ghost use Rattle.std.specs.Prelude.{◌≡◌, IfSome, Some};
 ghost use Rattle.reg_core.specs.Modes.{mode_of, mode_text};
 
-/// Whether subjects may be written. (Schema Registry API reference, Mode; the rules are this
+/// Whether writes are permitted. (Schema Registry API reference, Mode; the rules are this
 /// project's own.)
 #[derive(Clone, Copy, Debug, PartialEq, Eq)]
 pub enum Mode {
-    /// Reads and writes.
+    /// Reads and writes are permitted.
     Readwrite,
-    /// Reads alone.
+    /// Only reads are permitted, and setting the mode.
     Readonly,
 }
 
 impl Mode {
-    /// The mode that is spelt exactly so, in upper case; every other text is `None`.
+    /// The mode with exactly this spelling, in upper case, or `None`.
     pub fn parse(text: &str) -> Option<Mode>
         ensures value { result ≡ mode_of text.now }
         ensures round_trip { IfSome result (λ mode. mode_text mode ≡ text.now) }
@@ -28,7 +28,7 @@ impl Mode {
         }
     }
 
-    /// How the mode is spelt.
+    /// The mode's spelling.
     pub fn text(self) -> &'static str
         ensures value { result.now ≡ mode_text self }
         ensures parses_back { mode_of result.now ≡ Some self }

@@ -1,4 +1,4 @@
-//! What a command needs to know of the registry.
+//! The parts of the registry that a command needs.
 
 ghost use Rattle.std.specs.Prelude.{◌≡◌};
 ghost use Rattle.reg_core.specs.Needs.{needs_count, needs_levels, needs_modes, row_needs};
@@ -6,62 +6,62 @@ ghost use Rattle.reg_core.specs.Needs.{needs_count, needs_levels, needs_modes, r
 use crate::command::Command;
 use crate::number::{VersionChoice, parse_choice, parse_id};
 
-/// Which versions a command looks at, deleted ones too.
+/// Which versions a command reads, soft-deleted ones included.
 #[derive(Clone, Copy, Debug, PartialEq, Eq)]
 pub enum RowsNeeded {
     /// None.
     Nothing,
     /// Those of all subjects.
     Everything,
-    /// Those of the id, if there is one.
+    /// Those with the id, if any.
     OfId(Option<u32>),
-    /// Those that tell whether some version has the id, if there is one.
+    /// Enough of those with the id to know whether there is any.
     OneOfId(Option<u32>),
     /// Those of the command's subject.
     OfSubject(SubjectRows),
 }
 
-/// What a command looks at the versions of its subject for. Few may tell it as all do.
+/// The purpose for which a command reads its subject's versions. A few of them may suffice.
 #[derive(Clone, Copy, Debug, PartialEq, Eq)]
 pub enum SubjectRows {
-    /// Each one is shown or changed.
+    /// Shows or changes each version.
     Every,
-    /// One is chosen among those that are shown.
+    /// Chooses one of the shown versions.
     ToChoose {
         choice: Option<VersionChoice>,
         deleted: bool,
     },
-    /// One is chosen to be deleted.
+    /// Chooses the version to delete.
     ToDelete {
         choice: Option<VersionChoice>,
         permanent: bool,
     },
-    /// The schema that is sent is looked up among those that are shown.
+    /// Looks up the sent schema among the shown versions.
     ToLookUp {
         deleted: bool,
     },
-    /// The schema that is sent is compared as the level asks.
+    /// Compares the sent schema with the versions that the level names.
     ToCompare,
-    /// The same, and the schema may become the next version, unless a live one has it.
+    /// The same, and adds the schema as the next version unless a live version has it.
     ToRegister,
 }
 
-/// What a command needs to know of the registry, beside the id of the schema that it sends, and the
-/// texts of ids (`ids_to_read`).
+/// The parts of the registry that a command needs. It also needs the id of the schema that it
+/// sends, and the identity texts of some ids (`ids_to_read`).
 #[derive(Clone, Copy, Debug, PartialEq, Eq)]
 pub struct Needs {
     /// The versions.
     pub rows: RowsNeeded,
-    /// Whether it looks at levels.
+    /// Whether it reads levels.
     pub levels: bool,
-    /// Whether it looks at modes: it shows one, or a mode may forbid it.
+    /// Whether it reads modes: it shows one, or a mode may forbid it.
     pub modes: bool,
-    /// Whether it looks at the number of schemas.
+    /// Whether it reads the number of schemas.
     pub count: bool,
 }
 
 impl Command {
-    /// What the command needs to know of the registry.
+    /// The parts of the registry that the command needs.
     pub fn needs(&self) -> Needs
         ensures rows { result.rows ≡ row_needs self.now }
         ensures levels { result.levels ≡ needs_levels self.now }
@@ -76,7 +76,7 @@ impl Command {
         }
     }
 
-    /// Which versions the command looks at.
+    /// Which versions the command reads.
     fn row_needs(&self) -> RowsNeeded
         ensures { result ≡ row_needs self.now }
     {
@@ -129,7 +129,7 @@ impl Command {
         }
     }
 
-    /// Whether the command looks at levels.
+    /// Whether the command reads levels.
     fn needs_levels(&self) -> bool
         ensures { result ≡ needs_levels self.now }
     {
@@ -143,7 +143,7 @@ impl Command {
         }
     }
 
-    /// Whether the command looks at modes.
+    /// Whether the command reads modes.
     fn needs_modes(&self) -> bool
         ensures { result ≡ needs_modes self.now }
     {
@@ -159,7 +159,7 @@ impl Command {
         }
     }
 
-    /// Whether the command looks at the number of schemas.
+    /// Whether the command reads the number of schemas.
     fn needs_count(&self) -> bool
         ensures { result ≡ needs_count self.now }
     {

@@ -4,19 +4,20 @@ ghost use Rattle.std.specs.Prelude.{◌≡◌, ◌≤◌, IfSome};
 ghost use Rattle.reg_core.specs.Numbers.{parse_choice, parse_id, parse_number};
 ghost use Rattle.reg_core.specs.Registry.{max_number};
 
-/// The greatest id and the greatest number of a version.
+/// The greatest id, and the greatest version number.
 pub const MAX_NUMBER: u32 = 2_147_483_647;
 
 /// The version that a client chooses. (Schema Registry API reference, Subjects, `versionId`.)
 #[derive(Clone, Copy, Debug, PartialEq, Eq)]
 pub enum VersionChoice {
-    /// The greatest one that is shown.
+    /// The last one that is shown.
     Latest,
-    /// The one with this number.
+    /// The version with this number.
     Numbered(u32),
 }
 
-/// The number up to the limit that a text writes in decimal digits without a leading zero.
+/// The number that a text writes in decimal digits without a leading zero, or `None` if it writes
+/// none, or one above the limit.
 pub fn parse_number(limit: u32, text: &[u8]) -> Option<u32>
     ensures { result ≡ parse_number limit text.now }
 {
@@ -37,14 +38,15 @@ pub fn parse_number(limit: u32, text: &[u8]) -> Option<u32>
     Some(number as u32)
 }
 
-/// The id that a text spells, 1 to 2,147,483,647 without a leading zero.
+/// The id that a text spells: 1 to 2,147,483,647 without a leading zero; else `None`.
 pub fn parse_id(text: &str) -> Option<u32>
     ensures { result ≡ parse_id text.now }
 {
     parse_number(MAX_NUMBER, text.as_bytes())
 }
 
-/// The version that a text chooses: `latest`, or a number as an id is spelt.
+/// The version that a text chooses: `latest`, or a number with the same spelling and limit as an
+/// id; else `None`.
 pub fn parse_choice(text: &str) -> Option<VersionChoice>
     ensures { result ≡ parse_choice text.now }
 {

@@ -1,4 +1,4 @@
-//! The text by which a write is kept and compared.
+//! The text of a write, which is kept with its reply and compared on a retry.
 
 ghost use Rattle.std.specs.Prelude.{◌≡◌, true, IfOk, string_bytes};
 ghost use Rattle.reg_core.specs.CommandTexts.{command_text};
@@ -9,13 +9,13 @@ use avro_nodes::OutOfMemory;
 use serde_json::json;
 use std::alloc::Global;
 
-/// The text by which a write is kept and compared: a compact JSON array of its name and members,
-/// as `["set-global","FULL"]` and `["register","s","\"int\"",true]`. Different writes have different texts.
-/// A read has the empty text.
+/// The text of a write, which is kept with its reply and compared on a retry: a compact JSON array
+/// of its name and members, such as `["set-global","FULL"]` or `["register","s","\"int\"",true]`.
+/// Different writes have different texts. A read has the empty text.
 ///
 /// # Errors
 ///
-/// `OutOfMemory` where memory for the text is refused.
+/// `OutOfMemory` if an allocation for the text fails.
 pub fn print_of(alloc: Global, command: &Command) -> Result<String, OutOfMemory>
     ensures text { IfOk result (λ text. string_bytes text ≡ command_text command.now) }
     ensures unique { IfOk result (λ text. (other : Command)

@@ -1,4 +1,4 @@
-//! Replies.
+//! The replies of the registry.
 
 ghost use Rattle.std.specs.Prelude.{◌≡◌, SomeIff, IfOk, string_bytes};
 ghost use Rattle.reg_core.specs.Replies.{IsStatus, answer, fault};
@@ -7,14 +7,14 @@ use crate::code::Code;
 use avro_nodes::OutOfMemory;
 use std::marker::Model;
 
-/// An answer that was written, or the fault of a code, which takes no memory.
+/// A status with its body, or the fault of a code, which allocates nothing.
 #[derive(Debug, Drop)]
 enum Content {
     Written { status: u16, body: String },
     Fault { code: Code },
 }
 
-/// What a client gets: a status and a body. Contracts see both.
+/// The reply to a client: a status and a body. Contracts see both.
 #[derive(Debug, Drop)]
 pub struct Reply {
     content: Content,
@@ -33,8 +33,8 @@ impl Model for Reply {
 }
 
 impl Reply {
-    /// A reply with this status and body, where the status is 200, 400, 404, 405, 409, 413, 422,
-    /// 500 or 501; else `None`. It takes no memory.
+    /// A reply with this status and body, or `None` unless the status is 200, 400, 404, 405, 409,
+    /// 413, 422, 500 or 501. It allocates nothing.
     pub fn new(status: u16, body: String) -> Option<Reply>
         ensures { SomeIff result (IsStatus status) (record { status = status; body = string_bytes body }) }
     {
@@ -46,7 +46,8 @@ impl Reply {
         }
     }
 
-    /// The reply for a code: its status, and `{"error_code":n,"message":"M"}`. It takes no memory.
+    /// The reply for a code: its status, and `{"error_code":n,"message":"M"}`. It allocates
+    /// nothing.
     pub fn fault(code: Code) -> Reply
         ensures { result ≡ fault code }
     {
@@ -55,7 +56,7 @@ impl Reply {
         }
     }
 
-    /// The reply of a command that isn't refused.
+    /// The reply to a command that succeeds: status 200 with this body.
     pub(crate) fn answer(body: String) -> Reply
         ensures { result ≡ answer (string_bytes body) }
     {
@@ -85,11 +86,11 @@ impl Reply {
         }
     }
 
-    /// A copy. A fault's takes no memory.
+    /// A copy. Copying a fault allocates nothing.
     ///
     /// # Errors
     ///
-    /// `OutOfMemory` where memory for the body is refused.
+    /// `OutOfMemory` if an allocation for the body fails.
     pub fn try_clone(&self) -> Result<Reply, OutOfMemory>
         ensures { IfOk result (λ copy. copy ≡ self.now) }
     {

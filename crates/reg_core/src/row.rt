@@ -7,7 +7,7 @@ use avro_nodes::OutOfMemory;
 use std::marker::Model;
 
 /// A version of a subject: its number, the id of its schema, and whether it is soft-deleted.
-/// Contracts see what it is known by, which is the subject and the number, and the rest.
+/// Contracts see a pair: the key (subject and number), and the rest.
 #[derive(Debug, Drop)]
 pub struct Row {
     subject: Subject,

@@ -1,4 +1,4 @@
-//! Subjects.
+//! The names of subjects.
 
 ghost use Rattle.std.specs.Prelude.{◌≡◌, IsTrue, SomeIff, IfOk, string_bytes};
 ghost use Rattle.std.specs.List.{list_any};
@@ -26,7 +26,7 @@ impl Model for Subject {
     ghost invariant = { λ subject. IsTrue (is_subject (string_bytes subject.text)) };
 }
 
-/// Whether it is one of the control characters of ASCII.
+/// Whether the character is an ASCII control character.
 fn is_control(c: char) -> bool
     ensures { result ≡ is_control c }
 {
@@ -39,7 +39,7 @@ fn has_control(text: &str) -> bool
     text.chars().any(|c| is_control(c))
 }
 
-/// Whether a subject may have this text.
+/// Whether the text is a valid subject name.
 pub fn is_subject(text: &str) -> bool
     ensures { result ≡ is_subject text.now }
 {
@@ -50,8 +50,8 @@ pub fn is_subject(text: &str) -> bool
 }
 
 impl Subject {
-    /// The subject with this text, where it has 1 to 255 bytes, no code point below U+0020 and no
-    /// U+007F; else `None`. It takes no memory.
+    /// The subject with this text, or `None` unless the text has 1 to 255 bytes, no code point
+    /// below U+0020 and no U+007F. It allocates nothing.
     pub fn new(text: String) -> Option<Subject>
         ensures { SomeIff result (IsTrue (is_subject (string_bytes text))) (string_bytes text) }
     {
@@ -74,7 +74,7 @@ impl Subject {
     ///
     /// # Errors
     ///
-    /// `OutOfMemory` where memory for the text is refused.
+    /// `OutOfMemory` if an allocation for the text fails.
     pub fn try_clone(&self) -> Result<Subject, OutOfMemory>
         ensures { IfOk result (λ copy. copy ≡ self.now) }
     {

@@ -1,10 +1,10 @@
-//! Texts as they were sent.
+//! Unparsed texts of commands.
 
 ghost use Rattle.std.specs.Prelude.{◌≡◌, string_bytes};
 
 use std::marker::Model;
 
-/// A text as it was sent. Contracts see its bytes.
+/// A text as a client sent it, unparsed. Contracts see its bytes.
 #[derive(Debug, Drop)]
 pub struct Text {
     string: String,
@@ -26,7 +26,7 @@ impl Text {
         self.string.as_str()
     }
 
-    /// The text as the string that it was made from.
+    /// The string of the text.
     pub fn into_string(self) -> String
         ensures { string_bytes result ≡ self }
     {

@@ -11,14 +11,14 @@ use Rattle.reg_core.specs.Compatibility.{named_versions}
 use Rattle.reg_core.specs.Verdicts.{is_compatible}
 use Rattle.reg_core.specs.Views.{view_text}
 
--- this project's choice: the schema that the view's text of a version denotes, if it has a text, and that denotes one
+-- this project's choice: the schema that the view's text of a version denotes; `None` if there is no text, or it denotes none
 abbrev pub view_schema : View → Row → Option (List NodeView)
 view_schema view row = option_and_then denoted_nodes (view_text view row.1.id)
 
--- this project's choice: whether the version's schema is there and compatible with the new one, as the level asks
+-- this project's choice: whether the view has the version's schema, and it is compatible with the new one under the level
 abbrev pub is_compatible_in_view : View → Level → List NodeView → Row → Bool
 is_compatible_in_view view level new row = option_map_or (λ earlier. is_compatible level earlier new) (view_schema view row) false
 
--- this project's choice: whether that holds of each version that the level names among these
+-- this project's choice: whether that is true of each of these versions that the level compares with
 abbrev pub is_admitted_in_view : View → Level → List Row → List NodeView → Bool
 is_admitted_in_view view level rows new = list_all (is_compatible_in_view view level new) (named_versions level rows)

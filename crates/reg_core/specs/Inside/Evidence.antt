@@ -1,4 +1,4 @@
--- What changes make of the evidence of versions.
+-- The evidence of versions after changes.
 use Rattle.std.specs.Prelude.{⊤, List, [], ◌∷◌}
 use Rattle.reg_core.specs.declared.decision.Change.{Change}
 use Rattle.reg_core.specs.declared.decision.Change.TheVariants as change
@@ -19,11 +19,11 @@ AddsNoVersion (change.SetGlobalMode mode) = ⊤
 AddsNoVersion (change.SetMode subject mode) = ⊤
 AddsNoVersion (change.DropMode subject) = ⊤
 
--- so it is of each of them
+-- no change adds a version
 abbrev pub AddNoVersion : List Change → Type 0
 AddNoVersion [] = ⊤
 AddNoVersion (change ∷ changes) = AddsNoVersion change × AddNoVersion changes
 
--- the changes make of the evidence what becomes of it where they make another registry of this one
+-- the changes update the evidence as they update this registry (`IsEvidenceUpdate`)
 abbrev pub UpdateEvidence : List Change → Registry → Type 0
 UpdateEvidence changes g = (had : EvidenceMap) → HasOnlyVersions g had → IsEvidenceUpdate g (after_changes changes g) had (evidence_after_changes changes had)

@@ -14,7 +14,7 @@ use itoa::Buffer;
 use serde_json::{Value, json};
 use std::alloc::Global;
 
-/// An object with the identity text of a schema.
+/// The reply with a schema: an object with its identity text.
 pub fn schema_reply(alloc: Global, text: &str) -> Result<Reply, OutOfMemory>
     ensures { IfOk result (λ reply. reply ≡ answer (schema_body text.now)) }
 {
@@ -26,7 +26,7 @@ pub fn schema_reply(alloc: Global, text: &str) -> Result<Reply, OutOfMemory>
     Ok(Reply::answer(body))
 }
 
-/// A version with the identity text of its schema.
+/// The reply with a version and the identity text of its schema.
 pub fn version_reply(alloc: Global, row: &Row, text: &str) -> Result<Reply, OutOfMemory>
     ensures { IfOk result (λ reply. reply ≡ answer (version_body row.now text.now)) }
 {
@@ -47,7 +47,7 @@ pub fn version_reply(alloc: Global, row: &Row, text: &str) -> Result<Reply, OutO
     Ok(Reply::answer(body))
 }
 
-/// An array of texts.
+/// The reply with an array of texts.
 pub fn texts_reply(alloc: Global, texts: &[&str]) -> Result<Reply, OutOfMemory>
     ensures { IfOk result (λ reply. reply ≡ answer (texts_body (map (λ text. text.now) texts.now))) }
 {
@@ -58,14 +58,14 @@ pub fn texts_reply(alloc: Global, texts: &[&str]) -> Result<Reply, OutOfMemory>
     value_reply(alloc, Value::Array(values))
 }
 
-/// A number.
+/// The reply with a number.
 pub fn number_reply(alloc: Global, number: u32) -> Result<Reply, OutOfMemory>
     ensures { IfOk result (λ reply. reply ≡ answer (number_body number)) }
 {
     value_reply(alloc, Value::from(number))
 }
 
-/// An array of the versions' numbers.
+/// The reply with an array of the versions' numbers.
 pub fn numbers_reply(alloc: Global, rows: &[&Row]) -> Result<Reply, OutOfMemory>
     ensures { IfOk result (λ reply. reply ≡ answer
         (numbers_body (map (λ row. row.0.1) (map (λ row. row.now) rows.now)))) }
@@ -77,7 +77,7 @@ pub fn numbers_reply(alloc: Global, rows: &[&Row]) -> Result<Reply, OutOfMemory>
     value_reply(alloc, Value::Array(values))
 }
 
-/// An array of the versions' subjects and numbers.
+/// The reply with an array of the versions' subjects and numbers.
 pub fn subject_versions_reply(alloc: Global, rows: &[&Row]) -> Result<Reply, OutOfMemory>
     ensures { IfOk result (λ reply. reply ≡ answer (subject_versions_body (map (λ row. row.now) rows.now))) }
 {
@@ -97,7 +97,7 @@ fn subject_version(alloc: Global, row: &Row) -> Result<Value, OutOfMemory>
     Ok(json!(in alloc; {"subject": subject, "version": version})?)
 }
 
-/// The value's text. A clause knows it only where the value has no float.
+/// The reply with the JSON value. The clause excludes values with floats.
 fn value_reply(alloc: Global, value: Value) -> Result<Reply, OutOfMemory>
     ensures { IfOk result (λ reply. has_float (view value) ≡ false
         → reply ≡ answer (compact_text (view value))) }

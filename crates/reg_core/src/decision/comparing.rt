@@ -1,4 +1,4 @@
-//! The comparison of a new schema with earlier ones, which are read from their texts.
+//! Compares a new schema with earlier ones, which are parsed from their texts.
 
 ghost use Rattle.std.specs.Prelude.{◌≡◌, ◌↔◌, IfOk, IsTrue, List, None, Option, Some, false, map, option_map};
 ghost use Rattle.avro_nodes.specs.Nodes.{NodeView, nodes_view};
@@ -17,21 +17,25 @@ use avro_schema::{Schema, SchemaError};
 use schema_cache::{CacheLookup, EvictionPolicy, SchemaCache};
 use std::alloc::Global;
 
-/// The schema that the text denotes, if it denotes one.
+/// The schema that the text denotes, or `None` if it denotes none.
+///
+/// # Errors
+///
+/// `OutOfMemory` if an allocation for the schema fails.
 pub fn schema_of(alloc: Global, text: &str) -> Result<Option<Schema>, OutOfMemory>
     ensures { IfOk result (λ found. option_map nodes_view found ≡ denoted_nodes text.now) }
 {
     if_denoted(Schema::read(alloc, text))
 }
 
-/// Whether the new schema goes with the earlier one that the text of this id denotes, in the
-/// directions of the level. It doesn't where the text denotes none. The earlier one is remembered,
-/// and where the memory is full the least recently used ones go, since a version is compared with
-/// those shortly before it.
+/// Whether the new schema is compatible with the earlier one, in the level's directions. `text` is
+/// the earlier schema's text, and `id` its id. If the text denotes no schema, the result is no. The
+/// earlier schema is cached. A full cache evicts the least recently used schemas, since a version
+/// is compared with those shortly before it.
 ///
 /// # Errors
 ///
-/// `OutOfMemory` where memory for the earlier schema or for a comparison is refused.
+/// `OutOfMemory` if an allocation for the earlier schema or a comparison fails.
 pub fn is_compatible_with(
     alloc: Global,
     level: Level,
@@ -52,7 +56,7 @@ pub fn is_compatible_with(
     }
 }
 
-/// What was read, if the text denotes a schema.
+/// The parsed schema, or `None` if the text denotes none.
 fn if_denoted<T>(read: Result<T, SchemaError>) -> Result<Option<T>, OutOfMemory>
     ensures { (shown : T → List NodeView) (denoted : Option (List NodeView)) → Gives shown read denoted
         → IfOk result (λ found. option_map shown found ≡ denoted) }
@@ -66,7 +70,7 @@ fn if_denoted<T>(read: Result<T, SchemaError>) -> Result<Option<T>, OutOfMemory>
     }
 }
 
-/// The schema that the text of an id denotes. It isn't read where the memory has it.
+/// The schema that the text of an id denotes, from the cache if it has it, else parsed.
 fn read_earlier<'a>(
     alloc: Global,
     id: u32,
@@ -85,12 +89,12 @@ fn read_earlier<'a>(
     }
 }
 
-/// Whether the level admits the new schema after these versions, in order of number. It reads
-/// one version's text at a time, and ends at the first version that isn't compatible.
+/// Whether the level admits the new schema after these versions, in order of number. It parses one
+/// version's text at a time, and stops at the first version that isn't compatible.
 ///
 /// # Errors
 ///
-/// `OutOfMemory` where memory for a schema or for a comparison is refused.
+/// `OutOfMemory` if an allocation for a schema or a comparison fails.
 pub fn admits_after(
     alloc: Global,
     view: &View,
@@ -112,7 +116,7 @@ pub fn admits_after(
     Ok(true)
 }
 
-/// What a memory that is full does while these versions are compared.
+/// What a full cache does while these versions are compared.
 fn eviction_policy(view: &View, rows: &[&Row]) -> EvictionPolicy {
     let mut bytes = 0usize;
     for row in rows {
@@ -123,8 +127,8 @@ fn eviction_policy(view: &View, rows: &[&Row]) -> EvictionPolicy {
     EvictionPolicy::for_scan(rows.len(), bytes)
 }
 
-/// Whether the version's schema and the new one are compatible, as the level asks. They aren't
-/// where the view has no text of the version, or none that denotes a schema.
+/// Whether the version's schema and the new one are compatible in the level's directions. The
+/// result is no if the view has no text of the version, or its text denotes no schema.
 fn is_version_compatible(
     alloc: Global,
     view: &View,

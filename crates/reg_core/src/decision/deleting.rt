@@ -1,4 +1,4 @@
-//! Commands that delete versions and subjects, softly or for good.
+//! Commands that delete versions and subjects, softly or permanently.
 
 ghost use Rattle.std.specs.Prelude.{◌≡◌, ◌≢◌, ◌++◌, ◌∷◌, List, [], Option, IfOk, map};
 ghost use Rattle.std.specs.Result.{result_map_both};
@@ -25,7 +25,7 @@ use crate::subject::Subject;
 use avro_nodes::OutOfMemory;
 use std::alloc::Global;
 
-/// The version of the subject that is chosen is soft-deleted, or removed where that is asked for.
+/// Soft-deletes the chosen version of the subject, or with `permanent` removes it.
 pub fn delete_version(
     alloc: Global,
     view: &View,
@@ -52,7 +52,8 @@ pub fn delete_version(
     }
 }
 
-/// The version to soft-delete or to remove, or why there is none. The live versions come beside all.
+/// The version to soft-delete or to remove, or the code of the refusal. `live` has the live ones of
+/// `rows`.
 fn row_to_delete<'a>(
     permanent: bool,
     choice: Option<VersionChoice>,
@@ -70,7 +71,7 @@ fn row_to_delete<'a>(
     }
 }
 
-/// The version to soft-delete, or why there is none. The live versions come beside all.
+/// The version to soft-delete, or the code of the refusal. `live` has the live ones of `rows`.
 fn row_to_soft_delete<'a>(
     choice: Option<VersionChoice>,
     rows: &[&'a Row],
@@ -90,7 +91,7 @@ fn row_to_soft_delete<'a>(
     Ok(row)
 }
 
-/// The version to remove, or why there is none.
+/// The version to remove, or the code of the refusal.
 fn row_to_remove<'a>(choice: Option<VersionChoice>, rows: &[&'a Row]) -> Result<&'a Row, Code>
     ensures { result_map_both (λ row. row.now) (λ code. code) result
         ≡ row_to_remove choice (map (λ row. row.now) rows.now) }
@@ -102,7 +103,8 @@ fn row_to_remove<'a>(choice: Option<VersionChoice>, rows: &[&'a Row]) -> Result<
     Ok(row)
 }
 
-/// The version with this number is soft-deleted, or removed, and the number answered.
+/// Soft-deletes the version with this number, or with `permanent` removes it; replies with the
+/// number.
 fn delete_one(
     alloc: Global,
     subject: &Subject,
@@ -118,7 +120,8 @@ fn delete_one(
     Ok(Decision { changes, reply })
 }
 
-/// The change that soft-deletes the version of the subject with this number, or removes it.
+/// The change that soft-deletes the subject's version with this number, or with `permanent` removes
+/// it.
 fn version_change(subject: &Subject, version: u32, permanent: bool) -> Result<Change, OutOfMemory>
     ensures { IfOk result (λ change. change ≡ version_change permanent subject.now version) }
 {
@@ -130,8 +133,8 @@ fn version_change(subject: &Subject, version: u32, permanent: bool) -> Result<Ch
     }
 }
 
-/// The versions of the subject are soft-deleted, or removed where that is asked for, and its own
-/// level goes; where they are removed, its own mode too.
+/// Soft-deletes the subject's versions and removes its own level. With `permanent`, removes the
+/// versions and the subject's own mode too.
 pub fn delete_subject(
     alloc: Global,
     view: &View,
@@ -161,7 +164,8 @@ pub fn delete_subject(
     }
 }
 
-/// Why a subject with these versions, of which these are live, can't be soft-deleted or removed.
+/// The code if a subject with these versions and these live ones can't be soft-deleted, or with
+/// `permanent` removed; else `None`.
 fn subject_refusal(permanent: bool, rows: &[&Row], live: &[&Row]) -> Option<Code>
     ensures { result ≡ subject_refusal permanent (map (λ row. row.now) rows.now) (map (λ row. row.now) live.now) }
 {
@@ -175,8 +179,8 @@ fn subject_refusal(permanent: bool, rows: &[&Row], live: &[&Row]) -> Option<Code
     }
 }
 
-/// These versions of the subject are soft-deleted, or removed, its own level goes, and where they
-/// are removed its own mode, and the numbers are answered.
+/// Soft-deletes these versions of the subject, or with `permanent` removes them; removes the
+/// subject's own level, and with `permanent` its own mode; replies with the numbers.
 fn delete_all(
     alloc: Global,
     subject: &Subject,
@@ -196,7 +200,8 @@ fn delete_all(
     Ok(Decision { changes, reply })
 }
 
-/// The subject's own level goes, and where its versions go for good, its own mode too.
+/// Adds the change that removes the subject's own level; if its versions are removed permanently,
+/// also the change that removes its own mode.
 fn drop_own_settings(
     changes: &mut Vec<Change>,
     subject: &Subject,

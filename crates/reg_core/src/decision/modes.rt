@@ -1,4 +1,4 @@
-//! What the mode forbids.
+//! The commands that a mode forbids.
 
 ghost use Rattle.std.specs.Prelude.{◌≡◌};
 ghost use Rattle.reg_core.specs.Modes.{is_read_only};
@@ -18,7 +18,7 @@ pub fn is_read_only(view: &View, command: &Command) -> bool
     }
 }
 
-/// The mode that may forbid the command, if one may.
+/// The mode that may forbid the command, or `None` if no mode may.
 fn mode_of_view(view: &View, command: &Command) -> Option<Mode>
     ensures { result ≡ mode_of_view view.now command.now }
 {

@@ -1,4 +1,4 @@
-//! The texts that a command needs.
+//! The identity texts that a command needs.
 
 ghost use Rattle.std.specs.Prelude.{◌≡◌, [], IfOk, if◌then◌else◌, map};
 ghost use Rattle.std.specs.Result.{result_map_both};
@@ -21,12 +21,12 @@ use crate::row::Row;
 use avro_nodes::OutOfMemory;
 use std::alloc::Global;
 
-/// The ids whose texts the command shows, or whose schemas it compares with the one that it sends.
-/// It looks at no text of the view. An id may come more than once.
+/// The ids whose texts the command shows, or whose schemas it compares with the sent schema.
+/// The view needs no texts. An id may occur more than once.
 ///
 /// # Errors
 ///
-/// `OutOfMemory` where memory for the ids is refused.
+/// `OutOfMemory` if an allocation for the ids fails.
 pub fn ids_to_read(alloc: Global, command: &Command, view: &View) -> Result<Vec<u32>, OutOfMemory>
     ensures { IfOk result (λ ids. ids.items ≡ map (λ row. row.1.id) (rows_to_read command.now view.now)) }
 {
@@ -63,7 +63,7 @@ pub fn ids_to_read(alloc: Global, command: &Command, view: &View) -> Result<Vec<
     }
 }
 
-/// The ids that Register compares with: none where a live version has the schema already.
+/// The ids that Register compares with; none if a live version already has the schema.
 fn register_ids(alloc: Global, view: &View) -> Result<Vec<u32>, OutOfMemory>
     ensures { IfOk result (λ ids. let live = live_rows view.now.rows.items in ids.items
         ≡ map (λ row. row.1.id) (if is_among view.now.known live then [] else named_versions (level_of_view view.now) live)) }
@@ -130,7 +130,7 @@ fn found_ids(alloc: Global, found: Result<&Row, Code>) -> Result<Vec<u32>, OutOf
     }
 }
 
-/// The id of the last of the versions, if there is one.
+/// The id of the last version, if any.
 fn latest_id(alloc: Global, rows: &[Row]) -> Result<Vec<u32>, OutOfMemory>
     ensures { IfOk result (λ ids. ids.items ≡ map (λ row. row.1.id) (latest rows.now)) }
 {

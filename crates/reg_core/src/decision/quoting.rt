@@ -1,6 +1,6 @@
 //! Texts as JSON strings.
 
-ghost use Rattle.std.specs.Prelude.{◌≡◌, ◌≤◌, ◌<◌, ◌==◌, ◌||◌, true, length, nat_lt, slice_index, slice_range, string_bytes, IfOk};
+ghost use Rattle.std.specs.Prelude.{◌≡◌, ◌≤◌, ◌<◌, ◌==◌, ◌||◌, true, length, nat_lt, position, slice_index, slice_range, string_bytes, IfOk, IfSome};
 ghost use Rattle.json.specs.Print.{escape, quoted};
 
 use serde_json::Value;
@@ -13,7 +13,15 @@ fn needs_escape(byte: u8) -> bool
     byte == b'"' || byte == b'\\' || byte < b' '
 }
 
-/// Where the first byte that may have to be escaped is, from a byte on.
+/// The position of the first byte that may have to be escaped, or `None`.
+fn first_escape(bytes: &[u8]) -> Option<usize>
+    ensures first { result ≡ position (λ byte. byte == 34 || (byte == 92 || nat_lt byte 32)) bytes.now }
+    ensures within { IfSome result (λ at. at < length bytes.now) }
+{
+    bytes.iter().position(|byte| needs_escape(*byte))
+}
+
+/// The position of the first byte from `from` on that may have to be escaped, else the length.
 fn next_escape(bytes: &[u8], from: usize) -> usize
     requires { from ≤ length bytes.now }
     ensures place { (from ≤ result) × (result ≤ length bytes.now) }
@@ -21,25 +29,21 @@ fn next_escape(bytes: &[u8], from: usize) -> usize
         → (slice_index bytes.now result == 34 || (slice_index bytes.now result == 92 || nat_lt (slice_index bytes.now result) 32)) ≡ true }
     ensures plain { escape (slice_range bytes.now from result) ≡ slice_range bytes.now from result }
 {
-    let mut at = from;
-    while at < bytes.len() {
-        if needs_escape(bytes[at]) {
-            return at;
-        }
-        at += 1;
+    match first_escape(&bytes[from..]) {
+        Some(offset) => from + offset,
+        None => bytes.len(),
     }
-    at
 }
 
-/// Any text as a JSON string.
+/// Any text as a JSON string, by `serde_json`.
 fn quoted_by_serde(alloc: Global, text: &str) -> Result<String, AllocError>
     ensures { IfOk result (λ s. string_bytes s ≡ quoted text.now) }
 {
     Value::String(String::from_str(alloc, text)?).to_string(alloc)
 }
 
-/// A text as a JSON string, with its quotation marks. A schema's text has no control character, and
-/// up to a quarter of it are quotation marks. So each run of bytes without a mark is copied at once.
+/// A text as a JSON string, with its quotation marks. A schema's text has no control characters,
+/// and up to a quarter of it are quotation marks. So each run of plain bytes is copied at once.
 ///
 /// # Errors
 ///

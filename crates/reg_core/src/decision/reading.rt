@@ -23,14 +23,14 @@ use avro_nodes::OutOfMemory;
 use avro_schema::Schema;
 use std::alloc::Global;
 
-/// The types of schemas: Avro alone.
+/// The reply with the supported schema types: only Avro.
 pub fn types(alloc: Global) -> Result<Reply, OutOfMemory>
     ensures { IfOk result (λ reply. reply ≡ types_reply) }
 {
     texts_reply(alloc, &["AVRO"])
 }
 
-/// The subjects of the versions that are shown.
+/// The reply with the subjects of the shown versions.
 pub fn subjects(alloc: Global, deleted: bool, rows: &[Row]) -> Result<Reply, OutOfMemory>
     ensures { IfOk result (λ reply. reply ≡ subjects_reply (shown_rows deleted rows.now)) }
 {
@@ -39,7 +39,7 @@ pub fn subjects(alloc: Global, deleted: bool, rows: &[Row]) -> Result<Reply, Out
     texts_reply(alloc, subjects.as_slice())
 }
 
-/// The subjects of these versions, each once: those of a subject stand side by side.
+/// The subjects of these versions, each once. A subject's versions must be adjacent.
 fn subjects_of<'a>(alloc: Global, rows: &[&'a Row]) -> Result<Vec<&'a str>, OutOfMemory>
     ensures { IfOk result (λ subjects. map (λ subject. subject.now) subjects.items
         ≡ dedup bytes_eq (map (λ row. row.0.0) (map (λ row. row.now) rows.now))) }
@@ -52,7 +52,7 @@ fn subjects_of<'a>(alloc: Global, rows: &[&'a Row]) -> Result<Vec<&'a str>, OutO
     Ok(subjects)
 }
 
-/// The numbers of the subject's versions that are shown.
+/// The reply with the numbers of the subject's shown versions.
 pub fn versions(alloc: Global, deleted: bool, rows: &[Row]) -> Result<Reply, OutOfMemory>
     ensures { IfOk result (λ reply. reply ≡ versions_reply (shown_rows deleted rows.now)) }
 {
@@ -63,7 +63,7 @@ pub fn versions(alloc: Global, deleted: bool, rows: &[Row]) -> Result<Reply, Out
     numbers_reply(alloc, shown.as_slice())
 }
 
-/// The version of the subject that the text chooses, with its schema.
+/// The reply with the version that the text chooses, and its schema.
 pub fn version(alloc: Global, view: &View, text: &str, deleted: bool) -> Result<Reply, OutOfMemory>
     ensures { IfOk result (λ reply. reply ≡ version_reply (view_text view.now)
         (found_row (parse_choice text.now) (shown_rows deleted view.now.rows.items))) }
@@ -75,7 +75,7 @@ pub fn version(alloc: Global, view: &View, text: &str, deleted: bool) -> Result<
     }
 }
 
-/// The schema of the version that the text chooses.
+/// The reply with only the schema of the version that the text chooses.
 pub fn version_text(
     alloc: Global,
     view: &View,
@@ -92,7 +92,7 @@ pub fn version_text(
     }
 }
 
-/// The last version of the subject that has the schema.
+/// The reply with the subject's last version that has the schema.
 pub fn lookup(
     alloc: Global,
     view: &View,
@@ -113,7 +113,7 @@ pub fn lookup(
     }
 }
 
-/// The last of these versions that has the id, or why there is none.
+/// The last of these versions that has the id, or the code of the refusal.
 pub fn lookup_row<'a>(known: Option<u32>, rows: &[&'a Row]) -> Result<&'a Row, Code>
     ensures { result_map_both (λ row. row.now) (λ code. code) result
         ≡ lookup_row known (map (λ row. row.now) rows.now) }
@@ -127,7 +127,7 @@ pub fn lookup_row<'a>(known: Option<u32>, rows: &[&'a Row]) -> Result<&'a Row, C
     }
 }
 
-/// The last of these versions that has the id, if there is one.
+/// The last of these versions that has the id, or `None`.
 fn last_with<'a>(known: Option<u32>, rows: &[&'a Row]) -> Option<&'a Row>
     ensures { option_copied result ≡ last_or None (rows_with_id known (map (λ row. row.now) rows.now)) }
 {
@@ -141,7 +141,7 @@ fn last_with<'a>(known: Option<u32>, rows: &[&'a Row]) -> Option<&'a Row>
     last
 }
 
-/// The schema of the id, which some version has.
+/// The reply with the schema of an id that some version has.
 pub fn by_id(alloc: Global, view: &View, id: &str) -> Result<Reply, OutOfMemory>
     ensures { IfOk result (λ reply. reply ≡ id_reply (view_text view.now) (parse_id id.now) view.now.rows.items) }
 {
@@ -151,7 +151,7 @@ pub fn by_id(alloc: Global, view: &View, id: &str) -> Result<Reply, OutOfMemory>
     }
 }
 
-/// The versions of the id that are shown. Some version has the id, a deleted one perhaps.
+/// The reply with the shown versions of an id that some version has, perhaps a soft-deleted one.
 pub fn versions_of_id(
     alloc: Global,
     deleted: bool,
@@ -167,7 +167,7 @@ pub fn versions_of_id(
     subject_versions_reply(alloc, shown.as_slice())
 }
 
-/// The version with its schema.
+/// The reply with the version and its schema.
 fn shown_version(alloc: Global, view: &View, row: &Row) -> Result<Reply, OutOfMemory>
     ensures { IfOk result (λ reply. reply ≡ text_reply (version_body row.now) (view_text view.now row.now.1.id)) }
 {
@@ -177,7 +177,7 @@ fn shown_version(alloc: Global, view: &View, row: &Row) -> Result<Reply, OutOfMe
     }
 }
 
-/// The schema of the id, in an object.
+/// The reply with the schema of the id, in an object.
 fn shown_schema(alloc: Global, view: &View, id: u32) -> Result<Reply, OutOfMemory>
     ensures { IfOk result (λ reply. reply ≡ text_reply schema_body (view_text view.now id)) }
 {
@@ -187,7 +187,7 @@ fn shown_schema(alloc: Global, view: &View, id: u32) -> Result<Reply, OutOfMemor
     }
 }
 
-/// The schema of the id alone.
+/// The reply with only the schema of the id.
 fn shown_text(view: &View, id: u32) -> Result<Reply, OutOfMemory>
     ensures { IfOk result (λ reply. reply ≡ text_reply (λ text. text) (view_text view.now id)) }
 {

@@ -1,4 +1,4 @@
-//! Commands that register schemas, and that tell whether a schema could be registered.
+//! Commands that register schemas, and that check whether a schema could be registered.
 
 ghost use Rattle.std.specs.Prelude.{◌≡◌, ◌≢◌, ℕ, Bool, List, [], None, Some, IfOk, if◌then◌else◌, map, option_copied, option_map};
 ghost use Rattle.avro_nodes.specs.Nodes.{nodes_view};
@@ -31,8 +31,8 @@ use schema_cache::SchemaCache;
 use serde_json::json;
 use std::alloc::Global;
 
-/// The schema becomes the subject's next version, unless a live version has it already. It is
-/// refused where the level doesn't admit it, and where no number is left.
+/// Adds the schema as the subject's next version, unless a live version already has it. Rejects it
+/// if the level doesn't admit it, or no number is left.
 pub fn register(
     alloc: Global,
     view: &View,
@@ -75,7 +75,7 @@ pub fn register(
     Ok(Decision { changes, reply })
 }
 
-/// The reply to whether the subject's level would admit the schema.
+/// The reply with the verdict whether the subject's level would admit the schema.
 pub fn check_all(
     alloc: Global,
     view: &View,
@@ -95,8 +95,8 @@ pub fn check_all(
     verdict_reply(alloc, fits)
 }
 
-/// The reply to whether the subject's level would admit the schema after the live version that is
-/// chosen alone.
+/// The reply with the verdict whether the subject's level would admit the schema after only the
+/// chosen live version.
 pub fn check(
     alloc: Global,
     view: &View,
@@ -125,14 +125,14 @@ pub fn check(
     }
 }
 
-/// The level in force: the subject's own one, else the global one.
+/// The level in force: the subject's own level, else the global one.
 pub fn level_in_force(view: &View) -> Level
     ensures { result ≡ level_of_view view.now }
 {
     view.own.unwrap_or(view.global)
 }
 
-/// The id, if there is one and one of the versions has it.
+/// The id if one of the versions has it, else `None`.
 pub fn id_among(known: Option<u32>, rows: &[&Row]) -> Option<u32>
     ensures { result ≡ id_among known (map (λ row. row.now) rows.now) }
 {
@@ -144,7 +144,7 @@ pub fn id_among(known: Option<u32>, rows: &[&Row]) -> Option<u32>
     }
 }
 
-/// The subject's next version, if numbers are left for it and for its schema.
+/// The subject's next version, or `None` if its number or its schema's id would exceed the limit.
 fn next_row(view: &View, subject: &Subject) -> Result<Option<Row>, OutOfMemory>
     ensures { IfOk result (λ row. row ≡ (if has_numbers_by_view view.now then Some (row_by_view view.now subject.now) else None)) }
 {
@@ -161,7 +161,7 @@ fn next_row(view: &View, subject: &Subject) -> Result<Option<Row>, OutOfMemory>
     Ok(Some(row))
 }
 
-/// The number after the greatest one of these versions.
+/// The number after the greatest number of these versions.
 fn next_number(rows: &[Row]) -> u64
     ensures { result ≡ next_number rows.now }
 {
@@ -171,7 +171,7 @@ fn next_number(rows: &[Row]) -> u64
     u64::from(greatest) + 1
 }
 
-/// What a version is admitted by that comes after these live ones.
+/// The evidence of a version that follows these live ones.
 fn evidence_after(alloc: Global, view: &View, live: &[&Row]) -> Result<Evidence, OutOfMemory>
     ensures { IfOk result (λ evidence. evidence ≡ evidence_by_view view.now (map (λ row. row.now) live.now)) }
 {
@@ -180,7 +180,7 @@ fn evidence_after(alloc: Global, view: &View, live: &[&Row]) -> Result<Evidence,
     Ok(Evidence::new(level, against))
 }
 
-/// The changes that add the version with its evidence, and its schema where it is new.
+/// The changes that add the version with its evidence, and its schema if it is new.
 fn version_added(
     alloc: Global,
     known: Option<u32>,
@@ -201,7 +201,7 @@ fn version_added(
     Ok(changes)
 }
 
-/// The reply that tells the id of a schema.
+/// The reply with the id of a schema.
 fn id_reply(alloc: Global, id: u32) -> Result<Reply, OutOfMemory>
     ensures { IfOk result (λ reply. reply ≡ answer (id_body id)) }
 {
@@ -209,7 +209,7 @@ fn id_reply(alloc: Global, id: u32) -> Result<Reply, OutOfMemory>
     Ok(Reply::answer(object.to_string(alloc)?))
 }
 
-/// The reply that tells a verdict.
+/// The reply with a verdict.
 fn verdict_reply(alloc: Global, fits: bool) -> Result<Reply, OutOfMemory>
     ensures { IfOk result (λ reply. reply ≡ answer (verdict_body fits)) }
 {

@@ -1,4 +1,4 @@
-//! The versions that a command looks at.
+//! The versions that a command shows or chooses.
 
 ghost use Rattle.std.specs.Prelude.{◌≡◌, IfOk, map, option_copied};
 ghost use Rattle.std.specs.Result.{result_map_both};
@@ -11,8 +11,7 @@ use crate::row::Row;
 use avro_nodes::OutOfMemory;
 use std::alloc::Global;
 
-/// The versions that are shown: those that aren't soft-deleted, or all where deleted ones are
-/// asked for.
+/// The versions that a command shows: all if `deleted` is on, else those that aren't soft-deleted.
 pub fn shown_rows<'a>(
     alloc: Global,
     deleted: bool,
@@ -27,7 +26,7 @@ pub fn shown_rows<'a>(
     Ok(shown)
 }
 
-/// The version that is chosen among these, or why there is none.
+/// The chosen one of these versions, or the code of the refusal.
 pub fn found_row<'a>(choice: Option<VersionChoice>, rows: &[&'a Row]) -> Result<&'a Row, Code>
     ensures { result_map_both (λ row. row.now) (λ code. code) result
         ≡ found_row choice (map (λ row. row.now) rows.now) }
@@ -44,7 +43,7 @@ pub fn found_row<'a>(choice: Option<VersionChoice>, rows: &[&'a Row]) -> Result<
     }
 }
 
-/// The version that is chosen among these, if there is one.
+/// The chosen one of these versions, or `None`.
 pub fn chosen_row<'a>(choice: VersionChoice, rows: &[&'a Row]) -> Option<&'a Row>
     ensures { option_copied result ≡ chosen_row choice (map (λ row. row.now) rows.now) }
 {

@@ -1,4 +1,4 @@
-//! Commands that set and show what holds of all subjects, or of one of its own.
+//! Commands that set and show compatibility levels and modes.
 
 ghost use Rattle.std.specs.Prelude.{◌≡◌, ◌≢◌, [], IfOk, Option, None, Some, option_copied};
 ghost use Rattle.reg_core.specs.Inside.Evidence.{AddNoVersion};
@@ -17,7 +17,7 @@ use avro_nodes::OutOfMemory;
 use serde_json::json;
 use std::alloc::Global;
 
-/// What is set for all subjects, or for one of its own.
+/// A kind of setting: a subject may have its own value, and there is a global one.
 pub trait Setting: Copy {
     ghost use Rattle.std.specs.Prelude.{◌≡◌, IfOk, option_copied};
     ghost use Rattle.reg_core.specs.Registry.{Registry};
@@ -27,31 +27,31 @@ pub trait Setting: Copy {
 
     ghost setting: { Setting Self };
 
-    /// The value that the text spells.
+    /// The value that the text spells, or `None`.
     fn read(text: &str) -> Option<Self>
         ensures { result ≡ setting.value_of text.now };
 
-    /// How the value is spelt.
+    /// The value's spelling.
     fn spelt(self) -> &'static str
         ensures { result.now ≡ setting.text_of self };
 
-    /// The name under which a value is answered that was set.
+    /// The name of the value's member in the reply to PUT.
     fn member_in_put() -> &'static str
         ensures { result.now ≡ setting.member_in_put };
 
-    /// The name under which a value is shown.
+    /// The name of the value's member in the reply to GET.
     fn member_in_get() -> &'static str
         ensures { result.now ≡ setting.member_in_get };
 
-    /// The refusal of a text that spells no value.
+    /// The code for a text that spells no value.
     fn unknown() -> Code
         ensures { result ≡ setting.unknown };
 
-    /// The refusal where a subject has no value of its own.
+    /// The code for a subject without a value of its own.
     fn absent() -> Code
         ensures { result ≡ setting.absent };
 
-    /// The change that sets the value, for the subject if there is one, else for all.
+    /// The change that sets the value: the subject's own, or the global one if there is no subject.
     fn change(self, subject: Option<&Subject>) -> Result<Change, OutOfMemory>
         ensures after { IfOk result (λ change. (g : Registry)
             → after_change change g ≡ setting.put g (option_copied subject.entry) self) }
@@ -141,7 +141,7 @@ impl Setting for Mode {
     }
 }
 
-/// The subject's own value, or where there is no subject the global one, becomes the one that the
+/// Sets the subject's own value, or the global one if there is no subject, to the value that the
 /// text spells.
 pub fn set<S: Setting>(
     alloc: Global,
@@ -166,7 +166,8 @@ pub fn set<S: Setting>(
     Ok(Decision { changes, reply })
 }
 
-/// The value that is shown of a subject.
+/// The value to show of a subject: its own; if it has none and `default_to_global` is on, the
+/// global one; else `None`.
 pub fn own_or_global<S: Copy>(own: Option<S>, global: S, default_to_global: bool) -> Option<S>
     ensures { result ≡ own_or_global own global default_to_global }
 {
@@ -177,7 +178,7 @@ pub fn own_or_global<S: Copy>(own: Option<S>, global: S, default_to_global: bool
     }
 }
 
-/// The reply that shows a subject's value.
+/// The reply that shows the value, or a fault if there is none.
 pub fn shown_reply<S: Setting>(alloc: Global, value: Option<S>) -> Result<Reply, OutOfMemory>
     ensures { IfOk result (λ reply. reply ≡ shown_reply S.setting value) }
 {
@@ -194,7 +195,7 @@ pub fn setting_answer<S: Setting>(alloc: Global, value: S) -> Result<Reply, OutO
     setting_reply(alloc, S::member_in_get(), value.spelt())
 }
 
-/// An object with one member of this name, whose value is the text.
+/// The reply with an object of one member: this name, with the text as its value.
 fn setting_reply(alloc: Global, name: &str, text: &str) -> Result<Reply, OutOfMemory>
     ensures { IfOk result (λ reply. reply ≡ answer (setting_object name.now text.now)) }
 {

@@ -13,11 +13,11 @@ use Rattle.reg_core.specs.Evidence.{IsEvidenceUpdate, IsEvidenceAfter}
 use Rattle.reg_core.specs.Inside.Evidence.{UpdateEvidence}
 use Rattle.reg_core.specs.Views.{ChangesFit, IsDecisionFor, IsDecisionInput, after_changes, evidence_after_changes, mode_of_view, used_schema}
 use Rattle.reg_core.proofs.EvidenceLemmas.{add_none-tell}
-use Rattle.reg_core.proofs.ModeLemmas.{step-frozen, step-free}
+use Rattle.reg_core.proofs.ModeLemmas.{step-read_only, step-permitted}
 use Rattle.reg_core.proofs.OwnReplies.{not_permitted-IsCommandReply}
 use Rattle.reg_core.proofs.decision.decide_with_cache.Goals as goal
 
--- what is carried out of a command that no mode forbids decides it
+-- if no mode forbids the command, the decision for the permitted step is the decision for the step
 carried : (command : Command) (schema : Option (List NodeView)) (view : View) {E : Type 0} (result : Result Decision E) → is_read_only (mode_of_view view command) ≡ false
     → IfOk result (λ d. (g : Registry) → IsDecisionInput g command (used_schema command schema) view → d.reply ≡ (permitted_step g command).1)
     → IfOk result (λ d. (g : Registry) → IsDecisionInput g command (used_schema command schema) view → after_changes d.changes.items g ≡ (permitted_step g command).0)
@@ -28,10 +28,10 @@ carried : (command : Command) (schema : Option (List NodeView)) (view : View) {E
     → IfOk result (λ d. IsCommandReply d.reply)
     → IfOk result (IsDecisionFor command schema view)
 carried command schema view (Ok d) free reply changes fit evidence read refusal own = record {
-  reply = λ g input. reply g input ∙ ap (λ (after : Registry × ReplyView). after.1) (sym (step-free g command view input.shows free));
-  changes = λ g input. changes g input ∙ ap (λ (after : Registry × ReplyView). after.0) (sym (step-free g command view input.shows free));
+  reply = λ g input. reply g input ∙ ap (λ (after : Registry × ReplyView). after.1) (sym (step-permitted g command view input.shows free));
+  changes = λ g input. changes g input ∙ ap (λ (after : Registry × ReplyView). after.0) (sym (step-permitted g command view input.shows free));
   evidence = λ g input had ok. subst (λ (after : Registry). IsEvidenceUpdate g after had (evidence_after_changes d.changes.items had))
-      (changes g input ∙ ap (λ (after : Registry × ReplyView). after.0) (sym (step-free g command view input.shows free))) (evidence g input had ok);
+      (changes g input ∙ ap (λ (after : Registry × ReplyView). after.0) (sym (step-permitted g command view input.shows free))) (evidence g input had ok);
   fit = fit;
   read = read;
   refusal = refusal;
@@ -41,14 +41,14 @@ carried command schema view (Err e) free reply changes fit evidence read refusal
 
 pub returns-then-is_read_only : goal.returns-then-is_read_only
 returns-then-is_read_only c =
-    let frozen = sym c.is_read_only.ensures ∙ c.if-is_read_only.true in
+    let read_only = sym c.is_read_only.ensures ∙ c.if-is_read_only.true in
     let told = c.unchanged.ensures.reply ∙ c.fault.ensures in
     let none = c.unchanged.ensures.changes in
     record {
-      reply = λ g input. told ∙ ap (λ (after : Registry × ReplyView). after.1) (sym (step-frozen g c.args.command.now c.args.view.now input.shows frozen));
-      changes = λ g input. rw none (ap (λ (after : Registry × ReplyView). after.0) (sym (step-frozen g c.args.command.now c.args.view.now input.shows frozen)));
+      reply = λ g input. told ∙ ap (λ (after : Registry × ReplyView). after.1) (sym (step-read_only g c.args.command.now c.args.view.now input.shows read_only));
+      changes = λ g input. rw none (ap (λ (after : Registry × ReplyView). after.0) (sym (step-read_only g c.args.command.now c.args.view.now input.shows read_only)));
       evidence = λ g input had ok. subst (λ (items : List Change). IsEvidenceAfter g c.args.command.now had (evidence_after_changes items had)) (sym none)
-          (subst (λ (after : Registry). IsEvidenceUpdate g after had had) (sym (ap (λ (after : Registry × ReplyView). after.0) (step-frozen g c.args.command.now c.args.view.now input.shows frozen))) (add_none-tell [] tt g had ok));
+          (subst (λ (after : Registry). IsEvidenceUpdate g after had had) (sym (ap (λ (after : Registry × ReplyView). after.0) (step-read_only g c.args.command.now c.args.view.now input.shows read_only))) (add_none-tell [] tt g had ok));
       fit = λ g input. rw none tt;
       read = λ _. none;
       refusal = λ _. none;

@@ -19,7 +19,7 @@ use Rattle.reg_core.proofs.decision.deleting.delete_subject.Goals as goal
 abbrev now : List (Bor Row) → List Row
 now rows = map (λ (row : Bor Row). row.now) rows
 
--- what is found of the versions that are looked at is found of the view's
+-- the refusal by the collected versions is the refusal by the view's versions
 in_view : {X : Type 0} (found : X) (test : List Row → List Row → X) (all rows live : List Row) → rows ≡ shown_rows true all → live ≡ live_rows all → found ≡ test rows live → found ≡ test all (live_rows all)
 in_view found test all rows live are alive is = is ∙ (ap (λ (rs : List Row). test rs live) (are ∙ all_shown all) ∙ ap (test all) alive)
 

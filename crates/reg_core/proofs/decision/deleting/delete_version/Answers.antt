@@ -17,7 +17,7 @@ use Rattle.reg_core.proofs.DeletionSteps.{deletion_refused, version_gone, all_sh
 use Rattle.reg_core.proofs.OwnReplies.{HasOwnFault, row_to_delete-fault}
 use Rattle.reg_core.proofs.decision.deleting.delete_version.Goals as goal
 
--- what is found among the versions that are looked at is found in the view
+-- the version found among the collected ones is the version found in the view
 in_view : (permanent : Bool) (chosen : List ℕ) (choice : Option VersionChoice) (found : Result Row Code) (all : List Row) (rows live : List Row) → rows ≡ shown_rows true all → live ≡ live_rows all → choice ≡ parse_choice chosen
     → (live ≡ live_rows rows → found ≡ row_to_delete permanent choice rows) → found ≡ row_to_delete permanent (parse_choice chosen) all
 in_view permanent chosen choice found all rows live are alive is seen =

@@ -19,7 +19,7 @@ latest_is None e = absurd (true≢false e)
 latest_is (Some Latest) e = refl
 latest_is (Some (Numbered number)) e = absurd (true≢false e)
 
--- what is seen of what is found, or else the error
+-- the view of the found version, or the error
 seen_or : (found : Option (Bor Row)) (code : Code) → result_map_both (λ (row : Bor Row). row.now) (λ code. code) (ok_or found code) ≡ ok_or (option_copied found) code
 seen_or None code = refl
 seen_or (Some row) code = refl

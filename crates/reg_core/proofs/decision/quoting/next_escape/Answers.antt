@@ -1,15 +1,11 @@
-use Rattle.std.proofs.Common.{◌∙◌, sym, arith}
-use Rattle.reg_core.proofs.Quoting.{none_yet, plain_more}
+use Rattle.reg_core.proofs.Quoting.{escape_found, escape_absent}
 use Rattle.reg_core.proofs.decision.quoting.next_escape.Goals as goal
 
-pub loop-at-init : goal.loop-at-init
-loop-at-init c = record {
-  place = (omega arith, omega arith);
-  plain = none_yet c.args.bytes.now c.args.from;
-}
+pub returns-in-Some-clause-found : goal.returns-in-Some-clause-found
+returns-in-Some-clause-found c within = (escape_found c.args.bytes.now c.args.from c.in-Some.offset c.in-Some.ensures.first).0
 
-pub loop-at-preserved : goal.loop-at-preserved
-loop-at-preserved c = record {
-  place = (omega arith, omega arith);
-  plain = plain_more c.args.bytes.now c.args.from c.loop-at.at c.loop-at.invariant.place.0 (omega arith) (sym c.needs_escape.ensures ∙ c.if-needs_escape.false) c.loop-at.invariant.plain;
-}
+pub returns-in-Some-clause-plain : goal.returns-in-Some-clause-plain
+returns-in-Some-clause-plain c = (escape_found c.args.bytes.now c.args.from c.in-Some.offset c.in-Some.ensures.first).1
+
+pub returns-in-None-clause-plain : goal.returns-in-None-clause-plain
+returns-in-None-clause-plain c = escape_absent c.args.bytes.now c.args.from c.in-None.ensures.first

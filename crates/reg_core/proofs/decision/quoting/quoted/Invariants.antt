@@ -5,7 +5,7 @@ use Rattle.json.specs.Print.{escape}
 use Rattle.reg_core.proofs.Quoting.{needs_escape}
 use Rattle.reg_core.proofs.decision.quoting.quoted.Given as goal
 
--- with the run that begins last, the text up to the mark
+-- the output and the last run together are the text up to the byte to escape
 abbrev pub invariant-loop-mark : goal.invariant-loop-mark
 invariant-loop-mark l =
     record {

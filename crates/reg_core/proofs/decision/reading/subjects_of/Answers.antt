@@ -16,7 +16,7 @@ dedup_from-map : {X Y : Type 0} (f : X → Y) (same : Y → Y → Bool) (k : X) 
 dedup_from-map f same k [] = refl
 dedup_from-map f same k (x ∷ xs) = either-map f (same (f x) (f k)) _ _ _ _ (dedup_from-map f same k xs) (ap (λ ys. f k ∷ ys) (dedup_from-map f same x xs))
 
--- repetitions go by what is seen of the items
+-- `dedup` compares the views of the items
 dedup-map : {X Y : Type 0} (f : X → Y) (same : Y → Y → Bool) (xs : List X) → map f (dedup (λ x y. same (f x) (f y)) xs) ≡ dedup same (map f xs)
 dedup-map f same [] = refl
 dedup-map f same (x ∷ xs) = dedup_from-map f same x xs

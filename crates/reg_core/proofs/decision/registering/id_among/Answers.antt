@@ -11,7 +11,7 @@ use Rattle.reg_core.proofs.decision.registering.id_among.Goals as goal
 ltb_more : (n : ℕ) → nat_lt 0 (suc n) ≡ true
 ltb_more n = lt-ltb 0 (suc n) (omega arith)
 
--- some item passes just where the filter keeps one
+-- some item passes exactly if the filter keeps one
 kept : {X : Type 0} (p : X → Bool) (xs : List X) → nat_lt 0 (length (filter p xs)) ≡ list_any p xs
 kept p [] = refl
 kept p (x ∷ xs) = by (p x) (kept p xs)
@@ -24,7 +24,7 @@ any_map : {X Y : Type 0} (f : X → Y) (p : Y → Bool) (xs : List X) → list_a
 any_map f p [] = refl
 any_map f p (x ∷ xs) = ap (λ (b : Bool). p (f x) || b) (any_map f p xs)
 
--- the id is told where the test passes
+-- the result is the id if the test passes
 told : (id : ℕ) (rows : List Row) (b : Bool) → b ≡ list_any (λ (row : Row). row.1.id == id) rows → (if b then Some id else None) ≡ id_among (Some id) rows
 told id rows b e = ap (λ (x : Bool). if x then Some id else None) (e ∙ sym (kept (λ (row : Row). row.1.id == id) rows))
 

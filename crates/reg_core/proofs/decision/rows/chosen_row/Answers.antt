@@ -19,7 +19,7 @@ last_in (x ∷ xs) k e =
     let all_but_one : k ≡ length xs = omega (arith, e) in
     rw all_but_one (last_at x xs)
 
--- what is seen of the last item
+-- the view of the last item
 last_seen : {X Y : Type 0} (f : X → Y) (xs : List X) → option_map f (slice_get xs (length xs - 1)) ≡ last_or None (map f xs)
 last_seen f xs = ap (option_map f) (last_in xs (length xs - 1) refl) ∙ sym (last_or-map f None xs)
 
@@ -27,7 +27,7 @@ chosen-map : {X Y : Type 0} (f : X → Y) (b : Bool) (x : X) (o : Option X) → 
 chosen-map f true x o = refl
 chosen-map f false x o = refl
 
--- what is seen of the first item that passes
+-- the view of the first item that passes
 found_seen : {X Y : Type 0} (f : X → Y) (p : Y → Bool) (xs : List X) → option_map f (find (λ x. p (f x)) xs) ≡ find p (map f xs)
 found_seen f p [] = refl
 found_seen f p (x ∷ xs) = sym (chosen-map f (p (f x)) x (find (λ x. p (f x)) xs)) ∙ ap (λ o. if p (f x) then Some (f x) else o) (found_seen f p xs)
