@@ -61,7 +61,7 @@ is_among id rows = nat_lt 0 (length (rows_with_id id rows))
 abbrev pub has_numbers_left : Registry → List ℕ → List NodeView → Bool
 has_numbers_left g subject new = nat_le (next_number (rows_of g subject)) max_number && nat_le (id_for g.schemas new) max_number
 
--- Schema Registry API reference, POST /subjects/{subject}/versions
+-- Schema Registry API reference, POST /subjects/{subject}/versions: rejects an invalid schema; otherwise `registered` applies its three tests in order
 abbrev pub register : Registry → List ℕ → Option (List NodeView) → Registry × ReplyView
 register g subject None = (g, fault InvalidSchema)
 register g subject (Some new) =

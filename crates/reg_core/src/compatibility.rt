@@ -50,7 +50,7 @@ pub(crate) fn named<T>(level: Level, earlier: &[T]) -> &[T]
     }
 }
 
-/// A slice of the last version, empty if there is none.
+/// The last version as a slice, which is empty if there is none.
 pub(crate) fn latest<T>(versions: &[T]) -> &[T]
     ensures { result.now ≡ latest versions.now }
 {

@@ -21,8 +21,8 @@ pub fn additions_are_admitted()
 
 /// A law of the abstract machine: if the evidence of a registry's versions is true, it is true
 /// after a command. Existing versions keep their evidence, and removed versions have none. A new
-/// version's evidence is the level in force, and the ids of the schemas that this level compared
-/// with.
+/// version's evidence is the level in force, and the ids of the schemas that the new one was
+/// compared with.
 pub fn evidence_stays_true()
     ensures { (g : Registry) (command : Command) (had has : EvidenceMap) → IsRegistry g → IsTrueEvidence g had
         → IsEvidenceAfter g command had has → IsTrueEvidence (step g command).0 has }

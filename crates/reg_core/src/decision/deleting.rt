@@ -52,8 +52,8 @@ pub fn delete_version(
     }
 }
 
-/// The version to soft-delete or to remove, or the code of the refusal. `live` has the live ones of
-/// `rows`.
+/// The version to soft-delete or to remove, or the code of the refusal. `live` must be the live
+/// versions of `rows`.
 fn row_to_delete<'a>(
     permanent: bool,
     choice: Option<VersionChoice>,

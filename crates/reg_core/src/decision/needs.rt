@@ -21,8 +21,8 @@ use crate::row::Row;
 use avro_nodes::OutOfMemory;
 use std::alloc::Global;
 
-/// The ids whose texts the command shows, or whose schemas it compares with the sent schema.
-/// The view needs no texts. An id may occur more than once.
+/// The ids whose texts the command shows, or whose schemas it compares with the sent schema. An id
+/// may occur more than once. The view's own texts aren't used, so they can be loaded afterwards.
 ///
 /// # Errors
 ///

@@ -95,8 +95,8 @@ pub fn check_all(
     verdict_reply(alloc, fits)
 }
 
-/// The reply with the verdict whether the subject's level would admit the schema after only the
-/// chosen live version.
+/// The reply that says whether the subject's level would admit the schema, compared with the chosen
+/// live version only.
 pub fn check(
     alloc: Global,
     view: &View,
