@@ -134,11 +134,12 @@ fn answer_front<W: Write, S: Alter>(
         ParseOutcome::Nothing => Next::Stopped(Stop::Waiting(1)),
         ParseOutcome::Part(needs) => Next::Stopped(Stop::Waiting(needs)),
         ParseOutcome::Faulty(code) => Next::Stopped(answer_fault(alloc, code, writer)),
+        // `serve` gives room for more fields than a head within the size limit can have.
         ParseOutcome::TooManyFields => Next::Stopped(Stop::OutOfMemory),
     }
 }
 
-/// Processes the whole messages in the buffer, in order, and removes them from it.
+/// Processes each complete message in the buffer, in order, and removes it from the buffer.
 pub fn answer_buffered<W: Write, S: Alter>(
     alloc: Global,
     routes: &Routes,

@@ -126,9 +126,9 @@ fn serve_with<R: Read, W: Write, S: Alter>(
     Ended::ReadFailed
 }
 
-/// Serves a connection: processes each message as soon as it is whole, in order, and writes its
-/// response. How the reads cut the input doesn't matter. Everything for reading is allocated before
-/// the first read.
+/// Serves a connection: processes each message as soon as it is complete, in order, and writes its
+/// response. The result doesn't depend on how reads split the input. Everything for reading is
+/// allocated before the first read.
 pub fn serve<R: Read, W: Write, S: Alter>(
     alloc: Global,
     reader: &mut R,

@@ -23,12 +23,12 @@ use Rattle.reg_jobs.specs.declared.auditing.AuditOutcome.{AuditOutcome}
 use Rattle.reg_jobs.specs.Auditing.{AuditsAs}
 use Rattle.reg_jobs.specs.Listings.{IfUnread, ListsAs, table_of}
 use Rattle.reg_jobs.specs.Databases.{ServesStore}
-use Rattle.reg_jobs.specs.Jobs.{AuditsOver, BeginsWith, HasRegistry, ListsOver, OverDatabase, SessionOver}
+use Rattle.reg_jobs.specs.Jobs.{AuditsOver, SessionStartsFrom, HasRegistry, ListsOver, OverDatabase, SessionOver}
 
 -- the stored state when a session over the registry of what was opened begins
 record BeginsOver {S : Type 0} (g : Ghosts S) (opened : Opened S) (begun : State) : Type 0 where
   was : Stored
-  begins : BeginsWith g opened was
+  begins : SessionStartsFrom g opened was
   is_open : IsOpenOver begun was
 
 begins_over : {S : Type 0} (g : Ghosts S) (opened : Opened S) (begun : State) → HasRegistry g opened begun → BeginsOver g opened begun

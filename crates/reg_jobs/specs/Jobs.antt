@@ -62,7 +62,7 @@ writer_file_of (Audit database) = string_bytes database
 abbrev pub job_result : Job → Outcome → Result ℕ (Fault × List ℕ)
 job_result job outcome = result_of outcome (file_of job) (writer_file_of job)
 
--- a file's bytes, if it could be read
+-- a file's bytes; none if no such file was given, or it couldn't be read
 abbrev pub bytes_of : Option (Option (Vec ℕ Global)) → Option (List ℕ)
 bytes_of None = None
 bytes_of (Some None) = None
@@ -95,7 +95,7 @@ pub record RunsInMemory (reader reader' writer writer' : Option (List ℕ)) (out
   pub session : Session (λ xs. Serves new_stored (served xs) now) reader reader' writer writer' ended
   pub outcome_is : outcome ≡ SessionEnded ended
 
--- the registry of what was opened: it was created in an empty database, or the tables of a database spelled it
+-- what was opened has a registry: it was created in an empty database, or the tables of the database spelled it
 abbrev pub HasRegistry : {S : Type 0} (g : Ghosts S) → Opened S → State → Type 0
 HasRegistry g Nothing new = ⊥
 HasRegistry g (Texts texts) new = ⊥
@@ -116,19 +116,19 @@ LacksRegistry g (Fresh old) back error = ReturnsConnection g back (λ new. Creat
 LacksRegistry g (Database old) back error = ReturnsConnection g back (λ new. OpensNone (state g old) new error)
 
 -- the stored state when a session begins, by what was opened
-abbrev pub BeginsWith : {S : Type 0} (g : Ghosts S) → Opened S → Stored → Type 0
-BeginsWith g Nothing was = ⊥
-BeginsWith g (Texts texts) was = ⊥
-BeginsWith g Failed was = ⊥
-BeginsWith g Empty was = ⊥
-BeginsWith g OrphanedLog was = ⊥
-BeginsWith g (Fresh old) was = ¬ ((state g old).now.schema ≢ no_schema) × (was ≡ new_stored)
-BeginsWith g (Database old) was = SpellsUnopened (state g old).now was
+abbrev pub SessionStartsFrom : {S : Type 0} (g : Ghosts S) → Opened S → Stored → Type 0
+SessionStartsFrom g Nothing was = ⊥
+SessionStartsFrom g (Texts texts) was = ⊥
+SessionStartsFrom g Failed was = ⊥
+SessionStartsFrom g Empty was = ⊥
+SessionStartsFrom g OrphanedLog was = ⊥
+SessionStartsFrom g (Fresh old) was = ¬ ((state g old).now.schema ≢ no_schema) × (was ≡ new_stored)
+SessionStartsFrom g (Database old) was = SpellsUnopened (state g old).now was
 
 -- a session of a service led from that state to what the tables spell, and a crash preserves what was acknowledged
 pub record SessionFrom {S : Type 0} (g : Ghosts S) (opened : Opened S) (before after : Service S g) (reader reader' writer writer' : Option (List ℕ)) (ended : Ended) : Type 0 where
   pub was : Stored
-  pub begins : BeginsWith g opened was
+  pub begins : SessionStartsFrom g opened was
   pub is_open : IsOpenOver (state_in before) was
   pub leads : StoredSatisfies (state_in after) (λ now. Session (ServesDurably before after was now) reader reader' writer writer' ended)
 
@@ -191,14 +191,14 @@ pub record ListsOver (old : State) (kind : ListingName) (writer writer' : Option
   pub spells : SpellsWhileOpen new was
 
 -- no registry was found, and nothing was written
-pub record WritesNothing {S : Type 0} (g : Ghosts S) (opened : Opened S) (back : Option (Held S)) (writer writer' : Option (List ℕ)) (error : StoreError) : Type 0 where
+pub record FindsNoRegistry {S : Type 0} (g : Ghosts S) (opened : Opened S) (back : Option (Held S)) (writer writer' : Option (List ℕ)) (error : StoreError) : Type 0 where
   pub unwritten : writer' ≡ writer
   pub lacks : FindsNone g opened back error
 
 -- the outcome of a listing of what was opened
 abbrev pub ListsOn : {S : Type 0} (g : Ghosts S) → Opened S → ListingName → Option (Held S) → Option (List ℕ) → Option (List ℕ) → Outcome → Type 0
 ListsOn g opened kind back writer writer' (SessionEnded ended) = ⊥
-ListsOn g opened kind back writer writer' (Unopened error) = WritesNothing g opened back writer writer' error
+ListsOn g opened kind back writer writer' (Unopened error) = FindsNoRegistry g opened back writer writer' error
 ListsOn g opened kind back writer writer' (NotListening port) = ⊥
 ListsOn g opened kind back writer writer' (TextEnded printed) = ⊥
 ListsOn g opened kind back writer writer' (CheckEnded checked) = ⊥
@@ -216,7 +216,7 @@ pub record AuditsOver (old : State) (writer writer' : Option (List ℕ)) (audite
 -- the outcome of an audit of what was opened
 abbrev pub AuditsOn : {S : Type 0} (g : Ghosts S) → Opened S → Option (Held S) → Option (List ℕ) → Option (List ℕ) → Outcome → Type 0
 AuditsOn g opened back writer writer' (SessionEnded ended) = ⊥
-AuditsOn g opened back writer writer' (Unopened error) = WritesNothing g opened back writer writer' error
+AuditsOn g opened back writer writer' (Unopened error) = FindsNoRegistry g opened back writer writer' error
 AuditsOn g opened back writer writer' (NotListening port) = ⊥
 AuditsOn g opened back writer writer' (TextEnded printed) = ⊥
 AuditsOn g opened back writer writer' (CheckEnded checked) = ⊥

@@ -24,7 +24,8 @@ impl<E: Write + Drop> Errors<E> {
         }
     }
 
-    /// Writes bytes. If a write fails, the rest of them is lost, and so is everything after them.
+    /// Writes bytes, or discards them if an earlier write failed. If this write fails, the rest of the
+    /// bytes is lost.
     pub(crate) fn put(&mut self, bytes: &[u8])
         ensures { Puts E.contents self.old self.new bytes.now }
     {

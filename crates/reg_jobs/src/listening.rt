@@ -26,18 +26,18 @@ use std::io::Write;
 use std::net::{TcpListener, TcpStream};
 use std::thread::sleep;
 use std::time::{Clock, Duration};
-use timing::{NoClock, SLICE, Timing};
+use timing::{NoClock, SOCKET_TIMEOUT_MILLIS, Timing};
 
 /// The milliseconds between two attempts to accept a connection, after one has failed.
 const ACCEPT_PAUSE: u64 = 250;
 
-/// Makes the system send small responses at once, and limits a read or a write to one slice. If the
-/// system rejects one of these options, the connection is served without it.
+/// Makes the system send small responses at once, and limits how long a read or a write blocks. If
+/// the system rejects one of these options, the connection is served without it.
 fn prepare(stream: &TcpStream) {
-    let slice = Some(Duration::from_millis(SLICE));
+    let timeout = Some(Duration::from_millis(SOCKET_TIMEOUT_MILLIS));
     let _ = stream.set_nodelay(true);
-    let _ = stream.set_read_timeout(slice);
-    let _ = stream.set_write_timeout(slice);
+    let _ = stream.set_read_timeout(timeout);
+    let _ = stream.set_write_timeout(timeout);
 }
 
 /// Retries until a connection is accepted, with a pause before each attempt. The system lacked a

@@ -39,8 +39,8 @@ keeps_then a b c clean p q = record {
 
 module _ {S : Type 0} {g : Ghosts S} where
   -- a service that does nothing, and returns no reply of its own
-  pub keeps_still : (s : Service S g) (NothingDone : Type 0) → NothingDone → PreservesService s s NothingDone
-  keeps_still s NothingDone none = record {
+  pub keeps_still : (s : Service S g) (OnlyFaultReplies : Type 0) → OnlyFaultReplies → PreservesService s s OnlyFaultReplies
+  keeps_still s OnlyFaultReplies none = record {
     failed = λ failed. (none, failed);
     closed = λ _ _. (none, λ db it. it);
     clean = λ clean. clean;
@@ -63,7 +63,7 @@ module _ {S : Type 0} {g : Ghosts S} where
     connection = keeps_then (state_in old) (state_in mid) (state_in new) one.clean before.connection one.connection;
   }
 
-  -- a consequence of `NothingDone`
+  -- a consequence of `OnlyFaultReplies`
   pub keeps_as : {P Q : Type 0} (old new : Service S g) → (P → Q) → PreservesService old new P → PreservesService old new Q
   keeps_as old new f keeps = record {
     failed = λ failed. let is = keeps.failed failed in (f is.0, is.1);
@@ -85,8 +85,8 @@ pub goes_on : {S T : Type 0} {g : Ghosts S} {old new : Store S g} {x : T} → Ke
 goes_on keeps failed = let is = keeps.failed_now.1 failed in absurd (cc)
 
 -- a call that only reads the store, and fails if the read fails
-module _ {S T : Type 0} {g : Ghosts S} {Tells : Stored → T → Type 0} {NothingDone : Type 0} {old new : Store S g} where
-  pub keeps_reading : {r : Result T StoreError} → ReadsStore old new r Tells → (OnOk r ⊥ → NothingDone) → PreservesStore old new NothingDone
+module _ {S T : Type 0} {g : Ghosts S} {Tells : Stored → T → Type 0} {OnlyFaultReplies : Type 0} {old new : Store S g} where
+  pub keeps_reading : {r : Result T StoreError} → ReadsStore old new r Tells → (OnOk r ⊥ → OnlyFaultReplies) → PreservesStore old new OnlyFaultReplies
   keeps_reading {r} reads none = record {
     failed = λ failed. let was = reads.frame.failed_before failed in (none (subst (λ (q : Result T StoreError). OnOk q ⊥) (sym was.0) tt), subst (λ (s : Store S g). IsTrue (has_failed s)) (sym was.1) failed);
     closed = λ clean is_closed. (none (fails r (reads.frame.was_open clean) is_closed), (reads.tells clean).crash);
@@ -99,7 +99,7 @@ module _ {S T : Type 0} {g : Ghosts S} {Tells : Stored → T → Type 0} {Nothin
       fails (Err e) is_open is_closed = tt
 
   -- a successful read, and then a call of a service
-  pub keeps_read_then : {x : T} {mid : Store S g} → ReadsStore old mid (Ok x) Tells → PreservesStore mid new NothingDone → PreservesStore old new NothingDone
+  pub keeps_read_then : {x : T} {mid : Store S g} → ReadsStore old mid (Ok x) Tells → PreservesStore mid new OnlyFaultReplies → PreservesStore old new OnlyFaultReplies
   keeps_read_then {x} {mid} reads one = record {
     failed = λ failed. absurd (let was = (reads.frame.failed_before failed).0 in cc);
     closed = λ clean is_closed. absurd (is_closed (reads.frame.was_open (one.clean clean)));

@@ -36,18 +36,19 @@ ServesOver old new xs = (was : Stored) → SpellsWhileOpen old was → ServesTo 
 abbrev pub AreBackendFaults : List ReplyView → Type 0
 AreBackendFaults replies = All (λ reply. reply ≡ fault BackendFault) replies
 
--- This project's choice: what each call over a store preserves, for every reply. `NothingDone` says that no reply is the registry's own.
-pub record PreservesStore {S : Type 0} {g : Ghosts S} (old new : Store S g) (NothingDone : Type 0) : Type 0 where
+-- This project's choice: what each call over a store preserves. `OnlyFaultReplies` says that every reply of the call is 50001.
+pub record PreservesStore {S : Type 0} {g : Ghosts S} (old new : Store S g) (OnlyFaultReplies : Type 0) : Type 0 where
   -- if the store had failed
-  pub failed : IsTrue (has_failed old) → NothingDone × IsTrue (has_failed new)
+  pub failed : IsTrue (has_failed old) → OnlyFaultReplies × IsTrue (has_failed new)
   -- if the connection was closed
-  pub closed : HasCleanDisk (state_of new) → (IsTrue (state_of old).is_open → ⊥) → NothingDone × AddsNoCrashState (state_of old) (state_of new)
+  pub closed : HasCleanDisk (state_of new) → (IsTrue (state_of old).is_open → ⊥) → OnlyFaultReplies × AddsNoCrashState (state_of old) (state_of new)
+  -- an unclean disk stays unclean
   pub clean : HasCleanDisk (state_of new) → HasCleanDisk (state_of old)
   pub connection : KeepsOpen (state_of old) (state_of new)
 
 -- this project's choice: the same for a call of a service
 abbrev pub PreservesService : {S : Type 0} {g : Ghosts S} → Service S g → Service S g → Type 0 → Type 0
-PreservesService old new NothingDone = PreservesStore (store_in old) (store_in new) NothingDone
+PreservesService old new OnlyFaultReplies = PreservesStore (store_in old) (store_in new) OnlyFaultReplies
 
 -- This project's choice: the list splits at one exchange. `old` and `new` are the service before and after the list. `reached` and `left`
 -- are two services with the guarantees of calls between them; they needn't be the services before and after that exchange. The clause

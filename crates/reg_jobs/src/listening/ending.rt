@@ -1,7 +1,7 @@
 //! The end of a connection whose client may still be sending. If bytes stay unread, the system resets the
 //! connection, and a reset may reach the client before its last response (RFC 9112, section 9.6).
 
-use super::timing::{SLICE, has_passed, time};
+use super::timing::{SOCKET_TIMEOUT_MILLIS, has_passed, time};
 use reg_http::Ended;
 use std::io::{ErrorKind, Read};
 use std::net::{Shutdown, TcpStream};
@@ -12,7 +12,7 @@ use std::time::Clock;
 const LINGER: u64 = 1;
 
 /// The same time, as a number of slices without a byte.
-const SILENCE: u64 = LINGER * 1000 / SLICE;
+const SILENCE: u64 = LINGER * 1000 / SOCKET_TIMEOUT_MILLIS;
 
 /// The number of bytes that are dropped at once.
 const ROOM: usize = 16_384;

@@ -76,7 +76,7 @@ impl<'a, 'b, C: Clock> Incoming<'a, 'b, C> {
     }
 
     /// Returns the next part of the pending bytes. If there are none, it reads once, for at most
-    /// one slice.
+    /// the socket's timeout.
     fn read_part(&mut self, buf: &mut [u8]) -> io::Result<usize>
         ensures { ReadsAtMost result buf.new }
     {
@@ -125,7 +125,7 @@ impl<'a, C: Clock> Outgoing<'a, C> {
         Outgoing { stream, timing }
     }
 
-    /// Writes the rest of a response once, for at most one slice.
+    /// Writes the rest of a response once, for at most the socket's timeout.
     fn write_slice(&mut self, buf: &[u8]) -> io::Result<usize>
         ensures { WritesAtMost result buf.now }
     {

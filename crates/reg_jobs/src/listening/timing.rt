@@ -7,7 +7,7 @@ use std::time::{Clock, Duration, Instant};
 /// The milliseconds that a read or a write blocks before it checks whether to continue. That is
 /// longer than a client needs between two requests, and short for a client that waits for an idle
 /// connection to end.
-pub const SLICE: u64 = 250;
+pub const SOCKET_TIMEOUT_MILLIS: u64 = 250;
 
 /// The number of slices that a connection may let pass without sending or taking a byte. That is
 /// ten seconds, a long time for a client on the same machine. Clients on other machines can't connect.
@@ -40,7 +40,8 @@ pub fn time<C: Clock>(clock: &C) -> Option<Instant> {
     Instant::now(clock).ok()
 }
 
-/// Whether this number of seconds has passed since then. If the clock can't be read, none pass.
+/// Whether at least this number of seconds has passed since `since`. If that is `None`, or the clock
+/// can't be read, the result is `false`.
 pub fn has_passed<C: Clock>(clock: &C, since: Option<Instant>, seconds: u64) -> bool {
     match (since, time(clock)) {
         (Some(since), Some(now)) => now.duration_since(since) >= Duration::from_secs(seconds),
