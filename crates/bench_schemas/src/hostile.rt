@@ -1,25 +1,25 @@
-//! The pairs of texts that were made to take long.
+//! Pairs of texts that were made to be slow.
 
 use crate::resolution::{CYCLE, ENUMS, ONE_NAME};
 use crate::shape::{HOLES, Shape, TWO_HOLES};
 use avro_testing::Template;
 
-/// Records with a field of one record, which has an int, and unions of these records.
+/// Records with a field of the same record, which has an int, and unions of these records.
 const WRITTEN: &str =
     r##"once {"type":"record","name":"T","fields":[{"name":"written","default":null,"type":["null",{"type":"record","name":"n.Z","fields":[{"name":"f","type":"int"}]}
 each ,{"type":"record","name":"n#.A","fields":[{"name":"f","type":"n.Z"}]}
 once ]}@]}"##;
 
-/// The same with a string, and a record that reads each of these records.
+/// The same with a string, and a record that can read each of these records.
 const READ: &str =
     r##"once {"type":"record","name":"T","fields":[{"name":"read","default":null,"type":["null",{"type":"record","name":"n.Z","fields":[{"name":"f","type":"string"}]},{"type":"record","name":"e.A","fields":[]}
 each ,{"type":"record","name":"n#.A","fields":[{"name":"f","type":"n.Z"}]}
 once ]}@]}"##;
 
-/// What is measured by resolving hostile pairs.
+/// The shapes of hostile pairs.
 static HOSTILE: [Shape; 9] = [
-    // one record of the reader's is asked for again and again by records that fail after it: each
-    // time forty unions of 3,000 branches that failed before
+    // Many records of the reader depend on one record, and fail after it. Each time, forty unions
+    // of 3,000 branches that failed before are examined.
     Shape {
         name: "rescans",
         counts: &[70, 700],
@@ -46,7 +46,7 @@ each ;"c#.W"
 once ,"d.W"]}]}"##,
         },
     },
-    // a chain of records of one last name, with one whose field has one alias again and again
+    // a chain of records of one last name, with a record whose field repeats one alias
     Shape {
         name: "repeated-alias",
         counts: &[400, 4000],
@@ -80,7 +80,7 @@ once ]}]}"##,
 once ]}]}"##,
         },
     },
-    // unions that leave out every 24th record
+    // unions that lack every 24th record
     Shape {
         name: "holes",
         counts: &[330, 3300],
@@ -95,7 +95,7 @@ once ]}]}"##,
             parts: READ,
         },
     },
-    // the same, where each of the reader's unions has a branch that reads each record
+    // the same, but each of the reader's unions has a branch that can read each record
     Shape {
         name: "shared",
         counts: &[330, 3300],
@@ -110,7 +110,7 @@ once ]}]}"##,
             parts: READ,
         },
     },
-    // unions that leave out two records of each 24, such that few records are in the same unions
+    // unions that lack two of every 24 records, so that few records are in the same unions
     Shape {
         name: "subsets",
         counts: &[330, 3300],
@@ -125,7 +125,7 @@ once ]}]}"##,
             parts: READ,
         },
     },
-    // enums of 46 symbols and one last name, with as many that have one more
+    // enums of 46 symbols and one last name, with the same number of enums with one more symbol
     Shape {
         name: "more-symbols",
         counts: &[400, 3900],
@@ -161,8 +161,8 @@ once ]"##,
 once ]"##,
         },
     },
-    // a chain of records, with one recursive record of 26,000 fields, whose sources are held for each
-    // open pair
+    // a chain of records, with one recursive record of 26,000 fields, whose sources are kept for
+    // each open pair
     Shape {
         name: "deep",
         counts: &[100, 998],

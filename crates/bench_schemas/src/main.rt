@@ -1,13 +1,13 @@
-//! Measures how long schemas take to read and to resolve.
+//! Measures how long it takes to read and to resolve schemas.
 //!
 //! The arguments are `read`, `resolve` or `behind`; the name of a shape, or `all`; and optionally a
-//! count of the shape's parts. `read` reads a text by `Schema::read`, which makes its identity text,
-//! and by `serde_json` into a `Value`. It prints the bytes, the times and their ratio. `resolve`
-//! resolves a writer's and a reader's text by `resolves` and by `resolves_plain`. It prints the
-//! numbers of their places, the verdicts and the times. `behind` does the same with each text behind
-//! a cycle of records, for which `resolves` stops and eliminates pairs. `files W R` resolves the
-//! texts of two files. Times are those of the shortest of many calls. Each measurement ends with the
-//! most memory that the process has held so far.
+//! count of the shape's parts. `read` reads a text by `Schema::read`, which makes its identity
+//! text, and by `serde_json` into a `Value`. It prints the length, the times and their ratio.
+//! `resolve` resolves a writer's and a reader's text by `resolves` and by `resolves_plain`. It
+//! prints the numbers of their places, the verdicts and the times. `behind` does the same with each
+//! text after a cycle of records, for which `resolves` stops and eliminates pairs. `files W R`
+//! resolves the texts of two files. Each time is that of the shortest of many calls. Each
+//! measurement ends with the peak memory of the process so far.
 //!
 //! `random` resolves 2,000 random pairs, always the same ones, and fails if the two ways disagree.
 //! Without arguments the program does nothing.
@@ -30,24 +30,24 @@ use resolution::resolution;
 use shape::{Shape, put_after_cycle, shape_text};
 use std::alloc::{AllocError, Global};
 use std::{env, fs};
-use times::{Timing, Work, times};
+use times::{Call, Timing, times};
 
-/// What is measured.
+/// A measurement.
 #[derive(Clone, Copy)]
 enum Measurement {
     Reading,
     Resolution,
-    /// of texts behind a cycle
+    /// resolution of texts after a cycle
     AfterCycle,
 }
 
 /// No shapes.
 static NONE: &[Shape] = &[];
 
-/// How many pairs are made at random.
+/// The number of random pairs.
 const RANDOM_PAIRS: u64 = 2000;
 
-/// Prints the most memory that the process held so far.
+/// Prints the peak memory of the process so far.
 fn print_memory(rt: &HostRuntime) -> Result<()> {
     let status = fs::read_to_string(rt, "/proc/self/status")?;
     for line in status.lines() {
@@ -58,16 +58,16 @@ fn print_memory(rt: &HostRuntime) -> Result<()> {
     Ok(())
 }
 
-/// Measures how long the text of a shape takes to read.
+/// Measures how long it takes to read the text of a shape.
 fn read(rt: &HostRuntime, shape: &Shape, count: u32) -> Result<()> {
     let text = shape_text(rt.alloc(), shape, shape.writer, count)?;
     let text = text.as_str();
-    let (schema, json) = times(rt, Work::Schema(text), Work::Json(text))?;
-    ensure!(json.told.yes, "the text is not JSON");
+    let (schema, json) = times(rt, Call::Schema(text), Call::Json(text))?;
+    ensure!(json.verdict.yes, "the text is not JSON");
     let (name, bytes) = (shape.name, text.len());
     let percent = schema.nanos.saturating_mul(100) / json.nanos.max(1);
     let (whole, rest) = (percent / 100, percent % 100);
-    let verdict = if schema.told.yes { "" } else { "  refused" };
+    let verdict = if schema.verdict.yes { "" } else { "  refused" };
     print!(rt;
         "{name:<10} {count:>6} {bytes:>7} bytes  schema {:>9} ns  serde_json {:>9} ns  ratio {whole}.{rest:02}{verdict}",
         schema.nanos, json.nanos
@@ -75,9 +75,9 @@ fn read(rt: &HostRuntime, shape: &Shape, count: u32) -> Result<()> {
     print_memory(rt)
 }
 
-/// Prints how long a way to resolve took, in microseconds.
-fn print_time(rt: &HostRuntime, way: &str, least: Timing) -> Result<()> {
-    let (whole, tenths) = (least.nanos / 1000, least.nanos / 100 % 10);
+/// Prints how long one way to resolve took, in microseconds.
+fn print_time(rt: &HostRuntime, way: &str, timing: Timing) -> Result<()> {
+    let (whole, tenths) = (timing.nanos / 1000, timing.nanos / 100 % 10);
     println!(rt; "  {way} in {whole}.{tenths} us")?;
     Ok(())
 }
@@ -99,35 +99,35 @@ fn pair_of(
     Ok((writer, reader))
 }
 
-/// Measures how long a writer's and a reader's text take to resolve.
+/// Measures how long it takes to resolve a writer's and a reader's text.
 fn compare(rt: &HostRuntime, title: &str, writer: &str, reader: &str) -> Result<()> {
     let writer = Schema::read(rt.alloc(), writer)?;
     let reader = Schema::read(rt.alloc(), reader)?;
     let (recursion, elimination) = times(
         rt,
-        Work::Recursion(&writer, &reader),
-        Work::Elimination(&writer, &reader),
+        Call::Recursion(&writer, &reader),
+        Call::Elimination(&writer, &reader),
     )?;
     let (rows, columns) = (writer.places(), reader.places());
     println!(rt; "{title}: {rows} and {columns} places")?;
     println!(rt;
         "  resolves: {} with {} visits",
-        recursion.told.yes, recursion.told.visits
+        recursion.verdict.yes, recursion.verdict.visits
     )?;
     print_time(rt, "resolves", recursion)?;
-    println!(rt; "  resolves_plain: {}", elimination.told.yes)?;
+    println!(rt; "  resolves_plain: {}", elimination.verdict.yes)?;
     print_time(rt, "resolves_plain", elimination)?;
     print_memory(rt)
 }
 
-/// Measures how long the pair of a shape takes to resolve.
+/// Measures how long it takes to resolve the pair of a shape.
 fn resolve(rt: &HostRuntime, shape: &Shape, count: u32, is_after_cycle: bool) -> Result<()> {
     let (writer, reader) = pair_of(rt.alloc(), shape, count, is_after_cycle)?;
     let title = format!(in rt.alloc(); "{} {count}", shape.name)?;
     compare(rt, title.as_str(), writer.as_str(), reader.as_str())
 }
 
-/// Measures how long the texts of two files take to resolve.
+/// Measures how long it takes to resolve the texts of two files.
 fn compare_files(rt: &HostRuntime, arguments: &[String]) -> Result<()> {
     let (writer, reader) = (arguments.get(1), arguments.get(2));
     let writer = writer.context("the writer's file is wanted")?;
@@ -137,8 +137,8 @@ fn compare_files(rt: &HostRuntime, arguments: &[String]) -> Result<()> {
     compare(rt, writer.as_str(), written.as_str(), read.as_str())
 }
 
-/// Whether both ways say yes to a random pair; they answer alike, or it is an error.
-fn both_agree(alloc: Global, pair: u64) -> Result<bool> {
+/// Whether a random pair resolves. It is an error if the two ways disagree.
+fn agreed_verdict(alloc: Global, pair: u64) -> Result<bool> {
     let writer = random_text(alloc, pair, 1)?;
     let reader = random_text(alloc, pair, 2)?;
     let writer = Schema::read(alloc, writer.as_str())?;
@@ -150,11 +150,11 @@ fn both_agree(alloc: Global, pair: u64) -> Result<bool> {
     Ok(yes)
 }
 
-/// Has both ways answer all random pairs.
+/// Resolves all random pairs in both ways, and prints how many resolve.
 fn resolve_random(rt: &HostRuntime) -> Result<()> {
     let mut yes = 0u64;
     for pair in 0..RANDOM_PAIRS {
-        if both_agree(rt.alloc(), pair)? {
+        if agreed_verdict(rt.alloc(), pair)? {
             yes = yes.saturating_add(1);
         }
     }
@@ -171,7 +171,7 @@ fn measure(rt: &HostRuntime, measured: Measurement, shape: &Shape, count: u32) -
     }
 }
 
-/// Measures a shape with this count, or with each of its own.
+/// Measures a shape with this count, or with each of the shape's counts.
 fn measure_shape(
     rt: &HostRuntime,
     measured: Measurement,
@@ -182,8 +182,8 @@ fn measure_shape(
         return measure(rt, measured, shape, count);
     }
     if let Measurement::AfterCycle = measured {
-        if shape.behind > 0 {
-            measure(rt, measured, shape, shape.behind)?;
+        if shape.after_cycle > 0 {
+            measure(rt, measured, shape, shape.after_cycle)?;
         }
         return Ok(());
     }
@@ -215,7 +215,7 @@ fn measure_all(
     Ok(())
 }
 
-/// The count that a word tells.
+/// Parses the count in an argument.
 fn count_of(word: Option<&String>) -> Result<Option<u32>> {
     match word {
         Some(word) => Ok(Some(word.parse()?)),
@@ -223,7 +223,7 @@ fn count_of(word: Option<&String>) -> Result<Option<u32>> {
     }
 }
 
-/// Measures what the words ask for.
+/// Runs the measurement that the arguments describe.
 fn run_command(rt: &HostRuntime, arguments: &[String]) -> Result<()> {
     let Some(word) = arguments.first() else {
         return Ok(());

@@ -3,9 +3,9 @@
 use crate::shape::{NO_TEXT, Shape};
 use avro_testing::Template;
 
-/// What is measured by reading.
+/// The shapes for reading.
 static READING: [Shape; 13] = [
-    // threes of fields of type int, one of them with a default
+    // groups of three fields of type int, one of them with a default
     Shape {
         name: "fields",
         counts: &[1, 3, 33, 333, 1333],
@@ -47,7 +47,7 @@ once ]}"##,
         },
         reader: NO_TEXT,
     },
-    // fields of a record in a record, 20 deep
+    // fields of nested records, 20 deep
     Shape {
         name: "nested",
         counts: &[1, 10, 100],
@@ -75,7 +75,7 @@ once ]}"##,
         },
         reader: NO_TEXT,
     },
-    // threes of branches: a record, an enum and a fixed
+    // groups of three branches: a record, an enum and a fixed
     Shape {
         name: "union",
         counts: &[1, 3, 33, 333],
@@ -89,7 +89,8 @@ once ]"##,
         },
         reader: NO_TEXT,
     },
-    // fields with defaults of a record, and as many empty objects of it in an array's default
+    // fields with defaults of a record, and the same number of empty objects of this record in an
+    // array's default
     Shape {
         name: "defaults",
         counts: &[3, 10, 100, 1000],
@@ -149,8 +150,8 @@ once ]}]"##,
         },
         reader: NO_TEXT,
     },
-    // branches of a union that name the record around it, whose namespace fills the text: it is
-    // no schema, which shows once all of them are read
+    // Branches of a union that name the record around it, whose namespace fills the text. The text
+    // is no schema, which is found only after all branches are read.
     Shape {
         name: "branches",
         counts: &[100, 1000, 10000, 100000, 187000],
@@ -180,7 +181,7 @@ once ]}"##,
         },
         reader: NO_TEXT,
     },
-    // objects in objects, 20 deep, in another attribute
+    // nested objects, 20 deep, in another attribute
     Shape {
         name: "chains",
         counts: &[1, 100, 9000],

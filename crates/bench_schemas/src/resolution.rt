@@ -13,24 +13,24 @@ const UNION: &str = r##"once [
 each ;{"type":"record","name":"A#","fields":[{"name":"f","type":"int"}]}
 once ]"##;
 
-/// Records, each with a field of the one before it.
+/// A chain of records: each has a field of the previous one.
 const CHAIN: &str = r##"once [{"type":"record","name":"n.A0","fields":[{"name":"f","type":$}]}
 later ,{"type":"record","name":"n.A#","fields":[{"name":"f","type":"n.A<"}]}
 once ]"##;
 
-/// The same, of one last name.
+/// The same with one last name.
 pub const ONE_NAME: &str =
     r##"once [{"type":"record","name":"n0.A","fields":[{"name":"f","type":$}]}
 later ,{"type":"record","name":"n#.A","fields":[{"name":"f","type":"n<.A"}]}
 once ]"##;
 
-/// A record from which records of one last name go, each with a field of the next one.
+/// A record with a chain of records of one last name, each with a field of the next one.
 pub const CYCLE: &str = r##"once {"type":"record","name":"c.A","fields":[{"name":"d","type":["null"
 last ,{"type":"record","name":"n#.A","fields":[{"name":"f","type":$}]}
 down ,{"type":"record","name":"n#.A","fields":[{"name":"f","type":"n>.A"}]}
 once ],"default":null},{"name":"f","type":"n1.A"}]}"##;
 
-/// Records in one another, 20 deep.
+/// Nested records, 20 deep.
 const NESTED: &str = r##"0..20 {"type":"record","name":"R#","fields":[@{"name":"next","type":
 once "int"}]}}]}}]}}]}}]}}]}}]}}]}}]}}]}}]}}]}}]}}]}}]}}]}}]}}]}}]}}]}"##;
 
@@ -50,40 +50,41 @@ pub const ENUMS: &str = r##"once [
 each ;{"type":"enum","name":"n#.A","symbols":[@"$"]}
 once ]"##;
 
-/// Records of one last name with a field of one record.
+/// Records of one last name, each with a field of the same record.
 const FAN: &str = r##"once [{"type":"record","name":"n.Z","fields":[{"name":"f","type":$}]}
 each ,{"type":"record","name":"n#.A","fields":[{"name":"f","type":"n.Z"}]}
 once ]"##;
 
-/// A record with a field for each of other records.
+/// A record with one field for each of many other records.
 const REFERENCES: &str = r##"once {"type":"record","name":"R","fields":[{"name":"d","type":["null"
 each ,{"type":"record","name":"n#.A","fields":[{"name":"f#","type":"int"}]}
 once ],"default":null}
 each ,{"name":"g#","type":"n#.A"}
 once ]}"##;
 
-/// An enum of 20,000 symbols, and records with a field of it and another one.
+/// An enum of 20,000 symbols, and records with a field of this enum and another field.
 const RETAKEN: &str = r##"once [{"type":"enum","name":"E","symbols":[
 1..20000 "~",
 once "a"]}
 each ,{"type":"record","name":"n#.A","fields":[{"name":"e","type":"E"},{"name":"f","type":$}]}
 once ]"##;
 
-/// A chain beside an enum of 5000 symbols.
+/// A chain of records, and an enum of 5000 symbols.
 const CHAIN_AND_ENUM: &str = r##"once [{"type":"enum","name":"E","symbols":[
 1..5000 "~",
 once "a"]},{"type":"record","name":"n.A0","fields":[{"name":"f","type":$}]}
 later ,{"type":"record","name":"n.A#","fields":[{"name":"f","type":"n.A<"}]}
 once ]"##;
 
-/// Records of one last name, and eleven fields of the union of them.
+/// Records of one last name, and eleven fields with the union of all of them.
 const UNIONS: &str = r##"once {"type":"record","name":"R","fields":[{"name":"d","type":["null",
 each ;{"type":"record","name":"n#.A","fields":[{"name":"f","type":$}]}
 once ],"default":null}
 0..11 ,{"name":"u#","type":[@]}
 once ]}"##;
 
-/// Records of one last name with a field of one record, and nineteen fields of the union of them.
+/// Records of one last name with a field of the same record, and nineteen fields with the union of
+/// all of them.
 const MANY_UNIONS: &str =
     r##"once {"type":"record","name":"R","fields":[{"name":"d","type":["null",{"type":"record","name":"n.Z","fields":[{"name":"f","type":$}]}
 each ,{"type":"record","name":"n#.A","fields":[{"name":"f","type":"n.Z"}]}
@@ -91,8 +92,8 @@ once ],"default":null}
 0..19 ,{"name":"u#","type":[@]}
 once ]}"##;
 
-/// Records of eight fields, and the types of these: each has a field of the one before it, but for
-/// the fourth, which has a string.
+/// Records of eight fields, and the types of these fields. Each type has a field of the type before
+/// it, except the fourth, which has a string.
 const CROWD: &str = r##"once [{"type":"record","name":"p0.P","fields":[{"name":"f","type":"int"}]}
 1..3 ,{"type":"record","name":"p#.P","fields":[{"name":"f","type":"p<.P"}]}
 once ,{"type":"record","name":"p3.P","fields":[{"name":"f","type":"string"}]}
@@ -101,13 +102,13 @@ once ,{"type":"record","name":"p4.P","fields":[{"name":"f","type":"p2.P"}]}
 each ,{"type":"record","name":"n#.A","fields":[{"name":"x0","type":"p0.P"},{"name":"x1","type":"p1.P"},{"name":"x2","type":"p2.P"},{"name":"x3","type":"p3.P"},{"name":"x4","type":"p4.P"},{"name":"x5","type":"p5.P"},{"name":"x6","type":"p6.P"},{"name":"x7","type":"p7.P"}]}
 once ]"##;
 
-/// Records of one last name, and eleven with a field for each of them.
+/// Records of one last name, and eleven records with a field for each of them.
 const WIDE: &str = r##"once [
 each ;{"type":"record","name":"n#.A","fields":[{"name":"f#","type":"int"}]}
 0..11 ,{"type":"record","name":"w#.W","fields":[@]}
 once ]"##;
 
-/// What is measured by resolving.
+/// The shapes for resolving.
 static RESOLUTION: [Shape; 26] = [
     // a record of fields of type int, with itself
     Shape {
@@ -124,7 +125,7 @@ static RESOLUTION: [Shape; 26] = [
             parts: FIELDS,
         },
     },
-    // the same, where the reader has the fields the other way round
+    // the same, but the reader has the fields in reverse order
     Shape {
         name: "reversed",
         counts: &[10, 100, 1000, 4095],
@@ -141,7 +142,7 @@ down {"name":"f#","type":$},
 once {"name":"f0","type":$}]}"##,
         },
     },
-    // the same, where the reader has strings
+    // the same, but the reader has strings
     Shape {
         name: "other-types",
         counts: &[10, 100, 1000, 4095],
@@ -156,7 +157,7 @@ once {"name":"f0","type":$}]}"##,
             parts: FIELDS,
         },
     },
-    // records in one another, 20 deep, each of so many fields, with itself
+    // nested records, 20 deep, each with many fields, with itself
     Shape {
         name: "nested",
         counts: &[1, 10, 100],
@@ -201,7 +202,7 @@ once {"name":"f0","type":$}]}"##,
             parts: UNION,
         },
     },
-    // an enum of so many symbols, with itself
+    // an enum of many symbols, with itself
     Shape {
         name: "enum",
         counts: &[100, 1000, 10000, 110000, 140000],
@@ -231,8 +232,8 @@ once {"name":"f0","type":$}]}"##,
             parts: ENUMS,
         },
     },
-    // enums of 340 symbols and one last name, with as many whose last symbol is another one and,
-    // behind them, one that has a default
+    // enums of 340 symbols and one last name, with the same number of enums with another last
+    // symbol, and a last one that has a default
     Shape {
         name: "last-symbols",
         counts: &[100, 499],
@@ -249,7 +250,7 @@ each ;{"type":"enum","name":"n#.A","symbols":[@"$"]}
 once ,{"type":"enum","name":"z.A","symbols":["other"],"default":"other"}]"##,
         },
     },
-    // a union of records, each with a field of the one before it, with itself
+    // a chain of records, with itself
     Shape {
         name: "chain",
         counts: &[100, 1000, 4000],
@@ -264,7 +265,7 @@ once ,{"type":"enum","name":"z.A","symbols":["other"],"default":"other"}]"##,
             parts: CHAIN,
         },
     },
-    // the same, where the first record has an int, and the reader's a string
+    // the same, but the first record has an int, and the reader's first record a string
     Shape {
         name: "broken-chain",
         counts: &[100, 1000, 4000],
@@ -279,7 +280,7 @@ once ,{"type":"enum","name":"z.A","symbols":["other"],"default":"other"}]"##,
             parts: CHAIN,
         },
     },
-    // the same, where all records have one last name
+    // the same, but all records have one last name
     Shape {
         name: "one-name",
         counts: &[100, 1000, 4000],
@@ -294,7 +295,7 @@ once ,{"type":"enum","name":"z.A","symbols":["other"],"default":"other"}]"##,
             parts: ONE_NAME,
         },
     },
-    // records that have a field of one record, which has an int, and the reader's a string
+    // records with a field of the same record, which has an int, and for the reader a string
     Shape {
         name: "fan",
         counts: &[100, 1000, 4000],
@@ -309,7 +310,7 @@ once ,{"type":"enum","name":"z.A","symbols":["other"],"default":"other"}]"##,
             parts: FAN,
         },
     },
-    // a cycle of records of one last name, with a cycle of one more
+    // a cycle of records of one last name, with a cycle of one more record
     Shape {
         name: "cycles",
         counts: &[40, 400, 4000],
@@ -327,8 +328,8 @@ down ,{"type":"record","name":"n#.A","fields":[{"name":"f","type":"n>.A"}]}
 once ],"default":null},{"name":"f","type":"n1.A"}]}"##,
         },
     },
-    // a record from which records of one last name go, the last of which has an int, and the
-    // reader's a string
+    // a record with a chain of records of one last name; the last record has an int, and for the
+    // reader a string
     Shape {
         name: "open-cycles",
         counts: &[400, 4000],
@@ -343,7 +344,7 @@ once ],"default":null},{"name":"f","type":"n1.A"}]}"##,
             parts: CYCLE,
         },
     },
-    // a record with a field for each of so many records of one last name and different fields, with
+    // a record with one field for each of many records of one last name and different fields, with
     // itself
     Shape {
         name: "references",
@@ -359,8 +360,8 @@ once ],"default":null},{"name":"f","type":"n1.A"}]}"##,
             parts: REFERENCES,
         },
     },
-    // an enum of 20,000 symbols and records of one last name with a field of it and another one,
-    // which is an int, and the reader's a string
+    // An enum of 20,000 symbols, and records of one last name. They have a field of this enum and
+    // another field, which is an int, and for the reader a string.
     Shape {
         name: "retaken",
         counts: &[200, 2000],
@@ -375,7 +376,7 @@ once ],"default":null},{"name":"f","type":"n1.A"}]}"##,
             parts: RETAKEN,
         },
     },
-    // a ladder of two records a rung on the reader's side, of which the last ones differ
+    // a ladder with two records a rung on the reader's side, and different types at the end
     Shape {
         name: "ladder",
         counts: &[30, 300],
@@ -396,7 +397,7 @@ down ,{"type":"record","name":"x.A#","fields":[{"name":"f","type":["x.A>","y.A>"
 once ],"default":null},{"name":"f","type":["x.A1","y.A1"]}]}"##,
         },
     },
-    // a broken chain beside an enum of 5000 symbols
+    // a broken chain, and an enum of 5000 symbols
     Shape {
         name: "beside",
         counts: &[200],
@@ -411,7 +412,7 @@ once ],"default":null},{"name":"f","type":["x.A1","y.A1"]}]}"##,
             parts: CHAIN_AND_ENUM,
         },
     },
-    // eleven unions of the same records of one last name, which have an int, and the reader's a
+    // eleven unions of the same records of one last name, which have an int, and for the reader a
     // string
     Shape {
         name: "unions",
@@ -427,7 +428,7 @@ once ],"default":null},{"name":"f","type":["x.A1","y.A1"]}]}"##,
             parts: UNIONS,
         },
     },
-    // eleven records of one last name with a field for each of so many records of one last name and
+    // eleven records of one last name, with one field for each of many records of one last name and
     // different fields, with themselves
     Shape {
         name: "wide",
@@ -443,7 +444,7 @@ once ],"default":null},{"name":"f","type":["x.A1","y.A1"]}]}"##,
             parts: WIDE,
         },
     },
-    // records, with themselves behind a record of 100,000 aliases
+    // records, with themselves after a record of 100,000 aliases
     Shape {
         name: "aliases",
         counts: &[200, 2000],
@@ -462,7 +463,7 @@ each ;{"type":"record","name":"A#","fields":[{"name":"f","type":"int"}]}
 once ]"##,
         },
     },
-    // records of one last name, with one whose field has 100,000 aliases
+    // records of one last name, with a record whose field has 100,000 aliases
     Shape {
         name: "field-aliases",
         counts: &[200, 2000],
@@ -481,8 +482,8 @@ once ]"##,
 once ]}]}"##,
         },
     },
-    // nineteen unions of the same records of one last name, as many as a text has room for, with a
-    // field of a record that has an int, and the reader's a string
+    // nineteen unions of the same records of one last name, the maximum that fits into a text. The
+    // records have a field of a record with an int, and for the reader a string.
     Shape {
         name: "many-unions",
         counts: &[2000, 3900],
@@ -497,9 +498,9 @@ once ]}]}"##,
             parts: MANY_UNIONS,
         },
     },
-    // records of one last name with eight fields, x0 to x7, whose types fail one after the other,
-    // but for the fourth's; with records of a field that has 37 aliases that name none of them, and
-    // then these eight, the fourth first
+    // Records of one last name with eight fields, x0 to x7, whose types fail in turn, except the
+    // fourth. The reader's records have one field. Its first 37 aliases name none of the eight
+    // fields, and then all eight follow, the fourth first.
     Shape {
         name: "crowd",
         counts: &[400, 1500, 3100],
@@ -516,8 +517,8 @@ each ,{"type":"record","name":"n#.A","fields":[{"name":"z","type":"p.P","default
 once ]"##,
         },
     },
-    // records of one last name with a field of their own type, with a thousand records of twenty
-    // fields of their own type that have its name as an alias
+    // Records of one last name with a field of their own type, with a thousand records of twenty
+    // such fields. These have the name of the writer's field as an alias.
     Shape {
         name: "aliased",
         counts: &[400, 4090],

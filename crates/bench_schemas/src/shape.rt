@@ -1,18 +1,18 @@
-//! What is measured: texts by their parts.
+//! Shapes: families of texts to measure.
 
 use avro_testing::{Template, expand};
 use std::alloc::{AllocError, Global};
 
-/// Texts of one form, from a small one on, which shows how its time grows.
+/// Texts of one form and of growing size, which show how the time grows.
 #[derive(Clone, Copy)]
 pub struct Shape {
     pub name: &'static str,
     pub counts: &'static [u32],
-    /// a large count that has room behind a cycle, or 0 if none has
+    /// a large count with which the texts fit after a cycle, or 0 for none
     pub after_cycle: u32,
-    /// the parts that the mark of an inner text stands for, or `HOLES` or `TWO_HOLES`
+    /// the template for the placeholder `@`, or `HOLES` or `TWO_HOLES`
     pub inner: &'static str,
-    /// the text that is read, or the writer's
+    /// the text to read, or the writer's text
     pub writer: Template,
     pub reader: Template,
 }
@@ -23,21 +23,22 @@ pub const NO_TEXT: Template = Template {
     parts: "",
 };
 
-/// A record that stands first in a cycle of 1,050, more than pairs may be open at once: the others are defined in the union
-/// beside it, and another text is its last field. A reader's looks for no union, since the word is another one.
+/// The first record of a cycle of 1,050 records, more than the pairs that may be open at once. A union in its first
+/// field defines the rest of the cycle, and its last field has the text of a shape. A reader ignores the union, since
+/// its own first field has another name.
 const LINKS: &str =
     r##"once {"type":"record","name":"Link0","fields":[{"name":"$","default":null,"type":["null",{"type":"record","name":"Link1049","fields":[{"name":"next","type":"Link0"}]}
 1048..0 ,{"type":"record","name":"Link#","fields":[{"name":"next","type":"Link>"}]}
 once ]},{"name":"next","type":"Link1"},{"name":"after_cycle","type":@}]}"##;
 
-/// The inner text is fields of unions of the records n0.A, n1.A and so on. Each union leaves out one
-/// record of each 24, and ends with the word.
+/// The inner text is fields with unions of the records n0.A, n1.A and so on. Each union lacks one of every 24 records,
+/// and ends with the word.
 pub const HOLES: &str = "holes";
 
-/// The same, but each union leaves out two records of each 24.
+/// The same, but each union lacks two of every 24 records.
 pub const TWO_HOLES: &str = "two holes";
 
-/// How many unions with holes a text has, and each of which records one of them leaves out.
+/// The number of unions with holes in a text. Each union lacks a record of every 24.
 const UNIONS: u32 = 24;
 
 /// The unions with holes.
@@ -61,11 +62,11 @@ fn unions(alloc: Global, count: u32, has_two: bool, word: &str) -> Result<String
 pub fn shape_text(
     alloc: Global,
     shape: &Shape,
-    made: Template,
+    template: Template,
     count: u32,
 ) -> Result<String, AllocError> {
     let inner = if shape.inner == HOLES || shape.inner == TWO_HOLES {
-        unions(alloc, count, shape.inner == TWO_HOLES, made.word)?
+        unions(alloc, count, shape.inner == TWO_HOLES, template.word)?
     } else {
         let repeated = Template {
             word: "",
@@ -73,10 +74,10 @@ pub fn shape_text(
         };
         expand(alloc, repeated, "", count)?
     };
-    expand(alloc, made, inner.as_str(), count)
+    expand(alloc, template, inner.as_str(), count)
 }
 
-/// A text behind a cycle. The word is another one for the reader's.
+/// A text after a cycle. The writer's and the reader's text have different words.
 pub fn put_after_cycle(
     alloc: Global,
     text: &str,

@@ -1,4 +1,4 @@
-//! How long reading and resolving take.
+//! Times of reading and resolving.
 
 use anyhow::Result;
 use avro_resolve::{Verdict, resolves, resolves_plain};
@@ -8,21 +8,22 @@ use std::alloc::Global;
 use std::rt::Clock;
 use std::time::Instant;
 
-/// The most runs of a work.
-const RUNS: u32 = 2000;
+/// The maximum number of runs of a call.
+const MAX_RUNS: u32 = 2000;
 
-/// The nanoseconds after which a work is not run again.
-const ENOUGH: u64 = 200_000_000;
+/// The total time after which a call isn't run again, in nanoseconds.
+const MAX_NANOS: u64 = 200_000_000;
 
-/// The nanoseconds of a short call, of which a run makes several, so that the clock's own time doesn't count.
-const SHORT: u64 = 10_000;
+/// The maximum time of a short call, in nanoseconds. A run makes several short calls, so that the time of reading the
+/// clock doesn't count.
+const SHORT_NANOS: u64 = 10_000;
 
-/// How many calls a run makes of a short one.
-const CALLS: u64 = 16;
+/// The number of short calls in a run.
+const CALLS_PER_RUN: u64 = 16;
 
-/// What is measured. What a call makes is let go within its time.
+/// A call to measure. Its time includes dropping its result.
 #[derive(Clone, Copy)]
-pub enum Work<'a> {
+pub enum Call<'a> {
     /// `Schema::read`
     Schema(&'a str),
     /// `Value::from_str` of `serde_json`
@@ -33,17 +34,17 @@ pub enum Work<'a> {
     Elimination(&'a Schema, &'a Schema),
 }
 
-/// What a work answers, and what it takes.
+/// The result of a call, and its times.
 #[derive(Clone, Copy)]
 pub struct Timing {
     pub verdict: Verdict,
-    /// the nanoseconds of the shortest call
+    /// the time of the shortest call, in nanoseconds
     pub nanos: u64,
-    /// the nanoseconds of all calls
+    /// the time of all calls, in nanoseconds
     spent: u64,
 }
 
-/// What is known before the first run.
+/// The state before the first run.
 const NOT_RUN: Timing = Timing {
     verdict: Verdict {
         yes: false,
@@ -53,38 +54,42 @@ const NOT_RUN: Timing = Timing {
     spent: 0,
 };
 
-/// Does the work once. A text that is read is none or one, and counts no visits.
-fn run_once(alloc: Global, work: Work) -> Result<Verdict> {
-    let yes = match work {
-        Work::Schema(text) => Schema::read(alloc, text).is_ok(),
-        Work::Json(text) => Value::from_str(alloc, text).is_ok(),
-        Work::Recursion(writer, reader) => return Ok(resolves(alloc, writer, reader)?),
-        Work::Elimination(writer, reader) => resolves_plain(alloc, writer, reader)?,
+/// Makes the call once. For a text, the verdict is whether it is accepted, without visits.
+fn run_once(alloc: Global, call: Call) -> Result<Verdict> {
+    let yes = match call {
+        Call::Schema(text) => Schema::read(alloc, text).is_ok(),
+        Call::Json(text) => Value::from_str(alloc, text).is_ok(),
+        Call::Recursion(writer, reader) => return Ok(resolves(alloc, writer, reader)?),
+        Call::Elimination(writer, reader) => resolves_plain(alloc, writer, reader)?,
     };
     Ok(Verdict { yes, visits: 0 })
 }
 
-/// Does the work in a run more, where it has not had enough of them.
-fn run(rt: &(impl Clock + AllocGlobal), work: Work, least: &mut Timing) -> Result<()> {
-    if least.spent > ENOUGH {
+/// Makes another run, unless the call has run for long enough.
+fn run(rt: &(impl Clock + AllocGlobal), call: Call, timing: &mut Timing) -> Result<()> {
+    if timing.spent > MAX_NANOS {
         return Ok(());
     }
-    let calls = if least.nanos < SHORT { CALLS } else { 1 };
+    let calls = if timing.nanos < SHORT_NANOS {
+        CALLS_PER_RUN
+    } else {
+        1
+    };
     let start = Instant::now(rt)?;
     for _call in 0..calls {
-        least.verdict = run_once(rt.alloc(), work)?;
+        timing.verdict = run_once(rt.alloc(), call)?;
     }
     let took = u64::try_from(start.elapsed(rt)?.as_nanos()).unwrap_or(u64::MAX);
-    least.spent = least.spent.saturating_add(took);
-    least.nanos = least.nanos.min(took / calls);
+    timing.spent = timing.spent.saturating_add(took);
+    timing.nanos = timing.nanos.min(took / calls);
     Ok(())
 }
 
-/// Does two works in turn, so that what else the machine does weighs on both.
-pub fn times(rt: &(impl Clock + AllocGlobal), one: Work, other: Work) -> Result<(Timing, Timing)> {
+/// Runs two calls in turn, so that other load on the machine affects both.
+pub fn times(rt: &(impl Clock + AllocGlobal), one: Call, other: Call) -> Result<(Timing, Timing)> {
     let mut first = NOT_RUN;
     let mut second = NOT_RUN;
-    for _run in 0..RUNS {
+    for _run in 0..MAX_RUNS {
         run(rt, one, &mut first)?;
         run(rt, other, &mut second)?;
     }

@@ -1,4 +1,4 @@
-//! Tests of schemas, of the plain registry and of messages: of what stands below the database, and no program shows.
+//! Tests of the crates below the database, for what the program doesn't show: schemas, decisions and messages.
 
 #![tactic(auto)]
 

@@ -1,4 +1,4 @@
-//! That with ample memory each call does its work, and that the definitions mean what was meant.
+//! Tests that calls succeed if memory suffices, and that the definitions mean what is intended.
 
 mod cache;
 mod nodes;

@@ -1,4 +1,4 @@
-//! What a memory remembers, and what goes when it is full.
+//! Which schemas the cache keeps, and which a full cache evicts.
 
 use avro_schema::SchemaError;
 use schema_cache::{CacheLookup, EvictionPolicy, SchemaCache};
@@ -6,7 +6,7 @@ use std::alloc::Global;
 use std::process::Abort;
 use std::test::Fail;
 
-/// The identity text of what is read, or that it is no JSON, and whether it is remembered.
+/// The identity text of the schema or the name of the error, and whether the schema is cached.
 fn outcome(
     alloc: Global,
     cache: &mut SchemaCache,
@@ -22,8 +22,9 @@ fn outcome(
     }
 }
 
-/// Ids, from the first up to the second, a text and how many blanks stand behind it, what is kept when the memory is full,
-/// what comes of each, whether it is remembered, and how many schemas and bytes of texts are remembered at last.
+/// The start and the end of a range of ids, a text, the number of blanks after it, and the policy of the cache. Then
+/// come the result of each read and whether it is cached. The last columns are the number of cached schemas, and of
+/// bytes of their texts.
 type Reads = (
     u32,
     u32,
@@ -36,7 +37,7 @@ type Reads = (
     usize,
 );
 
-/// Reads, one after the other.
+/// Reads in sequence.
 #[rattlefmt::skip]
 const READS: [Reads; 13] = [
     // an id has one text
@@ -45,12 +46,12 @@ const READS: [Reads; 13] = [
     (7, 8, "\"string\"", 0, EvictionPolicy::Replace, "\"string\"", true, 1, 8),
     (7, 8, "\"int", 0, EvictionPolicy::Replace, "NotJson", false, 1, 8),
     (7, 8, "\"string\"", 0, EvictionPolicy::Replace, "\"string\"", true, 1, 8),
-    // a long text isn't remembered
+    // a long text isn't cached
     (8, 9, "\"int\"", 65532, EvictionPolicy::Replace, "\"int\"", false, 1, 8),
-    // the least recently used go
+    // the least recently used schemas are evicted
     (1000, 1256, "\"int\"", 0, EvictionPolicy::Replace, "\"int\"", true, 256, 1280),
     (7, 8, "\"int\"", 0, EvictionPolicy::Replace, "\"int\"", true, 256, 1280),
-    // or what is there stays
+    // or the cached schemas stay
     (2000, 2001, "\"int\"", 0, EvictionPolicy::Keep, "\"int\"", false, 256, 1280),
     (1000, 1001, "\"int\"", 0, EvictionPolicy::Keep, "\"int\"", false, 256, 1280),
     (1001, 1256, "\"int\"", 0, EvictionPolicy::Keep, "\"int\"", true, 256, 1280),
@@ -59,17 +60,17 @@ const READS: [Reads; 13] = [
     (12, 32, "\"long\"", 65530, EvictionPolicy::Replace, "\"long\"", true, 6, 393_216),
 ];
 
-/// Holds what comes of a row to what is due.
+/// Checks the reads of a row.
 fn check_reads(
     rt: &impl Abort,
     alloc: Global,
     cache: &mut SchemaCache,
     row: &Reads,
 ) -> Result<(), Fail> {
-    let (first, behind, text, blanks, eviction_policy, said, kept, schemas, bytes) = *row;
+    let (first, end, text, blanks, eviction_policy, said, kept, schemas, bytes) = *row;
     let mut text = String::from_str(alloc, text)?;
     text.push_str(&" ".repeat(alloc, blanks)?)?;
-    for id in first..behind {
+    for id in first..end {
         let (read, is_kept) = outcome(alloc, cache, id, &text, eviction_policy)?;
         assert_eq!(rt; read.as_str(), said, "{id}");
         assert_eq!(rt; is_kept, kept, "{id}");

@@ -1,11 +1,11 @@
-//! Numbers, and nodes that no text denotes. Expected texts are those of the project's profile, written out.
+//! Numbers, and nodes that no text denotes. The expected texts were derived from the project's profile by hand.
 
 use avro_nodes::{Extra, Kind, Node, identity_of, plain_of};
 use serde_json::Value;
 use std::alloc::Global;
 use std::test::Fail;
 
-/// Texts, each before what it is respelt to, or alone where a number in it is refused.
+/// Texts, each with its rewritten text after the arrow, or without an arrow if a number in it is rejected.
 const NUMBERS: &str = r#"=>
 0=>0
 16.0=>16
@@ -77,8 +77,7 @@ fn members(alloc: Global, json: &str) -> Result<Extra, Fail> {
     }
 }
 
-/// An attribute without a meaning of its own that has the name of one that is written gives way, and a float stands as
-/// `serde_json` writes it.
+/// Another attribute with the name of a known one is left out, and a float is written as `serde_json` writes it.
 #[test]
 fn nodes_that_no_text_denotes(rt: HostRuntime) -> Result<(), Fail> {
     let alloc = rt.alloc();

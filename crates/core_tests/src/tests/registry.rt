@@ -1,5 +1,5 @@
-//! What is decided where numbers run out, and what is remembered of it. Expected values are those of the registry's
-//! profile, written out.
+//! Decisions when ids or version numbers run out, and the schemas that decisions cache. The expected values were
+//! derived from the registry's profile by hand.
 
 use avro_schema::Schema;
 use reg_core::{
@@ -11,18 +11,19 @@ use std::collections::BTreeMap;
 use std::process::Abort;
 use std::test::Fail;
 
-/// What is decided of `"int"` for a subject with one version: its number, whether it is deleted, the id of `"int"` if it has
-/// one, how many schemas there are; the status, the body, and the number of the version that is added, or 0.
+/// Registrations of `"int"` in a subject with one version. The first columns are the version's number, whether it is
+/// deleted, the id of `"int"` if any, and the number of schemas. Then come the status, the body, and the number of the
+/// added version, or 0.
 #[rattlefmt::skip]
 const LAST_NUMBERS: [(u32, bool, Option<u32>, u32, u16, &str, u32); 5] = [
-    // the next number is behind the deleted ones
+    // the next number comes after the deleted ones
     (2_147_483_646, true, Some(1), 1, 200, ID_1, 2_147_483_647),
     (2_147_483_647, true, Some(1), 1, 422, NO_NUMBER, 0),
-    // no id is left for a schema that has none
+    // no id is left for a new schema
     (1, true, None, 2_147_483_647, 422, NO_NUMBER, 0),
-    // one that a live version has needs no number
+    // a schema that a live version has needs no number
     (2_147_483_647, false, Some(1), 2_147_483_647, 200, ID_1, 0),
-    // the level comes before the numbers
+    // the level is checked before the numbers
     (2_147_483_647, false, None, 2_147_483_647, 409, INCOMPATIBLE, 0),
 ];
 
@@ -65,21 +66,21 @@ fn register(alloc: Global) -> Result<Command, Fail> {
     })
 }
 
-/// What is decided of the registration.
+/// The decision on the registration.
 fn decided(alloc: Global, view: &View) -> Result<Decision, Fail> {
     let schema = Schema::read(alloc, "\"int\"")?;
     let command = register(alloc)?;
     Ok(decide(alloc, view, &command, Some(&schema))?)
 }
 
-/// The same with a memory of schemas.
+/// The same with a cache of schemas.
 fn decided_with(alloc: Global, view: &View, cache: &mut SchemaCache) -> Result<Decision, Fail> {
     let schema = Schema::read(alloc, "\"int\"")?;
     let command = register(alloc)?;
     Ok(decide_with_cache(alloc, view, &command, Some(&schema), Some(cache))?)
 }
 
-/// Holds a decision to the status, the body, and the number of the version that is added last, or 0.
+/// Checks a decision's status and body, and the number of the version that is added last, or 0.
 fn check_decision(rt: &impl Abort, decision: &Decision, status: u16, body: &str, last: u32) {
     let added = match decision.changes.last() {
         Some(Change::AddRow { row, .. }) => row.version(),
@@ -101,7 +102,7 @@ fn numbers_run_out(rt: HostRuntime) -> Result<(), Fail> {
     Ok(())
 }
 
-/// The schema of a version is remembered once it was compared.
+/// A version's schema is cached after it is compared once.
 #[test]
 fn compared_schemas_are_cached(rt: HostRuntime) -> Result<(), Fail> {
     let view = view(rt.alloc(), 1, false)?;

@@ -1,14 +1,14 @@
-//! What a part of a message waits for.
+//! The number of bytes that a part of a request waits for.
 
 use httparse::spans::EMPTY_HEADER_SPAN;
 use reg_messages::{ParseOutcome, parse_front};
 use std::test::Fail;
 
-/// A message that sets a level.
+/// A request that sets a level.
 const SET_FULL: &str =
     "PUT /config HTTP/1.1\r\nContent-Length: 24\r\n\r\n{\"compatibility\":\"FULL\"}";
 
-/// A part needs a byte more, and where it has the whole head, its body.
+/// A part of a request needs one more byte, or its whole body once it has the whole head.
 #[test]
 fn part_of_a_request_reports_the_bytes_it_needs(rt: HostRuntime) -> Result<(), Fail> {
     let whole = SET_FULL.len();

@@ -1,5 +1,5 @@
-//! Resolution, by both of its ways. Expected answers are those of the Avro 1.11 specification and of this project's
-//! choices, worked out by hand.
+//! Resolution, in both ways. The expected verdicts were derived from the Avro 1.11 specification and this project's
+//! choices by hand.
 
 use avro_resolve::{Verdict, resolves, resolves_itself, resolves_plain};
 use avro_schema::Schema;
@@ -10,7 +10,7 @@ use std::alloc::Global;
 use std::process::Abort;
 use std::test::Fail;
 
-/// Whether a writer, before the arrow, resolves with a reader.
+/// Whether the writer before the arrow resolves with the reader after it.
 const RULES: &str = r#"yes [] => "int"
 no "int" => []
 yes [] => []
@@ -56,7 +56,7 @@ yes {"type":"record","name":"N","fields":[{"name":"next","type":["null","N"]},{"
 no {"type":"record","name":"N","fields":[{"name":"next","type":["null","N"]},{"name":"v","type":"long"}]} => {"type":"record","name":"N","fields":[{"name":"next","type":["null","N"]},{"name":"v","type":"int"}]}
 no {"type":"record","name":"A","fields":[{"name":"b","type":{"type":"record","name":"B","fields":[{"name":"a","type":["null","A"]}]}},{"name":"c","type":"int"}]} => [{"type":"record","name":"x.A","fields":[{"name":"b","type":{"type":"record","name":"x.B","fields":[{"name":"a","type":["null","x.A"]}]}},{"name":"c","type":"string"}]},{"type":"record","name":"y.A","fields":[{"name":"b","type":"x.B"}]}]"#;
 
-/// The verdict on two texts, on which all calls agree: both ways of resolution, and the levels that ask for it.
+/// The verdict on two texts. Both ways of resolution must agree on it, and so must the levels that compare the two.
 fn verdict(alloc: Global, writer: &str, reader: &str) -> Result<Verdict, Fail> {
     let writers = [Schema::read(alloc, writer)?];
     let readers = [Schema::read(alloc, reader)?];
@@ -87,7 +87,7 @@ fn rules(rt: HostRuntime) -> Result<(), Fail> {
     Ok(())
 }
 
-/// Whether a level admits the last of several schemas after those before it.
+/// Whether a level admits the last of several schemas after the earlier ones.
 const ADMISSIONS: &str =
     r#"yes FORWARD {"type":"record","name":"R","fields":[{"name":"a","type":"int"}]}
 yes FORWARD {"type":"record","name":"R","fields":[{"name":"a","type":"int"}]} => {"type":"record","name":"R","fields":[{"name":"a","type":"int"},{"name":"b","type":"int"}]}
@@ -128,12 +128,13 @@ fn schemas_of(alloc: Global, texts: &str) -> Result<Vec<Schema>, Fail> {
     Ok(schemas)
 }
 
-/// Whether a new schema goes with an earlier one, as an audit asks it.
+/// Whether a new schema is compatible with an earlier one, as an audit checks it.
 fn is_compatible(alloc: Global, level: Level, earlier: &str, new: &Schema) -> Result<bool, Fail> {
     Ok(is_compatible_with(alloc, level, 1, earlier, new, &mut SchemaCache::new())?)
 }
 
-/// Holds what a level answers to what is due. Where one schema is before the last, that goes with it or doesn't.
+/// Checks whether a level admits the last schema. If there is only one earlier schema, also checks whether the two are
+/// compatible.
 fn check_admission(
     rt: &impl Abort,
     alloc: Global,
@@ -169,27 +170,27 @@ const INT: &str = r#"once "int""#;
 const TWO_FIELDS: &str =
     r#"once {"type":"record","name":"R","fields":[{"name":"a","type":"int"},{"name":"b","type":"int"}]}"#;
 
-/// A pair that is assumed, and of which what was assumed since has to be taken back.
+/// A pair that is assumed, and then fails: the assumptions since then must be withdrawn.
 const STALE_WRITER: &str =
     r#"once {"type":"record","name":"A","fields":[{"name":"b","type":{"type":"record","name":"B","fields":[{"name":"a","type":["null","A"]}]}},{"name":"c","type":"int"}]}"#;
 
 const STALE_READER: &str =
     r#"once [{"type":"record","name":"x.A","fields":[{"name":"b","type":{"type":"record","name":"x.B","fields":[{"name":"a","type":["null","x.A"]}]}},{"name":"c","type":"string"}]},{"type":"record","name":"y.A","fields":[{"name":"b","type":"x.B"}]}]"#;
 
-/// A record whose second field leads down thirty records, the last of which has an int.
+/// A record whose second field leads to a chain of thirty records; the last one has an int.
 const LADDER: &str =
     r##"once {"type":"record","name":"w.T","fields":[{"name":"wd","default":null,"type":["null",{"type":"record","name":"w.A30","fields":[{"name":"f","type":"int"}]}
 29..0 ,{"type":"record","name":"w.A#","fields":[{"name":"f","type":"w.A>"}]}
 once ]},{"name":"f","type":"w.A1"}]}"##;
 
-/// The same with two records in the place of each, either of which may be read, but for the last ones, which have strings:
-/// without a table of failed pairs each is tried on each way that leads to it, over a billion in all.
+/// The same with two records instead of one. Either may be read, except for the last two, which have strings. Without a
+/// table of failed pairs, each would be tried on each path to it, over a billion times in all.
 const LADDER_OF_TWO: &str =
     r##"once {"type":"record","name":"r.T","fields":[{"name":"rd","default":null,"type":["null",{"type":"record","name":"x.A30","fields":[{"name":"f","type":"string"}]},{"type":"record","name":"y.A30","fields":[{"name":"f","type":"string"}]}
 29..0 ,{"type":"record","name":"x.A#","fields":[{"name":"f","type":["x.A>","y.A>"]}]},{"type":"record","name":"y.A#","fields":[{"name":"f","type":["x.A>","y.A>"]}]}
 once ]},{"name":"f","type":["x.A1","y.A1"]}]}"##;
 
-/// A cycle of 40 records. But for the first they are defined in a union, from the last down, so that the text doesn't nest
+/// A cycle of 40 records. All but the first are defined in a union, from the last down, so that the text doesn't nest
 /// deeply.
 const CYCLE_OF_40: &str =
     r##"once {"type":"record","name":"w1.R","fields":[{"name":"wd","default":null,"type":["null",{"type":"record","name":"w40.R","fields":[{"name":"f","type":"w1.R"}]}
@@ -204,36 +205,36 @@ once ]},{"name":"f","type":"r2.R"}]}"##;
 
 const ONE_FIELD: &str = r#"once {"type":"record","name":"R","fields":[{"name":"x","type":"int"}]}"#;
 
-/// A field of many aliases, of which the last one is found.
+/// A field with many aliases; the last alias is a field of the writer.
 const ALIASES: &str =
     r##"once {"type":"record","name":"R","fields":[{"name":"y","type":"long","aliases":[
 0..4100 "a#",
 once "x"]}]}"##;
 
-/// The same, of which none is found.
+/// The same, but none is a field of the writer.
 const OTHER_ALIASES: &str =
     r##"once {"type":"record","name":"R","fields":[{"name":"y","type":"long","aliases":[
 0..4100 "a#",
 once "z"]}]}"##;
 
-/// A record of a union of 320 types of one last name, and of an int.
+/// A record with a union of 320 types of one last name, and with an int.
 const MANY_BRANCHES: &str = r##"once {"type":"record","name":"A","fields":[{"name":"u","type":[
 0..320 ;{"type":"fixed","name":"n#.F","size":1}
 once ]},{"name":"z","type":"int"}]}"##;
 
-/// 320 records that could read it but for a string, before one that can: for each of them what was assumed of the branches
-/// is taken back.
+/// 320 records that could read it except for a string, and then one that can. For each of the 320, the assumptions on
+/// the branches are withdrawn.
 const MANY_READERS: &str =
     r##"once [{"type":"record","name":"c.A","fields":[{"name":"u","type":{"type":"fixed","name":"r.F","size":1}},{"name":"z","type":"string"}]}
 1..320 ,{"type":"record","name":"c#.A","fields":[{"name":"u","type":"r.F"},{"name":"z","type":"string"}]}
 once ,{"type":"record","name":"d.A","fields":[{"name":"u","type":"r.F"},{"name":"z","type":"int"}]}]"##;
 
-/// A record of a record without fields, and of an int.
+/// A record with a record without fields, and with an int.
 const NO_FIELDS: &str =
     r##"once {"type":"record","name":"A","fields":[{"name":"u","type":{"type":"record","name":"U","fields":[]}},{"name":"z","type":"int"}]}"##;
 
-/// 1,000 records that could read it but for a string, before one that can: for each of them a field of 4,000 aliases is
-/// looked for among no fields.
+/// 1,000 records that could read it except for a string, and then one that can. For each of the 1,000, a field with
+/// 4,000 aliases is looked up among no fields.
 const ALIASED_READERS: &str =
     r##"once [{"type":"record","name":"c.A","fields":[{"name":"u","type":{"type":"record","name":"r.U","fields":[{"name":"y","type":"int","default":0,"aliases":[
 0..4000 ;"a#"
@@ -241,7 +242,7 @@ once ]}]}},{"name":"z","type":"string"}]}
 1..1000 ,{"type":"record","name":"c#.A","fields":[{"name":"u","type":"r.U"},{"name":"z","type":"string"}]}
 once ,{"type":"record","name":"d.A","fields":[{"name":"u","type":"r.U"},{"name":"z","type":"int"}]}]"##;
 
-/// A hundred records with a field of one record, which has an int, and two unions of them.
+/// A hundred records with a field of the same record, which has an int, and two unions of them.
 const IN_UNIONS: &str =
     r##"once {"type":"record","name":"T","fields":[{"name":"wd","default":null,"type":["null",{"type":"record","name":"n.Z","fields":[{"name":"f","type":"int"}]}
 0..100 ,{"type":"record","name":"n#.A","fields":[{"name":"f","type":"n.Z"}]}
@@ -251,7 +252,8 @@ once ]},{"name":"v","type":[
 1..100 ;"n#.A"
 once ]}]}"##;
 
-/// The same with a string. A further branch of the first union reads each record, and none of the second does.
+/// The same with a string. An additional branch of the first union can read each record; no branch of the second union
+/// can.
 const STRINGS_IN_UNIONS: &str =
     r##"once {"type":"record","name":"T","fields":[{"name":"rd","default":null,"type":["null",{"type":"record","name":"n.Z","fields":[{"name":"f","type":"string"}]},{"type":"record","name":"e.A","fields":[]}
 0..100 ,{"type":"record","name":"n#.A","fields":[{"name":"f","type":"n.Z"}]}
@@ -273,23 +275,23 @@ once ,"e.A"]}
 0..110 ,{"name":"w#","default":null,"type":["null","n9.A"]}
 once ]}"##;
 
-/// Writers, readers, the verdicts and how many pairs the recursion opens.
+/// Writers, readers, the verdicts, and the numbers of pairs that the recursion opens.
 const VISITS: [(&str, &str, bool, u128); 11] = [
     (INT, INT, true, 1),
     (TWO_FIELDS, INT, false, 1),
     // eleven pairs are reached
     (STALE_WRITER, STALE_READER, false, 15),
     (LADDER, LADDER_OF_TWO, false, 122),
-    // as many as may be open at once, before all pairs are struck out
+    // the maximum number of open pairs, before elimination decides
     (CYCLE_OF_40, CYCLE_OF_41, true, 1000),
     (ONE_FIELD, ALIASES, true, 2),
     (ONE_FIELD, OTHER_ALIASES, false, 1),
-    // the roots, and for each of 321 records the pair with it, with its two fields and with the 320 branches: four pairs are
-    // open at most, and under a thousand are reached
+    // The roots, and for each of 321 records the pair with it, with its two fields and with the 320 branches. At most
+    // four pairs are open at once, and under a thousand are reached.
     (MANY_BRANCHES, MANY_READERS, true, 103_684),
-    // each record counts for 4,032: 13 for its own pair, whose two fields are looked up by two names, 4,010 for the pair of
-    // its first field's type, and nine for that of its second; with the nine of the roots, 992 records and two pairs of the
-    // next exceed four million, and elimination answers
+    // Each record counts for 4,032: 13 for its own pair, whose two fields are looked up by two names, 4,010 for the
+    // pair of its first field's type, and nine for its second's. With the nine of the roots, 992 records and two pairs
+    // of the next exceed four million, and elimination decides.
     (NO_FIELDS, ALIASED_READERS, true, 2979),
     // elimination reports runs of a hundred pairs, to fewer and to more unions than that
     (IN_UNIONS, STRINGS_IN_UNIONS, false, 10_206),
@@ -300,7 +302,7 @@ fn text(alloc: Global, parts: &'static str) -> Result<String, Fail> {
     Ok(expand(alloc, Template { word: "", parts }, "", 0)?)
 }
 
-/// No contract refuses a count of the pairs that are reached. This does.
+/// No contract excludes a count of the reached pairs. This test does.
 #[test]
 fn visits_counts_reached_pairs(rt: HostRuntime) -> Result<(), Fail> {
     let alloc = rt.alloc();
@@ -314,7 +316,7 @@ fn visits_counts_reached_pairs(rt: HostRuntime) -> Result<(), Fail> {
     Ok(())
 }
 
-/// How many pairs are made at random, always the same ones.
+/// The number of random pairs, which are always the same.
 const RANDOM_PAIRS: u64 = 200;
 
 /// Some resolve, and others don't.

@@ -1,10 +1,10 @@
-//! Rows that hold a registry, and rows that hold none.
+//! Rows that spell a registry, and rows that spell none.
 
 use reg_rows::{Tables, spells};
 use std::alloc::Global;
 use std::test::Fail;
 
-/// A row of a table. Those of `evidence` and `against` are of the subject s.
+/// A row of a table. Rows of `evidence` and `against` belong to the subject s.
 #[derive(Clone, Copy)]
 enum Row {
     Text(u32, &'static str),
@@ -20,7 +20,7 @@ const MODE: Row = Row::Meta("mode", "READWRITE");
 
 const FULL: Row = Row::Evidence(1, "FULL");
 
-/// The layout, the rows beside those that name it, and whether they hold a registry.
+/// The layout, the rows other than those that name the layout, and whether they spell a registry.
 const CASES: [(&str, &[Row], bool); 25] = [
     ("1", &[], false),
     ("1", &[GLOBAL], true),
@@ -60,7 +60,7 @@ const CASES: [(&str, &[Row], bool); 25] = [
         &[GLOBAL, MODE, FULL, Row::Against(1, 2), Row::Against(1, 1)],
         true,
     ),
-    // no evidence, or that of another version
+    // no evidence, or evidence of another version
     ("2", &[GLOBAL, MODE, Row::Against(1, 1)], false),
     ("2", &[GLOBAL, MODE, FULL, Row::Against(2, 1)], false),
     // positions that begin at 0 or at 2, and a gap
@@ -108,7 +108,7 @@ fn add(alloc: Global, tables: &mut Tables, row: Row) -> Result<(), Fail> {
     Ok(())
 }
 
-/// The tables of this layout, with these rows beside those that name it.
+/// The tables of this layout, with these rows and those that name the layout.
 fn tables(alloc: Global, layout: &'static str, rows: &[Row]) -> Result<Tables, Fail> {
     let mut tables = Tables {
         texts: Vec::new(alloc),

@@ -1,4 +1,4 @@
-//! Texts of schemas, and what is read of them. Expected texts are those of the project's profile, written out.
+//! Texts of schemas, and the results of reading them. The expected texts were derived from the project's profile by hand.
 
 use avro_nodes::Node;
 use avro_schema::{Schema, identity_denotes};
@@ -13,7 +13,7 @@ const READ: &str = r#""int" => "int"
 {"type":"record","name":"a.User","fields":[{"name":"n","type":{"type":"double"},"default":0.0}]} => {"fields":[{"default":0,"name":"n","type":"double"}],"name":"a.User","type":"record"}
 {"type":"record","name":"N","fields":[{"name":"next","type":["null","N"]},{"name":"v","type":"int"}]} => {"fields":[{"name":"next","type":["null","N"]},{"name":"v","type":"int"}],"name":"N","type":"record"}"#;
 
-/// Texts that denote no schema, each behind the name of its error.
+/// Texts that denote no schema, each after the name of its error.
 const REJECTED: &str = r#"NotJson|
 NotJson|{'type':'int'}
 BadNumber|{"type":"record","name":"R","fields":[{"name":"x","type":"double","default":1.5}]}
@@ -122,7 +122,7 @@ BadDefault|{"type":"record","name":"R","fields":[{"name":"x","type":{"type":"rec
 BadDefault|{"type":"record","name":"R","fields":[{"name":"x","type":{"type":"record","name":"S","fields":[]},"default":[]}]}
 BadDefault|{"type":"record","name":"R","fields":[{"name":"x","type":{"type":"array","items":["int","null"]},"default":[null]}]}"#;
 
-/// The identity text of what is read, or the name of the error.
+/// The identity text of the schema, or the name of the error.
 fn outcome(alloc: Global, text: &str) -> Result<String, Fail> {
     match Schema::read(alloc, text) {
         Ok(schema) => Ok(schema.text(alloc)?),
@@ -130,7 +130,7 @@ fn outcome(alloc: Global, text: &str) -> Result<String, Fail> {
     }
 }
 
-/// No contract refuses a reading that always answers that memory is refused. This does.
+/// No contract excludes a `read` that always returns `OutOfMemory`. This test does.
 #[test]
 fn reading_gives_up(rt: HostRuntime) -> Result<(), Fail> {
     for row in READ.lines() {
@@ -150,8 +150,8 @@ fn rejections(rt: HostRuntime) -> Result<(), Fail> {
     Ok(())
 }
 
-/// Texts between bars, of which every second one is repeated: they denote a schema where it is repeated so often, and are too
-/// large where once more.
+/// Texts with parts between bars, and a number of repetitions of each second part. With this number the text denotes a
+/// schema, and with one more it is too large.
 const LIMITS: [(&str, usize); 7] = [
     (r#"|{"type":"array","items":|"int"|}|"#, 23),
     (r#"|{"type":"map","values":|[]|}|"#, 23),
@@ -165,14 +165,14 @@ const LIMITS: [(&str, usize); 7] = [
         24,
     ),
     (r#"| |"int""#, 1_048_571),
-    // a namespace that grows, and as many aliases in it
+    // a growing namespace, with the same number of aliases in it
     (
         r#"{"type":"fixed","name":"F","size":1,"namespace":"|n|","aliases":["a"|,"a"|]}"#,
         1020,
     ),
 ];
 
-/// The texts between the bars, with every second one repeated so often.
+/// The parts between the bars, with each second one repeated `count` times.
 fn repeated(alloc: Global, texts: &str, count: usize) -> Result<String, AllocError> {
     let mut all = String::new(alloc);
     for (position, text) in texts.split('|').enumerate() {
