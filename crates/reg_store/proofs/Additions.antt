@@ -1,4 +1,4 @@
--- What a text or a version that is added makes of what the tables spell.
+-- What adding a text or a version does to what the tables spell.
 use Rattle.std.proofs.Common.{◌≡◌, ◌≢◌, ◌+◌, ℕ, arith, inl, inr, List, [], ◌∷◌, ◌++◌, length, Option, Some, None, refl, sym, ap, subst, ◌∙◌}
 use Rattle.std.specs.Prelude.{IsSome, IsTrue, IsUtf8, option_map, option_to_list}
 use Rattle.std.specs.FinMap.{FinMap, get, insert}
@@ -24,11 +24,11 @@ use Rattle.reg_tables.specs.Changes.{with_text, with_version}
 use Rattle.reg_tables.proofs.MapLemmas.{get-insert-same, get-insert-other, same_or_not}
 use Rattle.reg_tables.proofs.KeyedTables.{number_order, version_order}
 use Rattle.reg_store.specs.Spells.{IsSpelled, stored_version}
-use Rattle.reg_store.specs.Inside.Making.{StoresChange}
+use Rattle.reg_store.specs.Inside.Applying.{StoresChange}
 use Rattle.reg_store.proofs.Maps.{insert_each}
 use Rattle.reg_store.proofs.SpelledTwo.{spelled_in, put}
 
--- each id but the next keeps its schema, or has none still
+-- adding a schema changes the schema of no other id
 schema_other : (schemas : Schemas) (new : List NodeView) (id : ℕ) → id ≢ length schemas + 1 → schema_at (schemas ++ new ∷ []) id ≡ schema_at schemas id
 schema_other schemas new id other = go (schema_at schemas id) (schema_at (schemas ++ new ∷ []) id) refl refl
   where
@@ -37,7 +37,6 @@ schema_other schemas new id other = go (schema_at schemas id) (schema_at (schema
     go None None here there = refl
     go None (Some nodes) here there = absurd (elim (schema_grown schemas new id nodes there) [ inl was ↦ none-some nodes (sym here ∙ was) | inr it ↦ other it.0 ])
 
--- the texts of ids are the identity texts of their schemas, with one more on both sides
 texts_both : (texts : FinMap nat_cmp (List ℕ)) (schemas : Schemas) (new : List NodeView) → ((id : ℕ) → get texts id ≡ option_map identity (schema_at schemas id)) → (id : ℕ) → id ≡ length schemas + 1
     → (q : ℕ) → get (insert texts id (identity new)) q ≡ option_map identity (schema_at (schemas ++ new ∷ []) q)
 texts_both texts schemas new same id next q = elim (same_or_not nat_cmp number_order q id) [
@@ -46,7 +45,6 @@ texts_both texts schemas new same id next q = elim (same_or_not nat_cmp number_o
 ]
 
 module _ (contents : Contents) (g : Registry) (k : Kept) (s : IsSpelled contents g k) where
-  -- the registry with a schema more
   spelled_schema : (id : ℕ) (text : List ℕ) → IsUtf8 text → (new : IsNewText g.schemas id text) → IsSpelled (with_text id text contents) (record g { schemas = g.schemas ++ new.nodes ∷ [] }) k
   spelled_schema id text utf8 new = record {
     registry = grown-IsRegistry g new.nodes s.registry new.schema (let next = new.next in let within = new.within in omega (arith, next, within)) (subst (λ (t : List ℕ). id_of g.schemas t ≡ None) new.is new.unknown);
@@ -65,7 +63,6 @@ module _ (contents : Contents) (g : Registry) (k : Kept) (s : IsSpelled contents
       let denotes : denoted_nodes text ≡ Some new.nodes = ap denoted_nodes new.is ∙ identity_denoted new.nodes new.schema in
       subst (λ (o : Option (List NodeView)). IsSpelled (with_text id text contents) (record g { schemas = g.schemas ++ option_to_list o }) k) (sym denotes) (spelled_schema id text utf8 new)
 
-  -- a new id has no text, and no id has a new text
   pub id_is_free : (id : ℕ) (text : List ℕ) → IsNewText g.schemas id text → get contents.texts id ≡ None
   id_is_free id text new = s.texts id ∙ text_past g.schemas id (let next = new.next in omega (arith, next))
 
@@ -85,7 +82,6 @@ module _ (contents : Contents) (g : Registry) (k : Kept) (s : IsSpelled contents
     keys = s.keys;
   }
 
-  -- a new version's number is free, and its id has a text
   pub number_is_free : (row : Row) → IsNewRow g row → get contents.versions row.0 ≡ None
   number_is_free row new = s.versions row.0 ∙ ap (option_map stored_version) new.absent
 

@@ -1,4 +1,4 @@
--- Whether what versions were admitted by is true, as it is asked of one after the other.
+-- Whether the evidence of all versions is true, checked one version after the other.
 use Rattle.std.proofs.Common.{◌≡◌, ◌∙◌, ℕ, ◌+◌, List, take, find, refl, sym, ap, subst, add-one}
 use Rattle.std.specs.Prelude.{◌↔◌, All, Bool, true, false, IsSome, IsTrue, Option, None, Some, slice_get, option_map, option_and_then}
 use Rattle.std.specs.FinMap.{entries, get}
@@ -24,13 +24,13 @@ use Rattle.reg_tables.proofs.OrderedQueries.{entry_got, got_entry}
 use Rattle.reg_store.specs.NextLines.{is_after, key_in}
 use Rattle.reg_store.specs.Spells.{id_at}
 use Rattle.reg_store.specs.Inside.Auditing.{HasSchema, HasEvidence, IsTrueAt, IsTrueFor}
-use Rattle.reg_store.proofs.Behind.{last_taken}
-use Rattle.reg_store.proofs.HandingLemmas.{all_taken, next_row}
+use Rattle.reg_store.proofs.NextRowLemmas.{last_taken}
+use Rattle.reg_store.proofs.NextLineLemmas.{all_taken, next_row}
 use Rattle.reg_store.proofs.Texts.{was_written}
 
 -- ---- all versions
 
--- it is true for the versions up to this one
+-- the evidence of the versions up to `last` is true
 pub record AreTrueUpTo (was : Stored) (last : Option Row) : Type 0 where
   pub count : ℕ
   pub ends : last ≡ last_or None (take count (entries was.registry.rows))
@@ -44,18 +44,16 @@ module _ (was : Stored) where
   all_true each key version one nodes row had schema =
       All-contains (IsTrueFor was) rows (key, version) each (contains_had rows (key, version) (got_entry row_cmp version_order was.registry.rows key version row)) nodes schema one had
 
-  -- the version behind this one, if there is one
+  -- the next version after `last`, or `None`
   abbrev IsNext : Option Row → Option Row → Type 0
   IsNext last found = found ≡ find (λ row. is_after row_cmp (option_map key_in last) row.0) rows
 
   pub none_yet : AreTrueUpTo was None
   none_yet = record { count = 0; ends = refl; so_far = All-nil (IsTrueFor was) }
 
-  -- where none is behind it, it is true for all
   pub none_left : (last : Option Row) → AreTrueUpTo was last → IsNext last None → HasTrueEvidence was
   none_left last before next = all_true (subst (All (IsTrueFor was)) (all_taken rows before.count (next_row was.registry before.count last None before.ends next)) before.so_far)
 
-  -- where it is true for the next one, it is up to that
   pub one_more : (last : Option Row) → AreTrueUpTo was last → (row : Row) → IsNext last (Some row) → IsTrueFor was row → AreTrueUpTo was (Some row)
   one_more last before row next holds =
       let here = sym (next_row was.registry before.count last (Some row) before.ends next) in
@@ -65,7 +63,6 @@ module _ (was : Stored) where
         so_far = All-more (IsTrueFor was) rows before.count row (slice_get_within rows before.count row here) before.so_far (subst (IsTrueFor was) (sym (get_or_from_slice_get rows before.count row row here)) holds);
       }
 
-  -- where it isn't for the next one, it isn't for all
   pub one_fails : IsRegistry was.registry → (last : Option Row) → AreTrueUpTo was last → (row : Row) → IsNext last (Some row) → ((nodes : List NodeView) → HasSchema was row.1.id nodes → ¬ IsTrueAt was row.0 nodes) → ¬ HasTrueEvidence was
   one_fails ok last before row next fails all =
       let here = sym (next_row was.registry before.count last (Some row) before.ends next) in
@@ -84,11 +81,9 @@ module _ (was : Stored) (key : RowKey) (nodes : List NodeView) where
   abbrev level_in : Evidence → Level
   level_in one = one.level
 
-  -- without evidence nothing is to be true
   pub true_without : None ≡ option_map level_in (get was.evidence key) → IsTrueAt was key nodes
   true_without none one had = absurd (none-some one.level (none ∙ ap (option_map level_in) had))
 
-  -- nor where its level is NONE
   pub true_under_none : Some Off ≡ option_map level_in (get was.evidence key) → ((one : Evidence) → HasEvidence was key one → All (λ id. IsSome (schema_at was.registry.schemas id)) one.against) → IsTrueAt was key nodes
   true_under_none off there one had =
       let same : Off ≡ one.level = same_Some Off one.level (off ∙ ap (option_map level_in) had) in
@@ -96,7 +91,7 @@ module _ (was : Stored) (key : RowKey) (nodes : List NodeView) where
       (let it = some_is (schema_at was.registry.schemas id) some in
       (it.0, it.1, subst (λ (level : Level). Compatible level it.0 nodes) same tt))) one.against (there one had)
 
-  -- what is told of the level's comparisons is told of its evidence
+  -- the evidence is true if the schema passes the comparisons of its level
   pub true_by_level : (level : Level) (said : Bool) → Some level ≡ option_map level_in (get was.evidence key)
       → ((one : Evidence) → HasEvidence was key one → IsTrue said ↔ All (IsCompatibleWith was.registry.schemas level nodes) one.against) → IsTrue said ↔ IsTrueAt was key nodes
   true_by_level level said is told = (
@@ -116,24 +111,21 @@ pub named_at : (was : Stored) (key : RowKey) (one : Evidence) (index : ℕ) → 
 named_at was key one index had = ap (option_and_then (id_at (index + 1))) had ∙ ap (λ n. id_at n one) (add-one index)
 
 module _ {X : Type 0} (P : X → Type 0) (xs : List X) (index : ℕ) (x : X) (there : slice_get xs index ≡ Some x) where
-  -- one more item
   pub more_here : All P (take index xs) → P x → All P (take (index + 1) xs)
   more_here all here = All-more P xs index x (slice_get_within xs index x there) all (subst P (sym (get_or_from_slice_get xs index x x there)) here)
 
-  -- each is one
   pub one_here : All P xs → P x
   one_here all = subst P (get_or_from_slice_get xs index x x there) (all index x (slice_get_within xs index x there))
 
 -- ---- texts of schemas
 
 module _ (schemas : Schemas) (are : All IsSchema schemas) (id : ℕ) (text : List ℕ) (there : text_at schemas id ≡ Some text) where
-  -- the text of an id denotes the id's schema
   pub text-denotes : denoted_nodes text ≡ schema_at schemas id
   text-denotes =
       let it = text_at-schema schemas id text there in
       ap denoted_nodes (sym it.2) ∙ schema_at-denoted schemas are id it.0 it.1 ∙ sym it.1
 
-  -- so that the comparison with what it denotes is the comparison with the id's schema
+  -- comparing with what the text denotes is comparing with the id's schema
   pub goes_by_text : (level : Level) (new : List NodeView) (said : Bool) → ((earlier : List NodeView) → denoted_nodes text ≡ Some earlier → IsTrue said ↔ Compatible level earlier new) → IsTrue said ↔ IsCompatibleWith schemas level new id
   goes_by_text level new said told =
       let it = text_at-schema schemas id text there in
@@ -142,6 +134,6 @@ module _ (schemas : Schemas) (are : All IsSchema schemas) (id : ℕ) (text : Lis
         λ goes. compared.1 (subst (λ (earlier : List NodeView). Compatible level earlier new) (same_Some goes.0 it.0 (sym goes.1 ∙ it.1)) goes.2),
       )
 
--- with an id without a text nothing goes
+-- an id without a text is incompatible
 pub goes_not : (schemas : Schemas) (id : ℕ) (level : Level) (new : List NodeView) → text_at schemas id ≡ None → ¬ IsCompatibleWith schemas level new id
 goes_not schemas id level new none goes = none-some (identity goes.0) (sym none ∙ text_at-identity schemas id goes.0 goes.1)

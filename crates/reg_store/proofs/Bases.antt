@@ -1,4 +1,4 @@
--- What the tables of each layout spell, as far as both layouts have it.
+-- What the tables of both layouts spell.
 use Rattle.sqlite.specs.Schema.{Schema}
 use Rattle.sqlite.specs.Effect.{Database}
 use Rattle.reg_core.specs.Stored.{Stored}
@@ -8,10 +8,9 @@ use Rattle.reg_tables.proofs.Tables.{openable_has_eight, eight_has_five, two_has
 use Rattle.reg_tables.proofs.Statements.{one_has_five}
 use Rattle.reg_store.specs.Spells.{IsSpelled, SpellsLayoutOne, Spells, SpellsUnopened}
 use Rattle.reg_store.specs.Inside.Reads.{SpellsBase}
-use Rattle.reg_store.specs.Inside.Testing.{SpellsSome}
+use Rattle.reg_store.specs.Inside.TableChecks.{SpellsSome}
 use Rattle.reg_store.proofs.Readable.{one_readable, all_readable}
 
--- the five tables spell a registry, without its modes, and its kept replies
 pub record SpellsTables (db : Database) (was : Stored) : Type 0 where
   pub schema : Schema
   pub first : HasFiveTables schema

@@ -1,4 +1,4 @@
--- Rows that hold a registry are those of tables that spell one, and the other way round.
+-- Valid rows are those of tables that spell a registry, and the converse.
 use Rattle.std.proofs.Common.{◌≡◌, ℕ, ℤ, List, [], ◌∷◌, map, Option, Some, None, Bool, true, refl, sym, ap, subst, ◌∙◌, inl, inr, arith}
 use Rattle.std.specs.Prelude.{IsTrue, bytes_eq, is_some, option_map, option_and_then, string_bytes}
 use Rattle.std.specs.Prelude as list
@@ -39,7 +39,7 @@ pub find_passes : {X : Type 0} (p : X → Bool) (xs : List X) (x : X) → list.f
 find_passes p [] x h = absurd (cc)
 find_passes p (y ∷ ys) x h = elim (cases_Bool (p y)) [ inl is ↦ let same : y ≡ x = (let e = rw is at h in cc) in ap p (sym same) ∙ is | inr other ↦ find_passes p ys x (rw other at h) ]
 
--- a level is spelt one way
+-- each level has one text
 pub spelt : (text : List ℕ) (level : Level) → level_of text ≡ Some level → text ≡ level_text level
 spelt text level h = (bytes_eq-Decides text (level_text level)).0 (find_passes (λ l. bytes_eq text (level_text l)) levels level h)
 
@@ -73,7 +73,6 @@ module _ (lines : List RawLevel) where
       subst (λ q. FitsLevels q level) (ap (λ (y : ℤ × List ℕ × List ℕ). y.1) (sym l.2) ∙ e.2)
       (subst (FitsLevels (string_bytes l.0.subject)) (ap (λ (y : ℤ × List ℕ × List ℕ). y.2) (sym l.2) ∙ e.3) row)
 
-  -- each row of a table that spells own levels fits
   pub levels_fit : HasNoDuplicates text_cmp (map level_entry lines) → (own : OwnLevels) → ((subject : List ℕ) → get levels_in subject ≡ option_map level_text (own subject))
       → ((subject : List ℕ) (level : Level) → own subject ≡ Some level → IsTrue (is_subject subject)) → AllByRecursion IsLevelRow (map level_columns lines)
   levels_fit apart own levels subjects = all_from IsLevelRow (map level_columns lines) (λ row there.
@@ -99,7 +98,6 @@ module _ (lines : List RawKept) where
       subst (λ (q : List ℕ). CanBeKept q (entry_in kept)) (ap (λ (y : ℤ × List ℕ × KeptReplyView). y.1) (sym l.2) ∙ e.2)
       (subst (λ (r : KeptReplyView). CanBeKept (string_bytes l.0.key) (entry_in r)) (ap (λ (y : ℤ × List ℕ × KeptReplyView). y.2) (sym l.2) ∙ e.3) fits)
 
-  -- each row of a table that spells kept replies fits
   pub kept_fit : HasNoDuplicates text_cmp (map kept_entry lines) → (k : Kept) → ((key : List ℕ) → get kept_in key ≡ option_map stored_reply (k key)) → ((key : List ℕ) (entry : KeptEntry) → k key ≡ Some entry → CanBeKept key entry)
       → AllByRecursion IsKeptRow (map kept_columns lines)
   kept_fit apart k kept keys = all_from IsKeptRow (map kept_columns lines) (λ row there.
@@ -118,7 +116,7 @@ module _ (lines : RawRows) (apart : HaveNoDuplicates lines) where
   abbrev held : Contents
   held = contents_of lines
 
-  -- rows that fit spell a registry, where no text stands twice and the id of each version is that of a text
+  -- valid rows spell a registry if the texts differ and the id of each version has a text
   pub spelled_if_rows : ((i j : ℕ) (text : List ℕ) → get held.texts i ≡ Some text → get held.texts j ≡ Some text → i ≡ j)
       → ((key : RowKey) (row : VersionEntryView) → get held.versions key ≡ Some row → (text : List ℕ) × (get held.texts row.id ≡ Some text))
       → AreTexts (map text_columns (lines TableName.Texts)) → AllByRecursion IsVersionRow (map version_columns (lines TableName.Versions)) → AllByRecursion IsLevelRow (map level_columns (lines TableName.Levels)) → AllByRecursion IsKeptRow (map kept_columns (lines TableName.Kept))

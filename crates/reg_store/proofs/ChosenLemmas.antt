@@ -1,4 +1,4 @@
--- The version of a subject that is chosen, and one of an id, as lines of `versions` tell it.
+-- The chosen version of a subject, and a version of an id, from rows of `versions`.
 use Rattle.std.proofs.Common.{◌≡◌, ◌≢◌, ◌∙◌, inl, inr, ℕ, ◌==◌, List, [], ◌∷◌, true, false, map, length, Vec, Global, vec_len, refl, sym, ap, eqb-true, arith}
 use Rattle.std.specs.Prelude.{All, Bool, Option, None, Some, not, ◌||◌, filter, option_map, if◌then◌else◌}
 use Rattle.std.specs.FinMap.{get, entries}
@@ -25,7 +25,6 @@ use Rattle.reg_store.proofs.Texts.{was_written}
 is_zero : (n : ℕ) → (n == 0) ≡ true → n ≡ 0
 is_zero n e = grind (arith, nat_tests)
 
--- whether there are versions, by their count
 pub no_rows : (rows : Vec Row Global) → (vec_len rows == 0) ≡ true → rows.items ≡ []
 no_rows rows e = nil_from_length rows.items (sym rows.ok.0 ∙ is_zero rows.len e)
 
@@ -37,14 +36,13 @@ map_map f h None = refl
 map_map f h (Some x) = refl
 
 module _ (contents : Contents) (g : Registry) (spelled : (key : RowKey) → get contents.versions key ≡ option_map stored_version (get g.rows key)) (subject : List ℕ) where
-  -- the last of all, of which each is shown where deleted ones are
+  -- the last of all versions: if deleted ones are shown, every version is shown
   pub last_told : (found : Option SubjectVersion) → option_map subject_version_view found ≡ last_or None (subject_versions subject contents)
       → option_map (λ (line : SubjectVersion). row_numbered subject (subject_version_view line)) found ≡ last_or None (shown_rows true (rows_of g subject))
   last_told found is =
       map_map subject_version_view (row_numbered subject) found ∙ ap (option_map (row_numbered subject)) is ∙ sym (last_or-map (row_numbered subject) None (subject_versions subject contents))
       ∙ ap (last_or None) (subject_spelled contents g spelled subject ∙ sym (filter_all (λ row. true || not row.1.deleted) (rows_of g subject) (λ k d lt. refl)))
 
-  -- the last of those that aren't deleted
   pub last_live_told : (found : Option SubjectVersion) → option_map subject_version_view found ≡ last_or None (filter (λ (version : SubjectVersionView). not version.1.deleted) (subject_versions subject contents))
       → option_map (λ (line : SubjectVersion). row_numbered subject (subject_version_view line)) found ≡ last_or None (shown_rows false (rows_of g subject))
   last_live_told found is =
@@ -52,14 +50,12 @@ module _ (contents : Contents) (g : Registry) (spelled : (key : RowKey) → get 
       ∙ sym (last_or-map (row_numbered subject) None (filter (λ (version : SubjectVersionView). not version.1.deleted) (subject_versions subject contents)))
       ∙ ap (last_or None) (sym (filter-map (λ row. not row.1.deleted) (row_numbered subject) (subject_versions subject contents)) ∙ ap (shown_rows false) (subject_spelled contents g spelled subject))
 
-  -- the version that an entry of the table is of
   pub entry_told : (number : ℕ) (entry : VersionEntry) → get contents.versions (subject, number) ≡ Some (entry_row entry) → get g.rows (subject, number) ≡ Some (record { id = entry.id; deleted = entry.deleted })
   entry_told number entry there =
       let it = was_written stored_version (get g.rows (subject, number)) (entry_row entry) (sym (spelled (subject, number)) ∙ there) in
       let is = sym it.2 in
       it.1 ∙ λ i. Some (record { id = (is i).id; deleted = (is i).deleted })
 
-  -- where the table has no entry, there is no version
   pub none_told : (number : ℕ) → get contents.versions (subject, number) ≡ None → (version : Version) → get g.rows (subject, number) ≡ Some version → ⊥
   none_told number none version there = let both = sym none ∙ spelled (subject, number) ∙ ap (option_map stored_version) there in cc
 
@@ -70,7 +66,6 @@ filter_none p [] h = refl
 filter_none p (x ∷ xs) h =
     ap (λ b. if b then x ∷ filter p xs else filter p xs) (All-head (λ y. p y ≡ false) x xs h) ∙ filter_none p xs (All-tail (λ y. p y ≡ false) x xs h)
 
--- where each has the id, and one is there, the last has it
 id_of_last : (id : ℕ) (rows : List Row) (row : Row) → All (λ (r : Row). r.1.id ≡ id) rows → Contains rows row → map (λ (r : Row). r.1.id) (latest rows) ≡ id ∷ []
 id_of_last id [] row ids there = absurd (omega (arith, there.1))
 id_of_last id (first ∷ rows) row ids there = at_last first rows ids
@@ -80,7 +75,6 @@ id_of_last id (first ∷ rows) row ids there = at_last first rows ids
     at_last r (next ∷ rs) all = at_last next rs (All-tail (λ (x : Row). x.1.id ≡ id) r (next ∷ rs) all)
 
 module _ (contents : Contents) (g : Registry) (spelled : (key : RowKey) → get contents.versions key ≡ option_map stored_version (get g.rows key)) (id : ℕ) where
-  -- where no entry of the table has the id, no version has it
   pub no_version_told : ((key : RowKey) (entry : VersionEntryView) → get contents.versions key ≡ Some entry → entry.id ≢ id) → rows_with id (entries g.rows) ≡ []
   no_version_told none = filter_none (λ (row : Row). row.1.id == id) (entries g.rows) (λ k d lt. not_it _ (each_got row_cmp row_order g.rows k d lt))
     where
@@ -90,7 +84,6 @@ module _ (contents : Contents) (g : Registry) (spelled : (key : RowKey) → get 
         | inr not ↦ not
       ]
 
-  -- and where an entry has it, the last of its versions does
   pub version_told : (key : RowKey) (entry : VersionEntryView) → get contents.versions key ≡ Some entry → entry.id ≡ id → map (λ (row : Row). row.1.id) (latest (rows_with id (entries g.rows))) ≡ id ∷ []
   version_told key entry there is =
       let it = was_written stored_version (get g.rows key) entry (sym (spelled key) ∙ there) in

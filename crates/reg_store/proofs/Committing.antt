@@ -1,4 +1,4 @@
--- What a transaction that was committed, or failed, leaves.
+-- What a committed or failed transaction leaves.
 use Rattle.std.proofs.Common.{◌≤◌, arith, ◌≡◌, ◌⊎◌, inl, inr, ℕ, zero, suc, lit≤, List, [], Some, None, option_map, true, Ok, Err, Result, refl, sym, ap, subst, ◌∙◌}
 use Rattle.std.specs.Prelude.{IfErr, OnOk, OnErr, IsTrue, is_ok}
 use Rattle.std.specs.FinMap.{get-empty}
@@ -32,10 +32,9 @@ use Rattle.reg_store.specs.Stores.{KeepsCrashStates, RecoversLastCommit}
 use Rattle.reg_store.specs.Spells.{stored_version, IsSpelled, SpellsLayoutOne, SpellsIn, Spells, RecoversToIn, RecoversTo, IsOpenOver, SpellsWhileOpen}
 use Rattle.reg_store.specs.declared.layout.Layout.{Layout}
 use Rattle.reg_store.specs.declared.layout.Layout.TheVariants.{One, Two}
-use Rattle.reg_store.specs.Inside.Making.{SpellsNew, IsNew, RecoversToNew}
+use Rattle.reg_store.specs.Inside.Applying.{SpellsNew, IsNew, RecoversToNew}
 use Rattle.reg_store.proofs.Evidence.{no_evidence}
 
--- a commit that fails leaves the last commit
 pub keeps_if_failed : (a b : State) (e : Error) → FailsToCommit a b e → KeepsCommit a b
 keeps_if_failed a b e (inl h) = keeps_if_undone a b h.3
 keeps_if_failed a b e (inr h) = keeps_if_unchanged a b h.2
@@ -44,7 +43,6 @@ pub on_err : {X : Type 0} {P : Error → Type 0} {Q : Type 0} (r : Result X Erro
 on_err (Ok x) f h = tt
 on_err (Err e) f h = f e h
 
--- a transaction that was begun has the last commit of the connection
 pub keeps_begin : {S : Type 0} (g : Ghosts S) (conn begun : Held S) (end : State) → begun ≡ record conn { in_transaction = true } → KeepsCommit (state g begun) end → KeepsCommit (state g conn) end
 keeps_begin g conn begun end is keeps = let it = subst (λ h. KeepsCommit (state g h) end) is keeps in record { was_open = it.was_open; committed = it.committed }
 
@@ -52,12 +50,10 @@ pub on_err_each : {X E P : Type 0} (r : Result X E) → P → OnErr r P
 on_err_each (Ok x) h = tt
 on_err_each (Err e) h = h
 
--- trees that hold the contents do so after a crash
 pub left_if_held : (schema : Schema) (db : Trees) (now : Database) (contents : Contents) → db ≡ now.trees → HoldsContents schema now contents → HoldsContents schema (record { schema = schema; trees = db }) contents
 left_if_held schema db now contents is h =
     subst (λ d. HoldsContents schema (record { schema = schema; trees = d }) contents) (sym is) (subst (λ x. HoldsContents schema (record { schema = x; trees = now.trees }) contents) h.declared h)
 
--- trees that are those of a database spell what that does
 pub left_if_spelled : {IsAllowed : Schema → Type 0} {Spelled : Contents → Stored → Type 0} (db : Trees) (now : Database) (was : Stored) → db ≡ now.trees → SpellsIn IsAllowed Spelled now was → RecoversToIn IsAllowed Spelled db was
 left_if_spelled {IsAllowed} {Spelled} db now was is s = record { schema = now.schema; spells = subst (λ d. SpellsIn IsAllowed Spelled (record { schema = now.schema; trees = d }) was) (sym is) s }
 
@@ -68,7 +64,7 @@ none_at (suc n) = refl
 no_schema : (id : ℕ) (nodes : List NodeView) → schema_at [] id ≡ Some nodes → ⊥
 no_schema id nodes there = let none = sym (none_at id) ∙ there in absurd (cc)
 
--- tables with no row but in `meta` spell a new registry
+-- tables without rows, except in `meta`, spell a new registry
 new_is_spelled : (meta : TextMap (List ℕ)) → IsSpelled (record no_contents { meta = meta }) new_registry nothing_kept
 new_is_spelled meta = record {
   registry = record {
@@ -111,7 +107,6 @@ spells_new_one now h = record {
   spelled = record { base = new_is_spelled new_contents_one.meta; meta = refl; modes = record { global = refl; own = λ subject. refl }; evidence = refl };
 }
 
--- so they do in either layout
 pub is_new : (layout : Layout) (s : State) → IsTrue s.is_open → s.committed ≡ s.now → SpellsNew layout s.now → IsNew layout s
 is_new One s is_open settled spells = record { is_open = is_open; settled = settled; spells = spells }
 is_new Two s is_open settled spells = record { is_open = is_open; settled = settled; spells = spells }
@@ -120,18 +115,16 @@ pub leaves_new : (layout : Layout) (db : Trees) (now : Database) → db ≡ now.
 leaves_new One db now is spells = left_if_spelled db now new_stored is spells
 leaves_new Two db now is spells = left_if_spelled db now new_stored is spells
 
--- what keeps the last commit, and shows it, spells what it spelled
+-- a connection that keeps and shows the last commit spells what it spelled
 pub still_spells : (old new : State) (was : Stored) → KeepsCommit old new → (IsTrue new.is_open → new.now ≡ new.committed) → SpellsWhileOpen old was → SpellsWhileOpen new was
 still_spells old new was keeps settled s is_open =
     let before = s (keeps.was_open is_open) in
     let same : new.now ≡ old.now = settled is_open ∙ keeps.committed is_open ∙ before.settled in
     record { is_open = is_open; settled = sym (settled is_open); spells = subst (λ d. Spells d was) (sym same) before.spells }
 
--- while it shows its last commit, a crash leaves what that spells
 pub leaves_if_open : (s : State) (was : Stored) → RecoversLastCommit s → IsOpenOver s was → (db : Trees) → s.may_leave db → RecoversTo db was
 leaves_if_open s was only over db it = left_if_spelled db s.now was (only over.is_open db it ∙ ap (λ (d : Database). d.trees) over.settled) over.spells
 
--- what holds where one result is an error holds where the other is one
 pub on_err_same : {X Y E F P Q : Type 0} (r : Result X E) (s : Result Y F) → is_ok s ≡ is_ok r → (P → Q) → OnErr r P → OnErr s Q
 on_err_same (Ok x) (Ok y) same f h = tt
 on_err_same (Ok x) (Err e) same f h = absurd (cc)
@@ -146,7 +139,6 @@ on_ok_same (Err e) (Err d) same f h = tt
 
 -- ---- errors that aren't the disk's
 
--- where a crash leaves no more than before, no error says otherwise
 pub leaves_before : (old new : State) (e : StoreError) → ((db : Trees) → new.may_leave db → old.may_leave db) → KeepsCrashStates old new e
 leaves_before old new Memory h = inl h
 leaves_before old new Disk h = tt
@@ -154,11 +146,10 @@ leaves_before old new NotARegistry h = h
 leaves_before old new (OldLayout number) h = h
 leaves_before old new (NewerLayout number) h = h
 
--- so it is where a transaction is dropped
 pub before_if_undone : (old new : State) (e : StoreError) → Survives old new (λ _. ⊥) → HasCleanDisk new → KeepsCrashStates old new e
 before_if_undone old new e s clean = leaves_before old new e (λ db it. elim (s.crash clean db it) [ inl was ↦ was | inr none ↦ absurd none ])
 
--- a commit that fails leaves the last one while the connection is open, and memory alone is refused without a word on that
+-- a failed commit leaves the last one while the connection is open; only a failed allocation says nothing about that
 module _ (first last end : State) (keeps : KeepsCommit first end) (settled : (db : Trees) → IsTrue end.is_open → end.may_leave db → db ≡ end.committed.trees) (stays : IsTrue first.is_open → first.may_leave first.committed.trees)
     (closes : IsTrue end.is_open ⊎ MoreFaults first.faults end.faults) where
   open_before : IsTrue end.is_open → (db : Trees) → end.may_leave db → first.may_leave db
@@ -176,7 +167,6 @@ module _ (first last end : State) (keeps : KeepsCommit first end) (settled : (db
       go stored.Unstorable = tt
   before_if_failed e (inr late) = subst (λ x. KeepsCrashStates first end (failure_of x)) (sym late.0) (open_before late.2.0.is_open)
 
--- what a later call leaves, an earlier state left, where none was committed between
 pub before_then : (a b c : State) (e : StoreError) → Survives a b (λ _. ⊥) → HasCleanDisk b → b.faults ≤ c.faults → KeepsCrashStates b c e → KeepsCrashStates a c e
 before_then a b c Memory s clean up (inl same) = inl (λ db it. elim (s.crash clean db (same db it)) [ inl was ↦ was | inr none ↦ absurd none ])
 before_then a b c Memory s clean up (inr more) = let counts = s.counts in inr (omega (arith, counts, more))
@@ -185,7 +175,7 @@ before_then a b c NotARegistry s clean up h = λ db it. elim (s.crash clean db (
 before_then a b c (OldLayout number) s clean up h = λ db it. elim (s.crash clean db (h db it)) [ inl was ↦ was | inr none ↦ absurd none ]
 before_then a b c (NewerLayout number) s clean up h = λ db it. elim (s.crash clean db (h db it)) [ inl was ↦ was | inr none ↦ absurd none ]
 
--- a fault that shut the connection came before
+-- a fault that closed the connection came before
 pub before_if_faulted : (old mid new : State) (e : StoreError) → MoreFaults old.faults mid.faults → mid.faults ≤ new.faults → IsFaultBy mid new e → KeepsCrashStates old new e
 before_if_faulted old mid new Memory more up h = inr (omega (arith, more, up))
 before_if_faulted old mid new Disk more up h = tt

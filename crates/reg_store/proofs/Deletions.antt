@@ -1,4 +1,4 @@
--- What a version that is soft-deleted or removed, and a level that is dropped, make of what the tables spell.
+-- What soft-deleting or removing a version, and dropping a level, do to what the tables spell.
 use Rattle.std.proofs.Common.{◌≡◌, ◌∙◌, ℕ, inl, inr, List, Bool, true, false, cond, Option, Some, None, refl, sym, ap}
 use Rattle.std.specs.Prelude.{bytes_eq, option_map}
 use Rattle.std.specs.FinMap.{FinMap, get, remove}
@@ -18,26 +18,24 @@ use Rattle.reg_tables.specs.Writing.{Changes}
 use Rattle.reg_tables.specs.Changes as tables
 use Rattle.reg_tables.proofs.MapLemmas.{get-altered-same, get-altered-other, same_or_not}
 use Rattle.reg_tables.proofs.KeyedTables.{version_order}
-use Rattle.reg_store.specs.Inside.Making.{StoresChange}
+use Rattle.reg_store.specs.Inside.Applying.{StoresChange}
 use Rattle.reg_store.specs.Spells.{IsSpelled, stored_version}
 use Rattle.reg_store.proofs.Maps.{remove_both, remove_each}
 use Rattle.reg_store.proofs.Evidence.{evidence_left}
 use Rattle.reg_store.proofs.SpelledTwo.{spelled_in, changed}
 
--- a row is marked as its version is
 marked_row : (found : Option Version) → option_map tables.as_deleted (option_map stored_version found) ≡ option_map stored_version (option_map as_deleted found)
 marked_row None = refl
 marked_row (Some version) = refl
 
 module _ (m : FinMap version_cmp VersionEntryView) (rows : Rows) (same : (key : RowKey) → get m key ≡ option_map stored_version (get rows key)) (key : RowKey) where
-  -- the rows of versions are those of the registry, with one soft-deleted on both sides
   deleted_both : (q : RowKey) → get (tables.altered m key tables.as_deleted) q ≡ option_map stored_version (get (altered rows key as_deleted) q)
   deleted_both q = elim (same_or_not row_cmp version_order q key) [
     | inl e ↦ ap (get (tables.altered m key tables.as_deleted)) e ∙ get-altered-same version_cmp version_order m key tables.as_deleted ∙ ap (option_map tables.as_deleted) (same key) ∙ marked_row (get rows key) ∙ sym (ap (option_map stored_version) (ap (get (altered rows key as_deleted)) e ∙ get-altered-same row_cmp version_order rows key as_deleted))
     | inr other ↦ get-altered-other version_cmp version_order m key tables.as_deleted q other ∙ same q ∙ sym (ap (option_map stored_version) (get-altered-other row_cmp version_order rows key as_deleted q other))
   ]
 
--- a level or a mode that is left is one that was there
+-- a remaining level or mode was there before
 pub left_value : {A : Type 0} (b : Bool) (found : Option A) (value : A) → cond b None found ≡ Some value → found ≡ Some value
 left_value true found value e = absurd (none-some value e)
 left_value false found value e = e

@@ -1,4 +1,4 @@
--- Numbers that are sorted, to see whether one comes twice.
+-- Sorted numbers, compared with their neighbours to find duplicates.
 use Rattle.std.proofs.Common.{◌≡◌, ◌≢◌, ℕ, ℤ, pos, ◌+◌, ◌<◌, List, length, get_or, false, Ordering, Less, Equal, Greater, refl, sym, ap, ◌∙◌, arith}
 use Rattle.std.specs.Ordering.{is_eq, is_lt, int_cmp, eq_by_cmp, ordering_reverse}
 use Rattle.std.specs.List.{IsDistinct}

@@ -1,4 +1,4 @@
--- What becomes of the evidence of versions where one comes with its own, or goes.
+-- What adding a version with its evidence, or removing one, does to the evidence.
 use Rattle.std.proofs.Common.{◌≡◌, ◌≢◌, ◌<◌, ◌^◌, inl, inr, ℕ, zero, suc, List, length, Option, Some, None, cond, refl, sym, ap, subst, ◌∙◌}
 use Rattle.std.specs.Prelude.{not, option_map, option_and_then}
 use Rattle.std.specs.Ordering.{is_eq}
@@ -12,12 +12,11 @@ use Rattle.reg_tables.specs.Changes.{with_evidence, without_positions, without_v
 use Rattle.reg_tables.proofs.MapLemmas.{get-insert-same, get-insert-other, get-remove-same, get-remove-other, same_or_not, tied_key, other_key}
 use Rattle.reg_tables.proofs.KeyedTables.{version_order}
 use Rattle.reg_tables.proofs.Keys.{position_order}
-use Rattle.reg_store.specs.Inside.Making.{with_own, HasNoPositions}
+use Rattle.reg_store.specs.Inside.Applying.{with_own, HasNoPositions}
 use Rattle.reg_store.specs.Spells.{id_at, IsSpelledEvidence}
 use Rattle.reg_store.proofs.Maps.{insert_each, remove_each}
 use Rattle.reg_store.proofs.Places.{ids_beside, ids_elsewhere, at_zero, at_next}
 
--- the text of a version's level
 abbrev level_of_one : Evidence → List ℕ
 level_of_one one = level_text one.level
 
@@ -26,18 +25,18 @@ no_value f None e = refl
 no_value f (Some a) e = absurd (cc)
 
 module _ (contents : Contents) (evidence : EvidenceMap) (s : IsSpelledEvidence contents evidence) where
-  -- a version without a level has no evidence, and no place
+  -- a version without a level has no evidence and no positions
   pub has_none : (key : RowKey) → get contents.evidence key ≡ None → get evidence key ≡ None
   has_none key none = no_value level_of_one (get evidence key) (sym (s.levels key) ∙ none)
 
   pub has_no_place : (key : RowKey) → get contents.evidence key ≡ None → HasNoPositions contents key
   has_no_place key none position = s.ids (key, position) ∙ ap (option_and_then (id_at position)) (has_none key none)
 
-  -- whatever the other tables hold
+  -- other tables don't matter
   pub evidence_beside : (now : Contents) → now.evidence ≡ contents.evidence → now.against ≡ contents.against → IsSpelledEvidence now evidence
   evidence_beside now levels ids = record { levels = λ key. ap (λ m. get m key) levels ∙ s.levels key; ids = λ place. ap (λ m. get m place) ids ∙ s.ids place; few = s.few }
 
-  -- ---- a version that comes with its own
+  -- ---- a new version with its evidence
 
   module _ (key : RowKey) (own : Evidence) (few : length own.against < 2 ^ 32) (free : HasNoPositions contents key) where
     own_ids : (position : ℕ) → get (with_own key own contents).against (key, position) ≡ id_at position own
@@ -64,17 +63,15 @@ module _ (contents : Contents) (evidence : EvidenceMap) (s : IsSpelledEvidence c
       few = few_each;
     }
 
-  -- ---- a version that goes
+  -- ---- a removed version
 
   module _ (key : RowKey) where
     places : (place : PositionKey) → get (without_positions contents.against key) place ≡ cond (not (is_eq (version_cmp place.0 key))) (get contents.against place) None
     places place = get-retain_keys contents.against (λ q. not (is_eq (version_cmp q.0 key))) place (λ x tie. ap (λ (p : PositionKey). not (is_eq (version_cmp p.0 key))) (sym (position_order.antisymmetric place x tie)))
 
-    -- the places of another version stay
     place_stays : (place : PositionKey) → place.0 ≢ key → get (without_positions contents.against key) place ≡ get contents.against place
     place_stays place other = places place ∙ ap (λ b. cond (not b) (get contents.against place) None) (other_key version_cmp version_order place.0 key other)
 
-    -- and those of the version go
     place_goes : (place : PositionKey) → place.0 ≡ key → get (without_positions contents.against key) place ≡ None
     place_goes place is = places place ∙ ap (λ b. cond (not b) (get contents.against place) None) (tied_key version_cmp version_order place.0 key is)
 
@@ -94,7 +91,6 @@ module _ (contents : Contents) (evidence : EvidenceMap) (s : IsSpelledEvidence c
       few = λ q one there. s.few q one (was_there q one there);
     }
 
--- no version has evidence
 pub no_evidence : (contents : Contents) → contents.evidence ≡ empty → contents.against ≡ empty → IsSpelledEvidence contents empty
 no_evidence contents none no_place = record {
   levels = λ q. ap (λ m. get m q) none ∙ get-empty version_cmp q ∙ sym (ap (option_map level_of_one) (get-empty row_cmp q));

@@ -1,4 +1,4 @@
--- The evidence that rows of `evidence` and `against` spell, and the other way round.
+-- The evidence that rows of `evidence` and `against` spell, and the converse.
 use Rattle.std.proofs.Common.{◌≡◌, zero, suc, lit≤, ℕ, ◌+◌, ◌<◌, ◌≤◌, inl, inr, List, [], ◌∷◌, map, length, Option, Some, None, cond, refl, sym, ap, subst, ◌∙◌, arith}
 use Rattle.std.specs.Prelude.{IsSome, IsTrue, is_some, option_map, option_and_then, slice_get, unwrap_or}
 use Rattle.std.specs.FinMap.{FinMap, get, entries, find, from_entries, get-from_entries, get-entries}
@@ -23,7 +23,7 @@ is_none (Some x) f = absurd (f x refl)
 
 -- ---- the ids of a version
 
--- so many ids that stand at the positions from the first on
+-- the ids at this number of positions from the first one on
 abbrev ids_from : FinMap position_cmp ℕ → RowKey → ℕ → ℕ → List ℕ
 ids_from against key first zero = []
 ids_from against key first (suc n) = unwrap_or (get against (key, first)) 0 ∷ ids_from against key (suc first) n
@@ -43,9 +43,9 @@ module _ (against : FinMap position_cmp ℕ) (key : RowKey) where
       let same : suc first + i ≡ first + suc i = omega arith in
       id_found (suc first) n i (omega (arith, low)) (λ j from to. there j (omega (arith, from)) (omega (arith, to))) ∙ ap (λ j. get against (key, j)) same
 
--- ---- rows that are evidence spell it
+-- ---- valid rows spell evidence
 
--- a map whose values are written otherwise, as their keys tell
+-- a map whose values are encoded, depending on their keys
 find-keyed : {V W : Type 0} (write : RowKey → V → W) (key : RowKey) (es : List (RowKey × V)) → find version_cmp key (map (λ (e : RowKey × V). (e.0, write e.0 e.1)) es) ≡ option_map (write key) (find version_cmp key es)
 find-keyed write key [] = refl
 find-keyed {V} {W} write key (e ∷ es) =
@@ -60,7 +60,7 @@ find-keyed {V} {W} write key (e ∷ es) =
     ]
 
 module _ (contents : Contents) (rows : IsEvidence contents) where
-  -- what a version was admitted by, whose row has this level
+  -- the evidence of a version whose row has this level
   abbrev one_at : RowKey → List ℕ → Evidence
   one_at key text = record { level = unwrap_or (level_of text) Backward; against = ids_from contents.against key 1 (rows.places key).count }
 
@@ -109,7 +109,7 @@ module _ (contents : Contents) (rows : IsEvidence contents) where
     },
   )
 
--- ---- rows that spell evidence are evidence
+-- ---- rows that spell evidence are valid
 
 stands : (one : Evidence) (position : ℕ) → IsSome (id_at position one) → (0 < position) × (position ≤ length one.against)
 stands one zero some = absurd (cc)

@@ -1,4 +1,4 @@
--- What has evidence is a version, and what it names has a schema.
+-- Each version with evidence exists, and each id in it has a schema.
 use Rattle.std.proofs.Common.{◌≡◌, ◌∙◌, inl, suc, refl, sym, ap, subst, get_or}
 use Rattle.std.specs.Prelude.{All, IsSome, Option, None, Some, option_map, option_and_then, is_some}
 use Rattle.std.specs.FinMap.{get}
@@ -27,11 +27,9 @@ module _ (db : Database) (was : Stored) (s : Spells db was) where
       let none = it.base.versions key ∙ ap (option_map stored_version) gone in
       absurd (let some = subst IsSome none row in cc)
 
-  -- only versions have evidence
   pub is_of_versions : HasOnlyVersions was.registry was.evidence
   is_of_versions key gone = owned key (get was.evidence key) refl gone
 
-  -- each id that evidence names has a schema
   pub has_schemas : (key : RowKey) (one : Evidence) → get was.evidence key ≡ Some one → All (λ id. IsSome (schema_at was.registry.schemas id)) one.against
   has_schemas key one is k d within =
       let it = s.spelled in

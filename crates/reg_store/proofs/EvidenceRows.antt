@@ -1,4 +1,4 @@
--- Lines of `evidence` and `against` that pass are those of evidence of versions, and the other way round.
+-- Valid rows of `evidence` and `against` are those of the evidence of versions, and the converse.
 use Rattle.std.proofs.Common.{◌≡◌, zero, suc, lit≤, ℕ, ℤ, ◌<◌, ◌≤◌, ◌^◌, List, map, Option, Some, None, refl, sym, ap, subst, ◌∙◌, arith}
 use Rattle.std.specs.Prelude.{IsSome, Contains, string_bytes}
 use Rattle.std.specs.List.{AllByRecursion}
@@ -16,7 +16,7 @@ use Rattle.reg_tables.proofs.ListingLemmas.{found_first, find_had}
 use Rattle.reg_tables.proofs.Keys.{position_order}
 use Rattle.reg_rows.specs.Spelling.{FitsEvidence}
 use Rattle.reg_store.specs.Inside.Evidence.{IsEvidence}
-use Rattle.reg_store.specs.Inside.Testing.{evidence_fits, against_fits, version_at, place_at, AreInSequence}
+use Rattle.reg_store.specs.Inside.TableChecks.{evidence_fits, against_fits, version_at, place_at, AreInSequence}
 
 pub none_is : {X : Type 0} (o : Option X) → o ≡ None → IsSome o → ⊥
 none_is None e there = absurd (cc)
@@ -33,7 +33,7 @@ module _ (evidence : List RawEvidence) (against : List RawAgainst) (versions_apa
   abbrev against_in : FinMap position_cmp ℕ
   against_in = from_entries (map without_rowid (map against_entry against))
 
-  -- ---- what the lines have, the maps have
+  -- ---- from rows to maps
 
   level_there : (line : RawEvidence) → Has evidence line → get evidence_in (version_at line) ≡ Some (string_bytes line.level)
   level_there line there =
@@ -45,7 +45,7 @@ module _ (evidence : List RawEvidence) (against : List RawAgainst) (versions_apa
       let es = map against_entry against in
       get-from_entries position_order.total (map without_rowid es) (place_at line) ∙ found_first position_cmp position_order es (against_entry line) places_apart.keys (maps_had against_entry against line there)
 
-  -- ---- and the other way round
+  -- ---- from maps to rows
 
   level_line : (key : RowKey) (level : List ℕ) → get evidence_in key ≡ Some level → (line : RawEvidence) × Has evidence line × (version_at line ≡ key) × (string_bytes line.level ≡ level)
   level_line key level there =

@@ -18,7 +18,6 @@ use Rattle.reg_store.specs.declared.error.StoreError.TheVariants.{Memory, Disk, 
 use Rattle.reg_store.specs.Failures.{failure_of, is_fault, IsFaultBy, HasDiskCause, HasNoLayoutNumber}
 use Rattle.reg_store.specs.Opening.{HasMetaNumberOf}
 
--- what is by memory or by the disk is a fault
 pub fault_if_by : (old new : State) (e : StoreError) → IsFaultBy old new e → IsTrue (is_fault e)
 fault_if_by old new Memory h = refl
 fault_if_by old new Disk h = refl
@@ -26,7 +25,7 @@ fault_if_by old new NotARegistry h = absurd h
 fault_if_by old new (OldLayout number) h = absurd h
 fault_if_by old new (NewerLayout number) h = absurd h
 
--- why a call fails, as the store tells it
+-- the store's error for a failed call
 pub fault_by : (old new : State) (e : Error) → old.step_limit ≡ None → IsFault old new e → IsFaultBy old new (failure_of e)
 fault_by old new e unlimited (inl store) = subst (λ x. IsFaultBy old new (failure_of x)) (sym store.1) (go store.0 store.2)
   where
@@ -39,7 +38,7 @@ fault_by old new e unlimited (inl store) = subst (λ x. IsFaultBy old new (failu
     go stored.Unstorable h = h
 fault_by old new e unlimited (inr stopped) = absurd (let none = subst IsSome unlimited stopped.1 in cc)
 
--- what stands of faults of the disk stands of these
+-- facts about disk faults carry over to other states
 by_fault : (a b c d : State) → (HasDiskFault a b → HasDiskFault c d) → (e : StoreError) → IsFaultBy a b e → IsFaultBy c d e
 by_fault a b c d f Memory h = tt
 by_fault a b c d f Disk h = f h
@@ -47,23 +46,21 @@ by_fault a b c d f NotARegistry h = h
 by_fault a b c d f (OldLayout number) h = h
 by_fault a b c d f (NewerLayout number) h = h
 
--- a fault counts for later states too
+-- a fault also counts for later states
 pub by_until : (old mid new : State) → mid.faults ≤ new.faults → (e : StoreError) → IsFaultBy old mid e → IsFaultBy old new e
 by_until old mid new up = by_fault old mid old new (fault_until old mid new up)
 
--- what a later call tells, an earlier state saw too
+-- the cause of a later call's error lies after the earlier state
 pub by_since : (a b c : State) → (IsTrue a.is_open → IsTrue b.is_open ⊎ MoreFaults a.faults b.faults) → a.faults ≤ b.faults → b.faults ≤ c.faults → (e : StoreError) → IsFaultBy b c e → IsFaultBy a c e
 by_since a b c closes up on = by_fault b c a c (fault_since a b c closes up on)
 
--- what is by memory or by the disk is told
-pub told_if_by : (old new : State) (e : StoreError) → IsFaultBy old new e → HasDiskCause old new e
-told_if_by old new Memory h = tt
-told_if_by old new Disk h = h
-told_if_by old new NotARegistry h = tt
-told_if_by old new (OldLayout number) h = tt
-told_if_by old new (NewerLayout number) h = tt
+pub disk_cause_if_by : (old new : State) (e : StoreError) → IsFaultBy old new e → HasDiskCause old new e
+disk_cause_if_by old new Memory h = tt
+disk_cause_if_by old new Disk h = h
+disk_cause_if_by old new NotARegistry h = tt
+disk_cause_if_by old new (OldLayout number) h = tt
+disk_cause_if_by old new (NewerLayout number) h = tt
 
--- and names no layout
 pub plain_if_by : (old new : State) (e : StoreError) → IsFaultBy old new e → HasNoLayoutNumber e
 plain_if_by old new Memory h = tt
 plain_if_by old new Disk h = tt
@@ -71,10 +68,10 @@ plain_if_by old new NotARegistry h = absurd h
 plain_if_by old new (OldLayout number) h = absurd h
 plain_if_by old new (NewerLayout number) h = absurd h
 
--- a row that can't be read is no fault of the disk
-pub told_by : (old new : State) (e : Error) → old.step_limit ≡ None → IsFault old new e ⊎ IsUnreadable e → HasDiskCause old new (failure_of e)
-told_by old new e unlimited (inl fault) = told_if_by old new (failure_of e) (fault_by old new e unlimited fault)
-told_by old new e unlimited (inr unread) = go e unread
+-- an unreadable row isn't a disk fault
+pub disk_cause_by : (old new : State) (e : Error) → old.step_limit ≡ None → IsFault old new e ⊎ IsUnreadable e → HasDiskCause old new (failure_of e)
+disk_cause_by old new e unlimited (inl fault) = disk_cause_if_by old new (failure_of e) (fault_by old new e unlimited fault)
+disk_cause_by old new e unlimited (inr unread) = go e unread
   where
     go : (e : Error) → IsUnreadable e → HasDiskCause old new (failure_of e)
     go (InvalidColumnIndex at) h = tt
@@ -89,11 +86,11 @@ told_by old new e unlimited (inr unread) = go e unread
     go MultipleStatement h = absurd h
     go QueryReturnedNoRows h = absurd h
 
--- nor is a statement that is refused
-pub told_anywhere : (old new : State) (e : Error) → old.step_limit ≡ None → IsFault old new e ⊎ (IsRefused e ⊎ IsUnreadable e) → HasDiskCause old new (failure_of e)
-told_anywhere old new e unlimited (inl fault) = told_by old new e unlimited (inl fault)
-told_anywhere old new e unlimited (inr (inr unread)) = told_by old new e unlimited (inr unread)
-told_anywhere old new e unlimited (inr (inl refused)) = go e refused
+-- nor is a rejected statement
+pub disk_cause_anywhere : (old new : State) (e : Error) → old.step_limit ≡ None → IsFault old new e ⊎ (IsRefused e ⊎ IsUnreadable e) → HasDiskCause old new (failure_of e)
+disk_cause_anywhere old new e unlimited (inl fault) = disk_cause_by old new e unlimited (inl fault)
+disk_cause_anywhere old new e unlimited (inr (inr unread)) = disk_cause_by old new e unlimited (inr unread)
+disk_cause_anywhere old new e unlimited (inr (inl refused)) = go e refused
   where
     by_code : (kind : ErrorCode) → IsRefused (SqliteFailure kind) → HasDiskCause old new (failure_of (SqliteFailure kind))
     by_code (ConstraintViolation Datatype) h = absurd h
@@ -139,14 +136,13 @@ told_anywhere old new e unlimited (inr (inl refused)) = go e refused
     go (IntegralValueOutOfRange at) h = absurd h
     go (Utf8Error at) h = absurd h
 
-pub told_since : (a b c : State) → (IsTrue a.is_open → IsTrue b.is_open ⊎ MoreFaults a.faults b.faults) → a.faults ≤ b.faults → b.faults ≤ c.faults → (e : StoreError) → HasDiskCause b c e → HasDiskCause a c e
-told_since a b c closes up on Memory h = tt
-told_since a b c closes up on Disk h = fault_since a b c closes up on h
-told_since a b c closes up on NotARegistry h = tt
-told_since a b c closes up on (OldLayout number) h = tt
-told_since a b c closes up on (NewerLayout number) h = tt
+pub disk_cause_since : (a b c : State) → (IsTrue a.is_open → IsTrue b.is_open ⊎ MoreFaults a.faults b.faults) → a.faults ≤ b.faults → b.faults ≤ c.faults → (e : StoreError) → HasDiskCause b c e → HasDiskCause a c e
+disk_cause_since a b c closes up on Memory h = tt
+disk_cause_since a b c closes up on Disk h = fault_since a b c closes up on h
+disk_cause_since a b c closes up on NotARegistry h = tt
+disk_cause_since a b c closes up on (OldLayout number) h = tt
+disk_cause_since a b c closes up on (NewerLayout number) h = tt
 
--- an error that `?` passes on
 pub passed : {X : Type 0} (P : StoreError → Type 0) (r : Result X StoreError) (first : StoreError) → IsErrAnd r (λ e. e ≡ first) → P first → IfErr r P
 passed P (Ok x) first is h = tt
 passed P (Err e) first is h = subst P (sym is) h
@@ -155,7 +151,6 @@ pub if_err_each : {X E : Type 0} {P : E → Type 0} (r : Result X E) → ((e : E
 if_err_each (Ok x) f = tt
 if_err_each (Err e) f = f e
 
--- an error of `sqlite` names no layout
 pub numberless : (e : Error) → HasNoLayoutNumber (failure_of e)
 numberless (SqliteFailure code) = go code
   where
@@ -200,10 +195,9 @@ numberless (InvalidColumnType at type) = tt
 numberless (IntegralValueOutOfRange at) = tt
 numberless (Utf8Error at) = tt
 
--- an error that names no layout names no wrong one
-pub refused_if_plain : (own : ℕ) (db : Database) (e : StoreError) → HasNoLayoutNumber e → HasMetaNumberOf own db e
-refused_if_plain own db Memory plain = tt
-refused_if_plain own db Disk plain = tt
-refused_if_plain own db NotARegistry plain = tt
-refused_if_plain own db (OldLayout number) plain = absurd plain
-refused_if_plain own db (NewerLayout number) plain = absurd plain
+pub number_if_plain : (own : ℕ) (db : Database) (e : StoreError) → HasNoLayoutNumber e → HasMetaNumberOf own db e
+number_if_plain own db Memory plain = tt
+number_if_plain own db Disk plain = tt
+number_if_plain own db NotARegistry plain = tt
+number_if_plain own db (OldLayout number) plain = absurd plain
+number_if_plain own db (NewerLayout number) plain = absurd plain

@@ -6,7 +6,6 @@ use Rattle.avro_nodes.specs.Nodes.{NodeView}
 use Rattle.avro_schema.specs.Texts.{IsSchema}
 use Rattle.reg_core.specs.Registry.{Schemas, schema_at}
 
--- an id that has a schema is one of the ids
 pub schema_within : (schemas : Schemas) (id : ℕ) (nodes : List NodeView) → schema_at schemas id ≡ Some nodes → (0 < id) × (id ≤ length schemas)
 schema_within schemas zero nodes h = absurd (cc)
 schema_within schemas (suc n) nodes h = (omega arith, below schemas n h)
@@ -16,7 +15,6 @@ schema_within schemas (suc n) nodes h = (omega arith, below schemas n h)
     below (x ∷ xs) zero h = omega arith
     below (x ∷ xs) (suc n) h = let l = below xs n h in omega (arith, l)
 
--- and each of the ids has one
 pub schema_there : (schemas : Schemas) (id : ℕ) → 0 < id → id ≤ length schemas → (nodes : List NodeView) × (schema_at schemas id ≡ Some nodes)
 schema_there schemas zero l h = absurd (omega (arith, l))
 schema_there schemas (suc n) l h = there schemas n (omega (arith, h))

@@ -1,4 +1,4 @@
--- The last version of a subject that has an id, found among few versions of the id.
+-- The last version of a subject with an id, found among the first versions of that id.
 use Rattle.std.proofs.Common.{◌≡◌, ◌∙◌, inl, inr, ℕ, ◌<◌, ◌≤◌, ◌==◌, ◌&&◌, Bool, true, false, true≢false, List, [], ◌∷◌, ◌++◌, map, refl, ap, sym, subst, arith}
 use Rattle.std.specs.Prelude.{Option, None, Some, not, ◌||◌, bytes_eq, filter, length, option_map, string_bytes, if◌then◌else◌}
 use Rattle.std.specs.FinMap.{entries, get}
@@ -29,13 +29,12 @@ both_parts : (a b : Bool) → (a && b) ≡ true → (a ≡ true) × (b ≡ true)
 both_parts true b e = (refl, e)
 both_parts false b e = absurd (true≢false (sym e))
 
--- ---- one version after the other is looked at
+-- ---- one version after the other
 
 module _ (deleted : Bool) (subject : List ℕ) (rows : List Row) (row : Row) where
   abbrev Shown : Row → Type 0
   Shown r = is_shown_of deleted subject r ≡ true
 
-  -- one that isn't shown changes nothing
   pub last_stays : (last : Option Row) → is_shown_of deleted subject row ≡ false → IsLastShown deleted subject rows last → IsLastShown deleted subject (rows ++ row ∷ []) last
   last_stays None hidden none = All-append (λ (r : Row). is_shown_of deleted subject r ≡ false) rows (row ∷ []) none (All-cons (λ (r : Row). is_shown_of deleted subject r ≡ false) row [] hidden (All-nil (λ (r : Row). is_shown_of deleted subject r ≡ false)))
   last_stays (Some last) hidden is = (
@@ -44,7 +43,6 @@ module _ (deleted : Bool) (subject : List ℕ) (rows : List Row) (row : Row) whe
     All-append (λ (r : Row). Shown r → r.0.1 ≤ last.0.1) rows (row ∷ []) is.2 (All-cons (λ (r : Row). Shown r → r.0.1 ≤ last.0.1) row [] (λ shown. absurd (both_ways _ hidden shown)) (All-nil (λ (r : Row). Shown r → r.0.1 ≤ last.0.1))),
   )
 
-  -- the first that is shown is the last so far
   pub last_begins : Shown row → IsLastShown deleted subject rows None → IsLastShown deleted subject (rows ++ row ∷ []) (Some row)
   last_begins shown none = (
     Contains-append_right rows (row ∷ []) row (0, omega arith, refl),
@@ -53,7 +51,6 @@ module _ (deleted : Bool) (subject : List ℕ) (rows : List Row) (row : Row) whe
         (All-cons (λ (r : Row). Shown r → r.0.1 ≤ row.0.1) row [] (λ s. omega arith) (All-nil (λ (r : Row). Shown r → r.0.1 ≤ row.0.1))),
   )
 
-  -- and then the one with the greater number
   pub last_is_kept : (last : Row) → row.0.1 ≤ last.0.1 → IsLastShown deleted subject rows (Some last) → IsLastShown deleted subject (rows ++ row ∷ []) (Some last)
   last_is_kept last low is = (
     Contains-append_left rows (row ∷ []) last is.0,
@@ -79,14 +76,13 @@ module _ (deleted : Bool) (subject : List ℕ) (rows : List Row) (row : Row) whe
       let high : (line_row before).0.1 ≤ row.0.1 = omega (arith, passed.1, ap (λ (r : Row). r.0.1) it, numbers line, numbers before) in
       subst (λ (r : Row). IsLastShown deleted subject (rows ++ row ∷ []) (Some r)) (it ∙ ap line_row (sym passed.0)) (last_is_passed (line_row before) shown high is)
 
--- the subject of the last one is known
 pub last_of_subject : (deleted : Bool) (subject : List ℕ) (rows : List Row) (line : ListedVersion) → IsLastShown deleted subject rows (Some (row_spelled (listed_version_view line)))
     → IsLastShown deleted subject rows (Some (row_numbered subject (line.number, record { id = line.id; deleted = line.deleted })))
 last_of_subject deleted subject rows line is =
     let same : string_bytes line.subject ≡ subject = (bytes_eq-Decides (string_bytes line.subject) subject).0 (both_parts (bytes_eq (string_bytes line.subject) subject) (deleted || not line.deleted) is.1).0 in
     subst (λ (text : List ℕ). IsLastShown deleted subject rows (Some ((text, line.number), record { id = line.id; deleted = line.deleted }))) same is
 
--- ---- the last where numbers rise
+-- ---- ascending numbers
 
 rises_filtered : (p : Row → Bool) (rows : List Row) → Rising rows → Rising (filter p rows)
 rises_filtered p [] up = tt
@@ -96,7 +92,6 @@ rises_filtered p (row ∷ rows) up = by (p row) (rises_filtered p rows up.1)
     by true later = (All-filter p (λ (r : Row). row.0.1 < r.0.1) rows up.0, later)
     by false later = later
 
--- the greatest number is the last one's
 last_is_greatest : (rows : List Row) (o : Option Row) (last : Row) → Rising rows → Has rows last → ((r : Row) → Has rows r → r.0.1 ≤ last.0.1) → last_or o rows ≡ Some last
 last_is_greatest [] o last up there greatest = absurd there
 last_is_greatest (x ∷ []) o last up (inl same) greatest = ap Some (sym same)
@@ -108,7 +103,7 @@ last_is_greatest (x ∷ y ∷ rows) o last up (inl same) greatest =
     absurd (omega arith)
 last_is_greatest (x ∷ y ∷ rows) o last up (inr later) greatest = last_is_greatest (y ∷ rows) (Some x) last up.1 later (λ r there. greatest r (inr there))
 
--- ---- the versions of the id tell it
+-- ---- the versions of the id
 
 module _ (g : Registry) (subject : List ℕ) (deleted : Bool) (id : ℕ) where
   abbrev its : List Row
@@ -130,7 +125,7 @@ module _ (g : Registry) (subject : List ℕ) (deleted : Bool) (id : ℕ) where
       let parts = both_parts (bytes_eq row.0.0 subject) (deleted || not row.1.deleted) shown in
       has_kept is_it (shown_rows deleted (rows_of g subject)) row (has_kept (λ (r : Row). deleted || not r.1.deleted) (rows_of g subject) row (has_kept (λ (r : Row). bytes_eq r.0.0 subject) (entries g.rows) row one.0 parts.0) parts.1) one.1
 
-  -- the last one that is shown among all of the id is the subject's
+  -- the last shown version among all of the id is the subject's last
   pub last_is_told : (rows : List Row) → AreSome rows (rows_with id (entries g.rows)) → length rows < versions_limit → (last : Option Row) → IsLastShown deleted subject rows last → last ≡ last_or None its
   last_is_told rows some few None none = by its (λ row there. there)
     where
@@ -144,7 +139,7 @@ module _ (g : Registry) (subject : List ℕ) (deleted : Bool) (id : ℕ) where
       (shown_are_its last (has_contained (rows_with id (entries g.rows)) last (some.each last is.0)) is.1)
       (λ r there. let it = its_are_shown r there in All-contains (λ (x : Row). is_shown_of deleted subject x ≡ true → x.0.1 ≤ last.0.1) rows r is.2 (some.few few r (contains_had (rows_with id (entries g.rows)) r it.0)) it.1))
 
--- the lines of few versions of an id are all that it has
+-- fewer rows than the limit are all versions of the id
 module _ (contents : Contents) (g : Registry) (id : ℕ) (spelled : map row_spelled (id_versions id contents) ≡ rows_with id (entries g.rows)) (versions : List ListedVersionView) (are : AreVersionsOfId id contents versions) where
   pub some_are_told : AreSome (map row_spelled versions) (rows_with id (entries g.rows))
   some_are_told = record {
@@ -161,7 +156,6 @@ module _ (contents : Contents) (g : Registry) (id : ℕ) (spelled : map row_spel
         contains_had (map row_spelled versions) row (subst (Has (map row_spelled versions)) (sym version.2) (maps_had row_spelled versions version.0 (has_contained versions version.0 (are.all fewer version.0 known))));
   }
 
--- the last one of the subject, as a line tells it
 module _ (contents : Contents) (g : Registry) (spelled : (key : RowKey) → get contents.versions key ≡ option_map stored_version (get g.rows key)) (subject : List ℕ) (id : ℕ) (deleted : Bool) where
   pub last_with_id_told : (found : Option SubjectVersion)
       → option_map subject_version_view found ≡ last_or None (filter (λ (version : SubjectVersionView). (deleted || not version.1.deleted) && (version.1.id == id)) (subject_versions subject contents))

@@ -39,7 +39,6 @@ number_above text number h = go (is_number text) (nat_le (digits_value 10 text) 
     go true false is h = absurd (cc)
     go false b is h = absurd (cc)
 
--- what rows name is at least 1
 pub above_zero : (pairs : List MetaPair) (number : ℕ) → layout_in pairs ≡ Some number → 0 < number
 above_zero pairs number h = go (has_value (codes "avroreg") (value_at (codes "format") pairs)) (value_at (codes "layout") pairs) h
   where

@@ -1,4 +1,4 @@
--- Lines of listings, as they are added one after the other.
+-- Lines of listings, added one after the other.
 use Rattle.std.proofs.Common.{◌≡◌, ℕ, zero, suc, ◌+◌, ◌<◌, List, [], ◌∷◌, ◌++◌, Bool, true, false, map, length, take, get_or, Option, None, Some, refl, sym, ap, subst, ◌∙◌, arith, add-one}
 use Rattle.std.specs.Prelude.{option_map, slice_get, IsSome, if◌then◌else◌}
 use Rattle.std.specs.List.{dedup, dedup_from, enumerate_from}
@@ -14,15 +14,12 @@ use Rattle.reg_store.specs.Listings.{Fields, schema_line, schema_lines}
 
 -- ---- lines
 
--- what is seen of a list with one more item
 pub seen_more : {X Y : Type 0} (f : X → Y) (old new : List X) (x : X) → new ≡ old ++ x ∷ [] → map f new ≡ map f old ++ f x ∷ []
 seen_more f old new x is = ap (map f) is ∙ map-append f old (x ∷ [])
 
--- what is seen of the items as far as they are taken, and of the next one
 pub seen_next : {X Y : Type 0} (f : X → Y) (xs : List X) (i : ℕ) (x : X) → i < length xs → x ≡ get_or xs i x → map f (take i xs) ++ f x ∷ [] ≡ map f (take (i + 1) xs)
 seen_next f xs i x h is = sym (map-append f (take i xs) (x ∷ [])) ∙ ap (map f) (ap (λ y. take i xs ++ y ∷ []) is ∙ sym (take_more xs i x h))
 
--- one more item is taken
 pub taken_more : {X : Type 0} (xs ys : List X) (i : ℕ) (x : X) → ys ≡ take i xs → slice_get xs i ≡ Some x → ys ++ x ∷ [] ≡ take (i + 1) xs
 taken_more xs ys i x is there =
     ap (λ zs. zs ++ x ∷ []) is ∙ ap (λ y. take i xs ++ y ∷ []) (sym (get_or_from_slice_get xs i x x there)) ∙ sym (take_more xs i x (slice_get_within xs i x there))
@@ -41,7 +38,7 @@ line_from n [] i id line is h = absurd (none-some line h)
 line_from n (nodes ∷ schemas) zero id line is h = let same : n ≡ id = omega arith in ap (λ m. Some (schema_line m (identity nodes))) same ∙ h
 line_from n (nodes ∷ schemas) (suc i) id line is h = line_from (n + 1) schemas i id line (omega arith) h
 
--- the line of an id stands at the id's position
+-- the line of an id is at the id's position
 pub line_at : (schemas : Schemas) (i : ℕ) (line : Fields) → option_map (schema_line (i + 1)) (text_at schemas (i + 1)) ≡ Some line → slice_get (schema_lines schemas) i ≡ Some line
 line_at schemas i line h =
     let here : option_map (schema_line (suc i)) (text_at schemas (suc i)) ≡ Some line = subst (λ id. option_map (schema_line id) (text_at schemas id) ≡ Some line) (add-one i) h in
@@ -63,7 +60,7 @@ dedup_from-map : {X Y : Type 0} (f : X → Y) (same : Y → Y → Bool) (k : X) 
 dedup_from-map f same k [] = refl
 dedup_from-map f same k (x ∷ xs) = either-map f (same (f x) (f k)) _ _ _ _ (dedup_from-map f same k xs) (ap (λ ys. f k ∷ ys) (dedup_from-map f same x xs))
 
--- repetitions go by what is seen of the items
+-- mapping preserves which neighbours are equal
 pub dedup-map : {X Y : Type 0} (f : X → Y) (same : Y → Y → Bool) (xs : List X) → map f (dedup (λ x y. same (f x) (f y)) xs) ≡ dedup same (map f xs)
 dedup-map f same [] = refl
 dedup-map f same (x ∷ xs) = dedup_from-map f same x xs

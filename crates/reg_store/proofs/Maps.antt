@@ -1,4 +1,4 @@
--- A finite map beside a function or another map that says the same of each key.
+-- A finite map, and a function or another map with an entry for the same keys.
 use Rattle.std.proofs.Common.{◌≡◌, ◌≢◌, inl, inr, List, ℕ, Option, Some, None, Ordering, true, false, cond, refl, sym, ap, ◌∙◌}
 use Rattle.std.specs.Prelude.{option_map, bytes_eq}
 use Rattle.std.specs.FinMap.{FinMap, get, insert, remove, same_map}
@@ -15,7 +15,6 @@ same_bytes a = (bytes_eq-Decides a a).1 refl
 pub other_bytes : (a b : List ℕ) → b ≢ a → bytes_eq a b ≡ false
 other_bytes a b other = false_from_ne_true _ (λ h. other (sym ((bytes_eq-Decides a b).0 h)))
 
--- the map has at each key what the function has, written so, and still does with one more entry on both sides
 pub insert_both : {V W : Type 0} (write : V → W) (m : TextMap W) (look : List ℕ → Option V) (k : List ℕ) (v : V) → ((q : List ℕ) → get m q ≡ option_map write (look q))
     → (q : List ℕ) → get (insert m k (write v)) q ≡ option_map write (cond (bytes_eq k q) (Some v) (look q))
 insert_both write m look k v same q = elim (same_or_not text_cmp text_order q k) [
@@ -23,7 +22,6 @@ insert_both write m look k v same q = elim (same_or_not text_cmp text_order q k)
   | inr other ↦ get-insert-other text_cmp text_order m k (write v) q other ∙ same q ∙ sym (ap (λ b. option_map write (cond b (Some v) (look q))) (other_bytes k q other))
 ]
 
--- and with one entry less on both sides
 pub remove_both : {V W : Type 0} (write : V → W) (m : TextMap W) (look : List ℕ → Option V) (k : List ℕ) → ((q : List ℕ) → get m q ≡ option_map write (look q))
     → (q : List ℕ) → get (remove m k) q ≡ option_map write (cond (bytes_eq k q) None (look q))
 remove_both write m look k same q = elim (same_or_not text_cmp text_order q k) [
@@ -31,14 +29,12 @@ remove_both write m look k same q = elim (same_or_not text_cmp text_order q k) [
   | inr other ↦ get-remove-other text_cmp text_order m k q other ∙ same q ∙ sym (ap (λ b. option_map write (cond b None (look q))) (other_bytes k q other))
 ]
 
--- what is put in place of another value
 pub insert-insert : {W : Type 0} (m : TextMap W) (k : List ℕ) (v w : W) → insert (insert m k v) k w ≡ insert m k w
 insert-insert m k v w = same_map text_order.total text_order.antisymmetric _ _ (λ q. elim (same_or_not text_cmp text_order q k) [
   | inl e ↦ ap (get (insert (insert m k v) k w)) e ∙ get-insert-same text_cmp text_order (insert m k v) k w ∙ sym (get-insert-same text_cmp text_order m k w) ∙ ap (get (insert m k w)) (sym e)
   | inr other ↦ get-insert-other text_cmp text_order (insert m k v) k w q other ∙ get-insert-other text_cmp text_order m k v q other ∙ sym (get-insert-other text_cmp text_order m k w q other)
 ])
 
--- what is put under two keys, in either order
 pub insert-swap : {W : Type 0} (m : TextMap W) (k : List ℕ) (v : W) (q : List ℕ) (w : W) → q ≢ k → insert (insert m k v) q w ≡ insert (insert m q w) k v
 insert-swap m k v q w apart = same_map text_order.total text_order.antisymmetric _ _ (λ x. elim (same_or_not text_cmp text_order x q) [
   | inl e ↦
@@ -52,16 +48,14 @@ insert-swap m k v q w apart = same_map text_order.total text_order.antisymmetric
   ]
 ])
 
--- a map has at each key what another has, written so
+-- a map whose values are those of another, encoded
 module _ {K V W : Type 0} {R : K → K → Ordering} (order : IsKeyOrder R) (write : V → W) (m : FinMap R W) (n : FinMap R V) (same : (q : K) → get m q ≡ option_map write (get n q)) (k : K) where
-  -- and still does with one more entry on both sides
   pub insert_each : (v : V) (q : K) → get (insert m k (write v)) q ≡ option_map write (get (insert n k v) q)
   insert_each v q = elim (same_or_not R order q k) [
     | inl e ↦ ap (get (insert m k (write v))) e ∙ get-insert-same R order m k (write v) ∙ sym (ap (option_map write) (ap (get (insert n k v)) e ∙ get-insert-same R order n k v))
     | inr other ↦ get-insert-other R order m k (write v) q other ∙ same q ∙ sym (ap (option_map write) (get-insert-other R order n k v q other))
   ]
 
-  -- and with one entry less on both sides
   pub remove_each : (q : K) → get (remove m k) q ≡ option_map write (get (remove n k) q)
   remove_each q = elim (same_or_not R order q k) [
     | inl e ↦ ap (get (remove m k)) e ∙ get-remove-same R order m k ∙ sym (ap (option_map write) (ap (get (remove n k)) e ∙ get-remove-same R order n k))

@@ -1,4 +1,4 @@
--- What the rows of `meta` name.
+-- The layout that the rows of `meta` name.
 use Rattle.std.proofs.Common.{◌≡◌, ◌<◌, inl, inr, ℕ, List, map, Bool, true, false, Option, Some, None, Ok, Err, Result, IsTrue, codes, refl, sym, ap, subst, ◌∙◌, arith}
 use Rattle.std.specs.Prelude.{IfErr, IsErrAnd, ◌&&◌, nat_lt, option_and_then, if◌then◌else◌}
 use Rattle.std.specs.FinMap.{get, get-from_entries}
@@ -32,15 +32,14 @@ use Rattle.reg_store.specs.declared.layout.Layout.{Layout}
 use Rattle.reg_store.specs.declared.layout.Layout.TheVariants.{One, Two}
 use Rattle.reg_store.specs.Failures.{failure_of, HasDiskCause}
 use Rattle.reg_store.specs.Opening.{HasMetaRow, RowsNameLayout, NamesLayout, ShowsLayout, HasOtherLayout, layout_error, HasMetaNumberOf, ReportsOther}
-use Rattle.reg_store.specs.Inside.Testing.{AreDistinct, pairs_of, number_of, is_meta_of, PassesMeta, Allows, JudgesMeta, MetaPass, SpellsAs, Tests}
+use Rattle.reg_store.specs.Inside.TableChecks.{AreDistinct, pairs_of, number_of, is_meta_of, PassesMeta, Allows, JudgesMeta, MetaPass, SpellsAs, Checks}
 use Rattle.reg_store.proofs.Bases.{some_of_one, some_unopened}
 use Rattle.reg_store.proofs.MetaRows.{value_is, layout_is, meta_found, meta_fit, layout_two_meta_fit}
 use Rattle.reg_store.proofs.LayoutNumbers.{above_zero}
 use Rattle.reg_store.proofs.Failing.{fault_if_by, fault_by, passed}
 use Rattle.reg_store.proofs.Maps.{same_bytes}
-use Rattle.reg_store.proofs.TestLemmas.{framed, some_known, some_can_be_read}
+use Rattle.reg_store.proofs.CheckLemmas.{framed, some_known, some_can_be_read}
 
--- the rows of a registry name its layout
 layout_named : (number : ℕ) (text : List ℕ) (lines : List RawMeta) → number_in text ≡ Some number → has_common text (pairs_of lines) ≡ true → layout_in (pairs_of lines) ≡ Some number
 layout_named number text lines is common =
     let format = has_value (codes "avroreg") (value_at (codes "format") (pairs_of lines)) in
@@ -54,7 +53,6 @@ names_own Two lines passes =
     let parts = and_parts (has_common (codes "2") (pairs_of lines) && has_mode (value_at (codes "mode") (pairs_of lines))) (has_only_known_names layout_two_names (pairs_of lines)) passes in
     layout_named 2 (codes "2") lines refl (and_parts (has_common (codes "2") (pairs_of lines)) (has_mode (value_at (codes "mode") (pairs_of lines))) parts.0).0
 
--- tables that spell a registry have rows of `meta` that pass
 spelled_passes : (layout : Layout) (db : Database) → SpellsAs layout db → (lines : List RawMeta) → ListsMeta db lines → PassesMeta layout lines
 spelled_passes One db s lines lists =
     let shown = listed_if_shown pair_form text_cmp text_order distinct_texts (db.trees meta.tree) (map meta_entry lines) lists s.spells.contents.meta distinct_texts (five s.spells.holds (one_has_five s.spells.schema s.spells.known)).meta in
@@ -80,7 +78,7 @@ text_of None number h = absurd (cc)
 text_of (Some text) number h = (text, refl, h)
 
 module _ (lines : List RawMeta) (rows : List Row) (lists : Lists pair_form rows (map meta_entry lines)) where
-  -- what the lines say, a row says
+  -- a row has each name and value of the list
   said : (q v : List ℕ) → value_at q (pairs_of lines) ≡ Some v → HasMetaRow rows q v
   said q v there =
       let entries = map meta_entry lines in
@@ -95,7 +93,7 @@ module _ (lines : List RawMeta) (rows : List Row) (lists : Lists pair_form rows 
       record { format = said (codes "format") (codes "avroreg") (value_is (codes "avroreg") _ both.0); text = it.0; layout = said (codes "layout") it.0 it.1; is = it.2 }
 
 module _ (lines : List RawMeta) (db : Database) (lists : ListsMeta db lines) where
-  -- and the lines say what a row says, where no name comes twice
+  -- and the list has those of each row, if the names differ
   module _ (holds : HoldsMeta db) where
     found : (q v : List ℕ) → HasMetaRow (db.trees meta.tree) q v → value_at q (pairs_of lines) ≡ Some v
     found q v says =
@@ -111,14 +109,12 @@ module _ (lines : List RawMeta) (db : Database) (lists : ListsMeta db lines) whe
         ∙ ap (λ b. if b then option_and_then number_in (value_at (codes "layout") (pairs_of lines)) else None) (same_bytes (codes "avroreg"))
         ∙ ap (option_and_then number_in) (found (codes "layout") n.text n.layout) ∙ n.is
 
--- in any database, the lines name the layout that the rows of `meta` name
 shows_layout : (lines : List RawMeta) (db : Database) → ReadsMeta db lines → (number : ℕ) → layout_in (pairs_of lines) ≡ Some number → ShowsLayout db number
 shows_layout lines db reads number is =
     let entries = map (entry_parts pair_form) (map meta_entry lines) in
     let lists : Lists pair_form reads.rows (map meta_entry lines) = subst (λ (parts : List RowParts). IsPermutation parts entries) (sym reads.read) (IsPermutation-refl entries) in
     record { rows = reads.rows; shows = reads.shows; names = names_if_in lines reads.rows lists number is }
 
--- what is allowed of the rows is what is judged of the lines
 pub judged : (layout : Layout) (lines : List RawMeta) (named : Option ℕ) (passes : Bool) (r : Result (Unit {0}) StoreError) → named ≡ layout_in (pairs_of lines) → (IsTrue passes → PassesMeta layout lines) → (PassesMeta layout lines → IsTrue passes)
     → Allows (number_of layout) named passes r → JudgesMeta layout lines r
 judged layout lines named passes (Ok y) is to from a = to a
@@ -131,13 +127,12 @@ judged layout lines named passes (Err (NewerLayout number)) is to from a = (sym 
 same_number : (a b : ℕ) → Some a ≡ Some b → a ≡ b
 same_number a b h = cc
 
--- the five tables come first
 pub tells_meta : (s : State) → CanBeRead s → CanReadMeta s
 tells_meta s can is_open =
     let there = can is_open in
     record { first = laid_out there.holds there.known; names = there.contents.meta; shows = (five there.holds there.known).meta; readable = there.readable.meta }
 
--- how another layout is refused
+-- the error for another layout
 refuses_old : (own number : ℕ) → number < own → OldLayout number ≡ layout_error own number
 refuses_old own number less = go (nat_lt number own) refl
   where
@@ -153,7 +148,7 @@ refuses_newer own number more = go (nat_lt number own) refl
     go false e = refl
 
 module _ {S : Type 0} (g : Ghosts S) (old new : Held S) (layout : Layout) where
-  -- `meta` wasn't read
+  -- reading `meta` failed
   pub other_unread : (r : Result (Unit {0}) StoreError) (e : Error) → old.step_limit ≡ None → (CanReadMeta (state g old) → IsFault (state g old) (state g new) e) → IsErrAnd r (λ failure. failure ≡ failure_of e) → IfErr r (ReportsOther (number_of layout) (state g old))
   other_unread r e unlimited fault is = passed (ReportsOther (number_of layout) (state g old)) r (failure_of e) is (λ number is_open out.
       inr (fault_if_by (state g old) (state g new) (failure_of e) (fault_by (state g old) (state g new) e unlimited (fault (λ _. out.holds)))))
@@ -168,8 +163,8 @@ module _ {S : Type 0} (g : Ghosts S) (old new : Held S) (layout : Layout) where
     other_spelled : HasCleanDisk (state g new) → SpellsAs layout db → (number : ℕ) → layout_in (pairs_of lines) ≡ Some number → number ≡ number_of layout
     other_spelled clean s number named = same_number number (number_of layout) (sym named ∙ names_own layout lines (spelled clean s).1)
 
-    -- `meta` was read, and judged
-    pub meta_tests : (r : Result (Unit {0}) StoreError) → JudgesMeta layout lines r → Tests HasFiveTables (SpellsAs layout) g old new r (λ _. MetaPass layout)
+    -- `meta` was read and checked
+    pub meta_tests : (r : Result (Unit {0}) StoreError) → JudgesMeta layout lines r → Checks HasFiveTables (SpellsAs layout) g old new r (λ _. MetaPass layout)
     meta_tests (Ok y) j = record { frame = framed g old new (Ok x) (Ok y) f f.was_open; tells = λ clean known. record { lines = lines; lists = listed clean known; apart = j.0; fit = j.1 }; fault = λ clean. tt; disk_cause = λ clean. tt }
     meta_tests (Err Memory) j = record { frame = framed g old new (Ok x) (Err Memory) f (λ clean. tt); tells = λ clean. tt; fault = λ clean over. tt; disk_cause = λ clean known. tt }
     meta_tests (Err Disk) j = absurd j
@@ -190,22 +185,22 @@ module _ {S : Type 0} (g : Ghosts S) (old new : Held S) (layout : Layout) where
     names_first : HasCleanDisk (state g new) → (number : ℕ) → layout_in (pairs_of lines) ≡ Some number → HasFiveTables db.schema → NamesLayout db number
     names_first clean number is first = names_if_in lines (db.trees meta.tree) (listed clean first) number is
 
-    pub meta_refused : (HasCleanDisk (state g new) → ReadsMeta db lines) → (r : Result (Unit {0}) StoreError) → JudgesMeta layout lines r → HasCleanDisk (state g new) → IfErr r (HasMetaNumberOf (number_of layout) db)
-    meta_refused reads (Ok y) j clean = tt
-    meta_refused reads (Err Memory) j clean = tt
-    meta_refused reads (Err Disk) j clean = tt
-    meta_refused reads (Err NotARegistry) j clean = tt
-    meta_refused reads (Err (OldLayout number)) j clean = (above_zero (pairs_of lines) number j.0, j.1, shows_layout lines db (reads clean) number j.0, names_first clean number j.0)
-    meta_refused reads (Err (NewerLayout number)) j clean = (j.1, shows_layout lines db (reads clean) number j.0, names_first clean number j.0)
+    pub meta_number_of : (HasCleanDisk (state g new) → ReadsMeta db lines) → (r : Result (Unit {0}) StoreError) → JudgesMeta layout lines r → HasCleanDisk (state g new) → IfErr r (HasMetaNumberOf (number_of layout) db)
+    meta_number_of reads (Ok y) j clean = tt
+    meta_number_of reads (Err Memory) j clean = tt
+    meta_number_of reads (Err Disk) j clean = tt
+    meta_number_of reads (Err NotARegistry) j clean = tt
+    meta_number_of reads (Err (OldLayout number)) j clean = (above_zero (pairs_of lines) number j.0, j.1, shows_layout lines db (reads clean) number j.0, names_first clean number j.0)
+    meta_number_of reads (Err (NewerLayout number)) j clean = (j.1, shows_layout lines db (reads clean) number j.0, names_first clean number j.0)
 
-    -- no fault of the disk is told of what was read
-    pub meta_told : (r : Result (Unit {0}) StoreError) → JudgesMeta layout lines r → IfErr r (HasDiskCause (state g old) (state g new))
-    meta_told (Ok y) j = tt
-    meta_told (Err Memory) j = tt
-    meta_told (Err Disk) j = absurd j
-    meta_told (Err NotARegistry) j = tt
-    meta_told (Err (OldLayout number)) j = tt
-    meta_told (Err (NewerLayout number)) j = tt
+    -- the check itself never returns `Disk`
+    pub meta_disk_cause : (r : Result (Unit {0}) StoreError) → JudgesMeta layout lines r → IfErr r (HasDiskCause (state g old) (state g new))
+    meta_disk_cause (Ok y) j = tt
+    meta_disk_cause (Err Memory) j = tt
+    meta_disk_cause (Err Disk) j = absurd j
+    meta_disk_cause (Err NotARegistry) j = tt
+    meta_disk_cause (Err (OldLayout number)) j = tt
+    meta_disk_cause (Err (NewerLayout number)) j = tt
 
     named : HasCleanDisk (state g new) → (number : ℕ) → HasOtherLayout (number_of layout) db number → layout_in (pairs_of lines) ≡ Some number
     named clean number out = in_if_names lines db (listed clean out.holds.first) out.holds number out.names
@@ -220,6 +215,5 @@ module _ {S : Type 0} (g : Ghosts S) (old new : Held S) (layout : Layout) where
     meta_other (Err (NewerLayout newer)) j clean = λ number is_open out.
         inl (let is = same_number newer number (sym j.0 ∙ named clean number out) in refuses_newer (number_of layout) newer j.1 ∙ ap (layout_error (number_of layout)) is)
 
--- a registry's tables name no other layout
 pub not_other : (layout : Layout) (db : Database) (number : ℕ) → MetaPass layout db → HasOtherLayout (number_of layout) db number → ⊥
 not_other layout db number p out = out.other (same_number number (number_of layout) (sym (in_if_names p.lines db p.lists out.holds number out.names) ∙ names_own layout p.lines p.fit))

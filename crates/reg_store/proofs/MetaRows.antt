@@ -1,4 +1,4 @@
--- The rows of `meta` in each layout, as lines and as a map.
+-- The rows of `meta` in each layout, as a list and as a map.
 use Rattle.std.proofs.Common.{◌≡◌, ◌≢◌, ◌⊎◌, inl, inr, ℕ, List, [], ◌∷◌, map, Option, Some, None, Bool, true, false, cond, codes, refl, sym, ap, subst, ◌∙◌}
 use Rattle.std.specs.Prelude.{IsTrue, ◌&&◌, ◌||◌, bytes_eq, is_some}
 use Rattle.std.specs.Ordering.{is_eq}
@@ -28,7 +28,7 @@ use Rattle.reg_store.proofs.ReadBack.{level_of-level_text, mode_of-mode_text}
 
 -- ---- texts of levels and modes
 
--- a mode is spelt one way
+-- each mode has one text
 pub mode_spelt : (text : List ℕ) (mode : Mode) → mode_of text ≡ Some mode → text ≡ mode_text mode
 mode_spelt text mode h = (bytes_eq-Decides text (mode_text mode)).0 (find_passes (λ m. bytes_eq text (mode_text m)) modes mode h)
 
@@ -54,7 +54,6 @@ mode_is (Some v) h = go (mode_of v) refl h
 
 -- ---- names
 
--- a name is one of a list, or none of it
 named : (known : List (List ℕ)) (q : List ℕ) → Has known q ⊎ (is_name known q ≡ false)
 named [] q = inr refl
 named (name ∷ known) q = elim (same_or_not text_cmp text_order q name) [
@@ -71,7 +70,6 @@ is_named [] q there = absurd there
 is_named (name ∷ known) q (inl e) = ap (λ b. b || is_name known q) (ap (bytes_eq q) (sym e) ∙ same_bytes q)
 is_named (name ∷ known) q (inr later) = either_named (bytes_eq q name) (is_name known q) (is_named known q later)
 
--- what is none of them isn't the one or the other
 no_name : (known : List (List ℕ)) (q name : List ℕ) → is_name known q ≡ false → Has known name → q ≢ name
 no_name known q name none there e = both_ways _ none (is_named known q (subst (Has known) (sym e) there))
 
@@ -83,7 +81,6 @@ same_test name q = elim (same_or_not text_cmp text_order q name) [
   | inr other ↦ other_bytes name q other ∙ sym (other_key text_cmp text_order q name other)
 ]
 
--- the first value of a name is that of the map of the rows
 value_found : (q : List ℕ) (rows : List MetaPair) → value_at q rows ≡ find text_cmp q rows
 value_found q [] = refl
 value_found q (row ∷ rows) = ap (λ b. cond b (Some row.1) (value_at q rows)) (same_test row.0 q) ∙ ap (cond (is_eq (text_cmp q row.0)) (Some row.1)) (value_found q rows)
@@ -103,7 +100,6 @@ known_if_each known (r ∷ rows) f = and_from (is_name known r.0) (has_only_know
 
 -- ---- the maps
 
--- their names are apart, as a test of their bytes tells
 names_apart : (a b : List ℕ) → bytes_eq a b ≡ false → a ≢ b
 names_apart a b test e = both_ways _ test ((bytes_eq-Decides a b).1 e)
 
@@ -156,7 +152,6 @@ module _ (lines : List RawMeta) where
   abbrev pub pairs_in : List MetaPair
   pairs_in = map meta_pair (map meta_columns lines)
 
-  -- the first value of a name is that of the map
   pub meta_found : (q : List ℕ) → value_at q pairs_in ≡ get meta_in q
   meta_found q =
       ap (value_at q) (pairs_are lines) ∙ value_found q (map without_rowid (map meta_entry lines)) ∙ sym (get-from_entries text_order.total (map without_rowid (map meta_entry lines)) q)
@@ -172,14 +167,14 @@ module _ (lines : List RawMeta) where
           let there : Has pairs_in (without_rowid x.0) = subst (λ l. Has l (without_rowid x.0)) (sym (pairs_are lines)) (maps_had without_rowid es x.0 x.1) in
           absurd (both_ways _ other (ap (is_name known) (sym x.2) ∙ each_known known pairs_in all (without_rowid x.0) there))
 
-  -- lines with these names alone have the map that has these values
+  -- rows with only these names have the map with these values
   same_meta : (known : List (List ℕ)) → has_only_known_names known pairs_in ≡ true → (m : TextMap (List ℕ)) → ((q : List ℕ) → Has known q → get meta_in q ≡ get m q) → ((q : List ℕ) → is_name known q ≡ false → get m q ≡ None) → meta_in ≡ m
   same_meta known all m values none = same_map text_order.total text_order.antisymmetric meta_in m (λ q. elim (named known q) [
     | inl there ↦ values q there
     | inr other ↦ meta_has_no_other known all q other ∙ sym (none q other)
   ])
 
-  -- and the other way round
+  -- and the converse
   known_lines : HasNoDuplicates text_cmp (map meta_entry lines) → (known : List (List ℕ)) (m : TextMap (List ℕ)) → meta_in ≡ m → ((q : List ℕ) → is_name known q ≡ false → get m q ≡ None) → has_only_known_names known pairs_in ≡ true
   known_lines apart known m is none = known_if_each known pairs_in (λ row there.
       let es = map meta_entry lines in
@@ -212,28 +207,26 @@ module _ (lines : List RawMeta) where
     global_is : (level : Level) × (get meta_in (codes "global") ≡ Some (level_text level))
     global_is = let it = level_is (value_at (codes "global") pairs_in) two.1 in (it.0, sym (meta_found (codes "global")) ∙ it.1)
 
-    -- the names of both layouts have the values of the map
     common_is : (q : List ℕ) → Has layout_one_names q → get meta_in q ≡ get (meta_of_layout number (level_text global_is.0)) q
     common_is q (inl e) = ap (get meta_in) e ∙ format_is ∙ sym (has_format number (level_text global_is.0)) ∙ ap (get (meta_of_layout number (level_text global_is.0))) (sym e)
     common_is q (inr (inl e)) = ap (get meta_in) e ∙ sym (meta_found (codes "layout")) ∙ layout_is ∙ sym (has_layout_one number (level_text global_is.0)) ∙ ap (get (meta_of_layout number (level_text global_is.0))) (sym e)
     common_is q (inr (inr (inl e))) = ap (get meta_in) e ∙ global_is.1 ∙ sym (has_global number (level_text global_is.0)) ∙ ap (get (meta_of_layout number (level_text global_is.0))) (sym e)
     common_is q (inr (inr (inr none))) = absurd none
 
-  -- the values make the rows those of both layouts
   common_fits : (number : List ℕ) (level : Level) → get meta_in (codes "format") ≡ Some (codes "avroreg") → get meta_in (codes "layout") ≡ Some number → get meta_in (codes "global") ≡ Some (level_text level) → has_common number pairs_in ≡ true
   common_fits number level format layout global =
       and_from _ _
       (and_from _ _ (ap (has_value (codes "avroreg")) (meta_found (codes "format") ∙ format) ∙ same_bytes (codes "avroreg")) (ap (has_value number) (meta_found (codes "layout") ∙ layout) ∙ same_bytes number))
       (ap has_level (meta_found (codes "global") ∙ global) ∙ ap is_some (level_of-level_text level))
 
-  -- rows of layout 1 that pass are those of a level
+  -- valid rows of layout 1 spell a level
   pub meta_is : IsTrue (is_layout_one_meta pairs_in) → (level : Level) × (meta_in ≡ meta_of_layout_one (level_text level))
   meta_is passes =
       let parts = and_parts (has_common (codes "1") pairs_in) (has_only_known_names layout_one_names pairs_in) passes in
       let level = (global_is (codes "1") parts.0).0 in
       (level, same_meta layout_one_names parts.1 (meta_of_layout_one (level_text level)) (common_is (codes "1") parts.0) (has_no_other (codes "1") (level_text level)))
 
-  -- and the rows of a level pass
+  -- and the rows of a level are valid
   pub meta_fit : HasNoDuplicates text_cmp (map meta_entry lines) → (level : Level) → meta_in ≡ meta_of_layout_one (level_text level) → IsTrue (is_layout_one_meta pairs_in)
   meta_fit apart level is =
       let text = level_text level in
@@ -242,7 +235,7 @@ module _ (lines : List RawMeta) where
       (common_fits (codes "1") level (look (codes "format") ∙ has_format (codes "1") text) (look (codes "layout") ∙ has_layout_one (codes "1") text) (look (codes "global") ∙ has_global (codes "1") text))
       (known_lines apart layout_one_names (meta_of_layout_one text) is (has_no_other (codes "1") text))
 
-  -- so it is in layout 2, with a mode
+  -- the same in layout 2, with a mode
   pub layout_two_meta_is : IsTrue (is_layout_two_meta pairs_in) → (level : Level) × (mode : Mode) × (meta_in ≡ layout_two_meta (level_text level) (mode_text mode))
   layout_two_meta_is passes =
       let parts = and_parts (has_common (codes "2") pairs_in && has_mode (value_at (codes "mode") pairs_in)) (has_only_known_names layout_two_names pairs_in) passes in

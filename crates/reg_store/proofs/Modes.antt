@@ -1,4 +1,4 @@
--- What a change of modes makes of what the tables spell.
+-- What setting or dropping a mode does to what the tables spell.
 use Rattle.std.proofs.Common.{ℕ, List, refl}
 use Rattle.std.specs.Prelude.{IsTrue, bytes_eq}
 use Rattle.sqlite.specs.State.{State}
@@ -10,7 +10,7 @@ use Rattle.reg_core.specs.Registry.{own_with, own_without}
 use Rattle.reg_core.specs.Subjects.{is_subject}
 use Rattle.reg_tables.specs.Changes.{with_global_mode, with_mode, without_mode}
 use Rattle.reg_tables.specs.Writing.{Changes}
-use Rattle.reg_store.specs.Inside.Making.{StoresChange}
+use Rattle.reg_store.specs.Inside.Applying.{StoresChange}
 use Rattle.reg_store.proofs.Deletions.{left_value}
 use Rattle.reg_store.proofs.Maps.{insert_both, remove_both}
 use Rattle.reg_store.proofs.SpelledTwo.{spelled_in, mode_changed, changed}

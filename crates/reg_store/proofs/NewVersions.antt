@@ -1,4 +1,4 @@
--- What a version that is added with its evidence makes of what the tables spell.
+-- What adding a version with its evidence does to what the tables spell.
 use Rattle.std.proofs.Common.{◌≡◌, ◌∙◌, inl, ℕ, List, [], ◌∷◌, Option, Some, None, refl, sym, ap, subst}
 use Rattle.std.specs.Prelude.{IsSome, IsTrue, option_map}
 use Rattle.std.specs.FinMap.{get, insert}
@@ -26,13 +26,12 @@ use Rattle.reg_tables.proofs.MapLemmas.{get-insert-same}
 use Rattle.reg_tables.proofs.KeyedTables.{version_order}
 use Rattle.reg_store.specs.Spells.{Spells, IsSpelledEvidence, IsSpelledLayoutTwo, stored_version}
 use Rattle.reg_store.specs.Changes.{stored_after_changes}
-use Rattle.reg_store.specs.Inside.Making.{HasNoPositions, HasTexts, PutsOwn, IsFaultOfOwn, with_ids, with_own}
+use Rattle.reg_store.specs.Inside.Applying.{HasNoPositions, HasTexts, PutsOwn, IsFaultOfOwn, with_ids, with_own}
 use Rattle.reg_store.proofs.Additions.{number_is_free, spelled_row}
 use Rattle.reg_store.proofs.Evidence.{evidence_beside, evidence_more, has_no_place}
 use Rattle.reg_store.proofs.Places.{ids_beside}
 use Rattle.reg_store.proofs.Spelling.{spelled_as}
 
--- a version that isn't there has no level
 no_level : {db : Database} {was : Stored} (s : Spells db was) (key : RowKey) → get s.contents.versions key ≡ None → get s.contents.evidence key ≡ None
 no_level {db} s key none = go (get s.contents.evidence key) refl
   where
@@ -40,7 +39,6 @@ no_level {db} s key none = go (get s.contents.evidence key) refl
     go None is = refl
     go (Some level) is = absurd (let some = subst IsSome none (has_evidence_version s.schema db s.contents (openable_has_eight s.schema (inl s.known)) s.holds key level is) in cc)
 
--- the contents with a version more
 abbrev with_row : Row → Contents → Contents
 with_row row = with_version row.0 (stored_version row.1)
 
@@ -58,7 +56,6 @@ module _ (old mid new : State) (row : Row) (own : Evidence) (puts : ChangesIf ol
   free : HasNoPositions s.contents row.0
   free = has_no_place s.contents was.evidence s.spelled.evidence row.0 bare
 
-  -- the schemas that true evidence names have texts
   named : (nodes : List NodeView) → schema_at was.registry.schemas row.1.id ≡ Some nodes → HasTexts (with_row row s.contents) row.0 own.against
   named nodes schema = record {
     version = subst IsSome (sym (get-insert-same version_cmp version_order s.contents.versions row.0 (stored_version row.1))) refl;

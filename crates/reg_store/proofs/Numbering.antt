@@ -1,4 +1,4 @@
--- Numbers that stand in order with none left out.
+-- Consecutive numbers.
 use Rattle.std.proofs.Common.{◌≡◌, ◌≢◌, inl, inr, ℕ, ℤ, pos, suc, ◌+◌, ◌<◌, ◌≤◌, List, [], ◌∷◌, map, length, get_or, false, refl, sym, ◌∙◌, arith}
 use Rattle.std.specs.Ordering.{nat_cmp, int_cmp, eq_by_cmp}
 use Rattle.std.specs.List.{AllByRecursion, IsDistinct}
@@ -11,10 +11,10 @@ use Rattle.sqlite_rules.proofs.ListLemmas.{all_has, all_from}
 use Rattle.reg_tables.proofs.MapLemmas.{tied_key, other_key}
 use Rattle.reg_tables.proofs.KeyedTables.{number_order}
 use Rattle.reg_tables.specs.declared.raw_texts.RawText.{RawText}
-use Rattle.reg_rows.specs.Spelling.{AreNumbered, Text}
+use Rattle.reg_rows.specs.Spelling.{AreConsecutive, Text}
 use Rattle.reg_store.specs.Opening.{text_columns}
 
--- none is greater than one after it
+-- no number is greater than a later one
 abbrev pub Rises : List ℕ → Type 0
 Rises [] = Unit {0}
 Rises (n ∷ ns) = AllByRecursion (λ m. n ≤ m) ns × Rises ns
@@ -23,13 +23,12 @@ at_most : {X : Type 0} (number : X → ℕ) (x : X) (xs : List X) → ((j : ℕ)
 at_most number x [] f = tt
 at_most number x (y ∷ ys) f = (f 0 (omega arith), at_most number x ys (λ j l. f (suc j) (omega arith)))
 
--- the numbers of what is sorted by them rise
 pub rises : {X : Type 0} (number : X → ℕ) (xs : List X) → IsNonDecreasingBy number xs → Rises (map number xs)
 rises number [] s = tt
 rises number (x ∷ xs) s = (at_most number x xs (λ j l. s 0 (suc j) x (omega arith) (omega arith)), rises number xs (λ i j d a b. s (suc i) (suc j) d (omega arith) (omega arith)))
 
--- numbers that rise, none of them twice, with none below the first and none left out
-pub numbered : (first : ℕ) (ns : List ℕ) → Rises ns → IsDistinct (eq_by_cmp nat_cmp) ns → ((n : ℕ) → Has ns n → first ≤ n) → ((n m : ℕ) → Has ns n → first ≤ m → m ≤ n → Has ns m) → AreNumbered first ns
+-- distinct non-decreasing numbers without a gap are consecutive
+pub numbered : (first : ℕ) (ns : List ℕ) → Rises ns → IsDistinct (eq_by_cmp nat_cmp) ns → ((n : ℕ) → Has ns n → first ≤ n) → ((n m : ℕ) → Has ns n → first ≤ m → m ≤ n → Has ns m) → AreConsecutive first ns
 unfolding IsDistinct
 numbered first [] r d low whole = tt
 numbered first (n ∷ ns) r d low whole = (
@@ -50,8 +49,8 @@ numbered first (n ∷ ns) r d low whole = (
     next k a (inl e) = absurd (let b = is in omega (arith, a, e, b))
     next k a (inr later) = later
 
--- they are no more than the greatest of them
-pub few_numbered : (first most : ℕ) (ns : List ℕ) → AreNumbered first ns → ((n : ℕ) → Has ns n → n ≤ most) → first ≤ most + 1 → first + length ns ≤ most + 1
+-- their count is at most the count of the numbers from `first` to `most`
+pub few_numbered : (first most : ℕ) (ns : List ℕ) → AreConsecutive first ns → ((n : ℕ) → Has ns n → n ≤ most) → first ≤ most + 1 → first + length ns ≤ most + 1
 few_numbered first most [] h high l = omega arith
 few_numbered first most (n ∷ ns) h high l =
     let a = high n (inl refl) in
@@ -62,17 +61,16 @@ few_numbered first most (n ∷ ns) h high l =
 abbrev ids : List RawText → List ℕ
 ids lines = map (λ (row : ℕ × Text). row.0) (map text_columns lines)
 
--- so none stands twice
-pub ids_apart : (lines : List RawText) → AreNumbered 1 (ids lines) → IsDistinct (eq_by_cmp int_cmp) (map (λ (line : RawText). pos line.id) lines)
+pub ids_apart : (lines : List RawText) → AreConsecutive 1 (ids lines) → IsDistinct (eq_by_cmp int_cmp) (map (λ (line : RawText). pos line.id) lines)
 unfolding IsDistinct
 ids_apart lines n = from 1 lines n
   where
-    later : (first : ℕ) (ls : List RawText) → AreNumbered first (ids ls) → (i : ℤ) → Has (map (λ (line : RawText). pos line.id) ls) i → (m : ℕ) × (i ≡ pos m) × (first ≤ m)
+    later : (first : ℕ) (ls : List RawText) → AreConsecutive first (ids ls) → (i : ℤ) → Has (map (λ (line : RawText). pos line.id) ls) i → (m : ℕ) × (i ≡ pos m) × (first ≤ m)
     later first [] h i there = absurd there
     later first (l ∷ ls) h i (inl e) = (l.id, e, (let a = h.0 in omega (arith, a)))
     later first (l ∷ ls) h i (inr rest) = let it = later (first + 1) ls h.1 i rest in (it.0, it.1, (let a = it.2 in omega (arith, a)))
 
-    from : (first : ℕ) (ls : List RawText) → AreNumbered first (ids ls) → IsDistinct (eq_by_cmp int_cmp) (map (λ (line : RawText). pos line.id) ls)
+    from : (first : ℕ) (ls : List RawText) → AreConsecutive first (ids ls) → IsDistinct (eq_by_cmp int_cmp) (map (λ (line : RawText). pos line.id) ls)
     from first [] h = tt
     from first (l ∷ ls) h = (
       all_from (λ i. eq_by_cmp int_cmp (pos l.id) i ≡ false) (map (λ (line : RawText). pos line.id) ls) (λ i there.

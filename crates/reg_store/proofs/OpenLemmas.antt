@@ -1,4 +1,4 @@
--- What `open` leaves of tables that passed the test.
+-- What `open` leaves if the tables are valid.
 use Rattle.std.proofs.Common.{◌≡◌, ◌≢◌, inl, inr, ℕ, None, IsTrue, Ok, Err, Result, refl, sym, ap, subst, ◌∙◌, arith}
 use Rattle.std.specs.Prelude.{IfOk, IfErr, OnOk}
 use Rattle.sqlite.specs.Effect.{Database, IsDatabase}
@@ -20,13 +20,12 @@ use Rattle.reg_store.specs.OpenFailures.{IsFaultOverLayoutOne, IsCheckFailure}
 use Rattle.reg_store.specs.Opening.{HasMetaNumberOf, ReportsOther, OpensOver, LacksIndex, IsIndexed, CrashKeepsStored, HasVersionRows, FindsLayoutOne}
 use Rattle.reg_store.specs.Spells.{IsSpelledLayoutTwo, Spells, SpellsLayoutOne, SpellsUnopened}
 use Rattle.reg_store.specs.Stores.{RecoversLastCommit, KeepsConnection, IsCreateFailure}
-use Rattle.reg_store.specs.Inside.Testing.{SpellsSome, FivePass, EightPass}
-use Rattle.reg_store.specs.Inside.Making.{HoldsWithIndex}
+use Rattle.reg_store.specs.Inside.TableChecks.{SpellsSome, FivePass, EightPass}
+use Rattle.reg_store.specs.Inside.Applying.{HoldsWithIndex}
 use Rattle.reg_store.proofs.Committing.{left_if_spelled, leaves_before}
 use Rattle.reg_store.proofs.Rereading.{same_now}
-use Rattle.reg_store.proofs.EightTests.{spelled_if_five_passed, spelled_if_all_passed}
+use Rattle.reg_store.proofs.LayoutTwoChecks.{spelled_if_five_passed, spelled_if_all_passed}
 
--- the tables lack the index and spell what is stored
 pub record SpellsBare (db : Database) (was : Stored) : Type 0 where
   pub contents : Contents
   pub holds : HoldsContents layout_two_unindexed db contents
@@ -36,7 +35,7 @@ pub spells_bare : (db : Database) (was : Stored) → db.schema ≡ layout_two_un
 spells_bare db was is s = record { contents = s.contents; holds = subst (λ x. HoldsContents x db s.contents) (sym s.holds.declared ∙ is) s.holds; spelled = s.spelled }
 
 module _ (old mid : State) (reads : OnlyReads old mid) (settled : IsTrue old.is_open → old.now ≡ old.committed) (known : IsOpenable old.now.schema) (sound : IsDatabase old.now) (passed : EightPass old.now) where
-  -- the index is there, and nothing is changed
+  -- the index exists, and nothing is changed
   pub opens_as_it_is : IsTrue mid.is_open → mid.now.schema ≢ layout_two_unindexed → OpensOver old mid
   opens_as_it_is is_open other =
       let it = spelled_if_all_passed old.now known sound passed in
@@ -74,18 +73,15 @@ module _ (old mid : State) (reads : OnlyReads old mid) (settled : IsTrue old.is_
         };
       }
 
-  -- tables that lack the index spell a registry
   pub bare_tables : mid.now.schema ≡ layout_two_unindexed → IsTrue mid.is_open → LacksIndex old.now
   bare_tables bare mid_open =
       let it = spelled_if_all_passed old.now known sound passed in
       record { stored = it.stored; spelled = it.spells; bare = sym (ap (λ (d : Database). d.schema) (same_now old mid reads settled mid_open)) ∙ bare }
 
--- such tables hold contents
 pub bare_contents : (db : Database) → LacksIndex db → (contents : Contents) × HoldsContents layout_two_unindexed db contents
 bare_contents db it = let spells = spells_bare db it.stored it.bare it.spelled in (spells.contents, spells.holds)
 
 module _ (old mid new : State) (reads : HasCleanDisk mid → OnlyReads old mid) (settled : IsTrue old.is_open → old.now ≡ old.committed) (bare : HasCleanDisk new → IsTrue mid.is_open → LacksIndex old.now) where
-  -- a crash leaves what it left before, or the tables with the index
   pub index_survives : Survives old mid (λ _. ⊥) → Survives mid new (λ db. IsTrue mid.is_open × HoldsWithIndex mid.now db) → Survives old new (IsIndexed old.now)
   index_survives p q = survives_then old mid new (λ _. ⊥) (λ db. IsTrue mid.is_open × HoldsWithIndex mid.now db) (IsIndexed old.now) (λ _ db none. absurd none) made p q
     where
@@ -95,7 +91,6 @@ module _ (old mid new : State) (reads : HasCleanDisk mid → OnlyReads old mid) 
           let there = bare clean it.0 in
           record { found = there; indexed = λ held holds. it.1 held (subst (λ (d : Database). HoldsContents layout_two_unindexed d held) (sym (same_now old mid (reads early) settled it.0)) holds) }
 
--- a crash leaves what the tables spelled, with or without the index
 module _ (old new : State) (settled : IsTrue old.is_open → old.now ≡ old.committed) (only : (db : Trees) → IsTrue old.is_open → old.may_leave db → db ≡ old.committed.trees) (survives : Survives old new (IsIndexed old.now)) where
   pub loses_nothing : HasCleanDisk new → CrashKeepsStored old new
   loses_nothing clean is_open was spelled db it = elim (survives.crash clean db it) [
@@ -105,7 +100,6 @@ module _ (old new : State) (settled : IsTrue old.is_open → old.now ≡ old.com
         record { schema = layout_two_indexed_last; spells = record { schema = layout_two_indexed_last; known = inl (inr refl); contents = bare.contents; holds = made.indexed bare.contents bare.holds; spelled = bare.spelled } }
   ]
 
--- tables of layout 1 that passed spell a registry
 pub finds_one : (old new : State) (r : Result ℕ StoreError) → OnOk r (IsLayoutOne old.now.schema) → OnOk r (IsTrue old.is_open) → (IsTrue old.is_open → IsDatabase old.now) → IfOk r (λ count. HasFiveTables old.now.schema → FivePass One old.now × HasVersionRows old.now count)
     → IfOk r (FindsLayoutOne old.now)
 finds_one old new (Ok count) known is_open sound passes =
@@ -114,12 +108,12 @@ finds_one old new (Ok count) known is_open sound passes =
     record { stored = it.stored; spells = it.spells; counted = both.1 }
 finds_one old new (Err e) known is_open sound passes = tt
 
--- ---- what a failed call leaves
+-- ---- after a failed call
 
 pub only_reads : (old new : State) → KeepsCommit old new → (IsTrue new.is_open → new.now ≡ new.committed) → OnlyReads old new
 only_reads old new stays settled = record { commit_stays = stays; settled = settled }
 
--- a call that did nothing leaves all
+-- a call that did nothing leaves everything
 pub leaves_all : (s : State) (e : StoreError) → (IsTrue s.is_open → s.now ≡ s.committed) → RecoversLastCommit s → KeepsConnection s s e
 leaves_all s e settled commit = record {
   nothing = λ clean. only_reads s s (record { was_open = λ is_open. is_open; committed = λ is_open. refl }) settled;
@@ -141,7 +135,7 @@ leaves_unlimited g conn begun is new e leaves =
       settled = it.settled;
     }
 
--- no registry is made next to other tables
+-- `create` changes no database with tables
 pub unmade_beside : {S : Type 0} (g : Ghosts S) (conn begun : Held S) → begun ≡ record conn { step_limit = None } → {RecoversToNew : Trees → Type 0} → (state g begun).now.schema ≢ no_schema
     → (IsTrue (state g begun).is_open → (state g begun).now ≡ (state g begun).committed) → RecoversLastCommit (state g begun) → IsCreateFailure RecoversToNew (state g conn) (state g begun) NotARegistry
 unmade_beside g conn begun is others settled commit = record {
@@ -150,7 +144,7 @@ unmade_beside g conn begun is others settled commit = record {
   crash = λ clean db it. inl (subst (λ h. (state g h).may_leave db) is it);
 }
 
--- nor for the errors of `check_first`
+-- nor to the errors of `check_first`
 pub unread_unlimited : {S X : Type 0} (g : Ghosts S) (conn begun : Held S) → begun ≡ record conn { step_limit = None } → (new : State) (r : Result X StoreError)
     → IfErr r (λ e. (IsTrue (state g begun).is_open → SpellsSome SpellsLayoutOne (state g begun).now) → IsFaultBy (state g begun) new e)
     → IfErr r (HasDiskCause (state g begun) new) → IfErr r (HasMetaNumberOf 1 (state g begun).now) → IfErr r (ReportsOther 1 (state g begun)) → IfErr r (IsCheckFailure (state g conn) new)

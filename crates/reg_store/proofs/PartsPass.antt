@@ -1,4 +1,4 @@
--- Ids that a registry's tables hold pass, read version after version, and what passes so is evidence.
+-- The ids that a registry's tables hold are valid, read one version after the other; and valid ids are evidence.
 use Rattle.std.proofs.Common.{◌≡◌, ◌||◌, inl, inr, ℕ, ℤ, List, [], ◌∷◌, map, filter, length, Bool, true, false, IsTrue, refl, sym, ap, subst, ◌∙◌}
 use Rattle.std.specs.Prelude.{Contains, IsSome}
 use Rattle.std.specs.FinMap.{get}
@@ -26,16 +26,15 @@ use Rattle.reg_tables.proofs.MapLemmas.{same_or_not, tied_key}
 use Rattle.reg_tables.proofs.Tables.{shown_by}
 use Rattle.reg_rows.specs.Positions.{VersionPosition, IsContiguousFor, AreContiguous}
 use Rattle.reg_store.specs.Spells.{SpellsUnopened}
-use Rattle.reg_store.specs.Inside.Testing.{AreDistinct, against_fits, version_at, place_at, evidence_fits, ArePositionsInOrder, JudgesVersions, EvidenceFits, EvidencePasses, SpellsSome}
+use Rattle.reg_store.specs.Inside.TableChecks.{AreDistinct, against_fits, version_at, place_at, evidence_fits, ArePositionsInOrder, JudgesVersions, EvidenceFits, EvidencePasses, SpellsSome}
 use Rattle.reg_store.proofs.EvidenceMaps.{evidence_if_spelled}
 use Rattle.reg_store.proofs.EvidenceRows.{version_listed}
-use Rattle.reg_store.proofs.EightTests.{eight_known, evidence_passes}
+use Rattle.reg_store.proofs.LayoutTwoChecks.{eight_known, evidence_passes}
 use Rattle.reg_store.proofs.TextParts.{Splits, split, all_pass, none_passes}
 use Rattle.reg_store.proofs.VersionParts.{key_is, line_row, counted_if, if_counted, many_lines, of_itself, of_one, close, uncounted, rows_of, joined, Parts, all_listed, version_read, against, lists_all, positions_if_fit, fits_if_fit}
 
--- ---- the rows of versions that differ, one version after the other
+-- ---- the rows of different versions
 
--- whether the row is one of these versions'
 abbrev among : List RowKey → Row → Bool
 among [] row = false
 among (version ∷ versions) row = is_of version row || among versions row
@@ -58,7 +57,7 @@ has_among (first ∷ versions) version row (inr later) is = go (is_of first row)
     go true rest = refl
     go false rest = rest
 
--- each row has a place
+-- each row has a position
 abbrev ArePlaced : List Row → Type 0
 ArePlaced rows = (row : Row) → Has rows row → (place : VersionPosition) × (against_form.key_of row ≡ position_cells place)
 
@@ -86,7 +85,7 @@ module _ (db : Database) (keyed : ArePlaced (against_rows db)) where
         ]
       ]
 
--- ---- both ways
+-- ---- both directions
 
 module _ (db : Database) (evidence : List RawEvidence) (lists : ListsEvidence db evidence) (rowids : List ℤ) (fit : Bool) (it : JudgesVersions (map version_at evidence) db rowids fit) where
   abbrev versions : List RowKey
@@ -155,15 +154,15 @@ module _ (db : Database) (evidence : List RawEvidence) (lists : ListsEvidence db
     stand [] [] lists fit = tt
     stand [] (lines ∷ parts) lists fit = absurd lists
     stand (version ∷ some) [] lists fit = absurd lists
-    stand (version ∷ some) (lines ∷ parts) lists fit = ((front lines fit, positions), stand some parts lists.1 (behind lines fit))
+    stand (version ∷ some) (lines ∷ parts) lists fit = ((front lines fit, positions), stand some parts lists.1 (later_fit lines fit))
       where
         front : (lines : List RawAgainst) → AllByRecursion against_fits (joined db (lines ∷ parts)) → AllByRecursion against_fits lines
         front [] fit = tt
         front (line ∷ lines) fit = (fit.0, front lines fit.1)
 
-        behind : (lines : List RawAgainst) → AllByRecursion against_fits (joined db (lines ∷ parts)) → AllByRecursion against_fits (joined db parts)
-        behind [] fit = fit
-        behind (line ∷ lines) fit = behind lines fit.1
+        later_fit : (lines : List RawAgainst) → AllByRecursion against_fits (joined db (lines ∷ parts)) → AllByRecursion against_fits (joined db parts)
+        later_fit [] fit = fit
+        later_fit (line ∷ lines) fit = later_fit lines fit.1
 
         positions : AreContiguous (map place_at lines)
         positions other = elim (same_or_not version_cmp version_order other version) [

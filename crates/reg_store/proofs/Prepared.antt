@@ -1,4 +1,4 @@
--- What a statement that is prepared tells of the connection.
+-- What preparing a statement shows about the connection.
 use Rattle.std.proofs.Common.{◌≡◌, ◌⊎◌, inl, inr, List, ℕ, Ok, Err, Result, IsTrue, sym, ap, subst}
 use Rattle.std.specs.Prelude.{IfErr, OnOk, not}
 use Rattle.std.proofs.lemmas.Bool.{both_ways}
@@ -14,7 +14,6 @@ use Rattle.reg_store.specs.Failures.{failure_of, is_fault, IsFaultBy}
 use Rattle.reg_store.proofs.Failing.{fault_if_by}
 
 module _ (old new : State) where
-  -- a text that is no statement is refused as no registry is
   refused : (sql : List ℕ) (params : Row) (e : Error) → IsNoStatement old sql params e → failure_of e ≡ NotARegistry
   refused sql params e (inl fault) = ap failure_of fault.2
   refused sql params e (inr (c, understood, inl more)) = ap failure_of more.1
@@ -29,15 +28,15 @@ module _ (old new : State) where
   caused stored.Broken h = inl h
   caused stored.Unstorable h = absurd h
 
-  -- it isn't run since it is refused, or for a fault
+  -- a statement doesn't run because SQLite rejects it, or because of a fault
   pub not_run : (sql : List ℕ) (params : Row) (e : Error) → IsNotRun old new sql params e → ((failure_of e ≡ NotARegistry) × IsUnchanged old new) ⊎ (IsFaultBy old new (failure_of e) × IsRolledBack old new)
   unfolding IsNotRun
   not_run sql params e (inl none) = inl (refused sql params e none.0, none.1)
   not_run sql params e (inr fails) = inr (subst (λ x. IsFaultBy old new (failure_of x)) (sym fails.1) (caused fails.0 fails.2), fails.3)
 
--- ---- what is answered then
+-- ---- the result
 
--- nothing is committed; where the call succeeds nothing is changed, over an open connection, and else there was a fault
+-- Nothing is committed. On success nothing is changed and the connection is open; an error has a fault as its cause.
 pub record Asked {X : Type 0} (old new : State) (r : Result X StoreError) : Type 0 where
   pub keeps : KeepsCommit old new
   pub unchanged : OnOk r (IsUnchanged old new)
@@ -47,7 +46,6 @@ module _ (old new : State) where
   pub asked_ok : {X : Type 0} {x : X} → IsUnchanged old new → Asked old new (Ok x)
   asked_ok same = record { keeps = keeps_if_unchanged old new same; unchanged = same; faults = tt }
 
-  -- a fault is told, and a refusal is none
   pub asked_err : {X : Type 0} (r : Result X StoreError) (sql : List ℕ) (params : Row) (e : Error) → IsNotRun old new sql params e
       → OnOk r (IsTrue (not (is_fault (failure_of e)))) → IfErr r (λ failure. (failure ≡ failure_of e) × IsTrue (is_fault (failure_of e))) → Asked old new r
   asked_err {X} r sql params e none = by r (not_run old new sql params e none)

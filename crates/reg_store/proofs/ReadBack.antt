@@ -1,4 +1,4 @@
--- What is read back of what the tables spell.
+-- Reading back what the tables spell.
 use Rattle.std.proofs.Common.{◌≡◌, List, ℕ, Option, Some, None, codes, refl, sym, ap, ◌∙◌}
 use Rattle.std.specs.Prelude.{String, string_bytes, option_map, MatchOption}
 use Rattle.std.specs.declared.alloc.Global.{Global}
@@ -17,7 +17,6 @@ use Rattle.reg_core.specs.KeptReplies.{KeptEntry}
 use Rattle.reg_store.specs.Spells.{IsSpelledLayoutTwo, stored_reply}
 use Rattle.reg_store.proofs.SpelledTwo.{other_name}
 
--- a level's text spells it alone
 pub level_of-level_text : (level : Level) → level_of (level_text level) ≡ Some level
 level_of-level_text Backward = refl
 level_of-level_text BackwardTransitive = refl
@@ -27,24 +26,17 @@ level_of-level_text Full = refl
 level_of-level_text FullTransitive = refl
 level_of-level_text Off = refl
 
--- the level that a text spells is the one that was written so
 pub level_is : (text : List ℕ) (read written : Level) → text ≡ level_text written → level_of text ≡ Some read → read ≡ written
 level_is text read written is spells = let same : Some read ≡ Some written = sym spells ∙ ap level_of is ∙ level_of-level_text written in cc
-
-pub own_is : (text : List ℕ) (own : Option Level) (read : Level) → option_map level_text own ≡ Some text → level_of text ≡ Some read → own ≡ Some read
-own_is text None read is spells = absurd (cc)
-own_is text (Some written) read is spells = let same : level_text written ≡ text = cc in ap Some (sym (level_is text read written (sym same) spells))
 
 pub none_written : {V W : Type 0} (write : V → W) (o : Option V) → option_map write o ≡ None → o ≡ None
 none_written write None h = refl
 none_written write (Some v) h = absurd (cc)
 
--- a text that is found is the one that is there
 pub text_there_is : (found : Option (String Global)) (there : Option (List ℕ)) → MatchOption found (there ≡ None) (λ text. there ≡ Some (string_bytes text)) → option_map string_bytes found ≡ there
 text_there_is None there h = sym h
 text_there_is (Some text) there h = sym h
 
--- what is kept is what its row says
 pub kept_is : (o : Option KeptEntry) (entry : KeptEntry) → option_map stored_reply o ≡ Some (stored_reply entry) → o ≡ Some entry
 kept_is None entry h = absurd (cc)
 kept_is (Some e) entry h =
@@ -54,7 +46,6 @@ kept_is (Some e) entry h =
     let body : e.reply.body ≡ entry.reply.body = ap (λ (r : KeptReplyView). r.body) same in
     λ i. Some (record { command = text i; reply = record { status = status i; body = body i } })
 
--- the mode that a text spells is the one that was written so
 pub mode_of-mode_text : (mode : Mode) → mode_of (mode_text mode) ≡ Some mode
 mode_of-mode_text Readwrite = refl
 mode_of-mode_text Readonly = refl

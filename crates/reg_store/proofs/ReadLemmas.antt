@@ -1,28 +1,27 @@
--- Reads of what is stored: alone, and one after the other.
+-- One read of the stored state, and several in sequence.
 use Rattle.std.proofs.Common.{◌≡◌, inl, inr, Ok, Err, Result, IsTrue, refl, sym, subst, ◌∙◌, arith}
 use Rattle.std.specs.Prelude.{OnOk, OnErr, IfOk, IfErr, IsErrAnd, MatchResult}
 use Rattle.sqlite.specs.Held.{Held, state}
 use Rattle.sqlite.specs.State.{State, HasCleanDisk}
 use Rattle.sqlite.specs.declared.error.Error.{Error}
 use Rattle.sqlite_trees.specs.declared.store.Store.{Ghosts}
-use Rattle.sqlite.specs.Effect.{Database}
 use Rattle.sqlite.specs.Schema.{Schema}
-use Rattle.reg_tables.specs.Layout.{HasFiveTables, HasEightTables}
+use Rattle.reg_tables.specs.Layout.{HasEightTables}
 use Rattle.reg_tables.specs.Frames.{ReadsInAutocommit}
-use Rattle.reg_tables.specs.Reads.{HoldsReadable, CanBeRead, CanBeReadIn, HasLayout}
+use Rattle.reg_tables.specs.Reads.{CanBeRead, CanBeReadIn}
 use Rattle.reg_tables.specs.FailedCalls.{IsFault}
 use Rattle.reg_tables.proofs.Tables.{eight_has_five}
 use Rattle.reg_tables.proofs.Transactions.{keeps_then, survives_both}
 use Rattle.reg_store.specs.declared.error.StoreError.{StoreError}
 use Rattle.reg_store.specs.declared.error.StoreError.TheVariants.{Memory}
-use Rattle.reg_store.specs.declared.idle.StoreConnection.{StoreConnection}
+use Rattle.reg_store.specs.declared.conn.Conn.{Conn}
 use Rattle.reg_core.specs.Stored.{Stored}
 use Rattle.reg_store.specs.Spells.{IsOpenOver, SpellsWhileOpen}
 use Rattle.reg_store.specs.Failures.{failure_of, IsFaultBy, HasDiskCause}
 use Rattle.reg_store.specs.Inside.Reads.{shown, CommitsNothing, MayRead, Reads}
 use Rattle.reg_store.specs.Stores.{AnswersFromStored}
-use Rattle.reg_store.proofs.Failing.{by_since, fault_by, told_since}
-use Rattle.reg_store.proofs.EightTests.{can_read_eight}
+use Rattle.reg_store.proofs.Failing.{by_since, fault_by, disk_cause_since}
+use Rattle.reg_store.proofs.LayoutTwoChecks.{can_read_eight}
 use Rattle.reg_store.proofs.Committing.{still_spells}
 
 -- ---- results
@@ -31,7 +30,6 @@ pub on_ok_each : {X E P : Type 0} (r : Result X E) → P → OnOk r P
 on_ok_each (Ok x) h = h
 on_ok_each (Err e) h = tt
 
--- an error that `?` passes on
 pub passed_on : {X : Type 0} (P : X → Type 0) (Q : StoreError → Type 0) (r : Result X StoreError) (e : StoreError) → IsErrAnd r (λ failure. failure ≡ e) → Q e → MatchResult r P Q
 passed_on P Q (Ok x) e is h = absurd is
 passed_on P Q (Err failure) e is h = subst Q (sym is) h
@@ -55,7 +53,7 @@ pub match_on : {X E Q : Type 0} {P P' : X → Type 0} {Q' : E → Type 0} (r : R
 match_on (Ok x) f k p q = f x p
 match_on (Err e) f k p q = k q e
 
--- ---- what is kept
+-- ---- the kept commit
 
 pub rests_still : (s : State) → CommitsNothing s s
 rests_still s = record {
@@ -82,42 +80,33 @@ module _ (a b c : State) where
     survives = survives_both a b c p.survives q.survives;
   }
 
-  -- a later read's fault is one of all
+  -- a later read's fault is a fault of the sequence
   pub fault_of_all : CommitsNothing a b → CommitsNothing b c → HasCleanDisk c → (e : StoreError) → IsFaultBy b c e → IsFaultBy a c e
   fault_of_all p q clean = by_since a b c (p.survives.closes (clean_at q clean)) p.survives.counts q.survives.counts
 
-  pub told_of_all : CommitsNothing a b → CommitsNothing b c → HasCleanDisk c → (e : StoreError) → HasDiskCause b c e → HasDiskCause a c e
-  told_of_all p q clean = told_since a b c (p.survives.closes (clean_at q clean)) p.survives.counts q.survives.counts
+  pub disk_cause_of_all : CommitsNothing a b → CommitsNothing b c → HasCleanDisk c → (e : StoreError) → HasDiskCause b c e → HasDiskCause a c e
+  disk_cause_of_all p q clean = disk_cause_since a b c (p.survives.closes (clean_at q clean)) p.survives.counts q.survives.counts
 
--- after reads the tables spell what they spelled
 pub spell_on : (a b : State) → CommitsNothing a b → HasCleanDisk b → (was : Stored) → SpellsWhileOpen a was → SpellsWhileOpen b was
 spell_on a b p clean was over is_open =
     let keeps = p.commit_stays clean in
     still_spells a b was keeps (λ _. p.settled clean is_open (sym (over (keeps.was_open is_open)).settled)) over is_open
 
 module _ (a b : State) (p : CommitsNothing a b) (settled : IsTrue a.is_open → a.now ≡ a.committed) (clean : HasCleanDisk b) where
-  -- after reads the tables hold what they held
   pub same_db : IsTrue b.is_open → b.now ≡ a.now
   same_db is_open =
       let commit = p.commit_stays clean in
       let was = settled (commit.was_open is_open) in
       p.settled clean is_open was ∙ commit.committed is_open ∙ sym was
 
-  pub readable_on : CanBeRead a → CanBeRead b
-  readable_on can is_open = subst HoldsReadable (sym (same_db is_open)) (can ((p.commit_stays clean).was_open is_open))
-
-  pub layout_on : HasLayout a → HasLayout b
-  layout_on known is_open = subst (λ (d : Database). HasFiveTables d.schema) (sym (same_db is_open)) (known ((p.commit_stays clean).was_open is_open))
-
 -- ---- reads
 
 module _ {S : Type 0} {g : Ghosts S} where
-  -- nothing is read
-  pub unread : {X : Type 0} {IsAnswer : Stored → X → Type 0} {x : X} (db : StoreConnection S g) → ((was : Stored) → IsAnswer was x) → MayRead db db (Ok x) IsAnswer
+  pub unread : {X : Type 0} {IsAnswer : Stored → X → Type 0} {x : X} (db : Conn S g) → ((was : Stored) → IsAnswer was x) → MayRead db db (Ok x) IsAnswer
   unread db tells = record { rests = rests_still (shown db); answers = λ clean was over. tells was }
 
-  module _ {X : Type 0} {IsAnswer : Stored → X → Type 0} {old new : StoreConnection S g} {r : Result X StoreError} where
-    -- a table was read
+  module _ {X : Type 0} {IsAnswer : Stored → X → Type 0} {old new : Conn S g} {r : Result X StoreError} where
+    -- reading a table succeeded
     pub read : {Y : Type 0} {y : Y} → ReadsInAutocommit {E = Error} g old.idle.conn new.idle.conn (Ok y)
         → (HasCleanDisk (shown new) → (was : Stored) → IsOpenOver (shown old) was → MatchResult r (IsAnswer was) (IsFaultBy (shown old) (shown new))) → Reads old new r IsAnswer
     read {y = y} frame answers = record {
@@ -125,11 +114,11 @@ module _ {S : Type 0} {g : Ghosts S} where
       was_open = λ clean. on_ok_each r (frame.was_open clean);
     }
 
-    -- it was, and then memory was refused
-    pub read_refused : {Y : Type 0} {y : Y} → ReadsInAutocommit {E = Error} g old.idle.conn new.idle.conn (Ok y) → IsErrAnd r (λ failure. failure ≡ Memory) → Reads old new r IsAnswer
-    read_refused frame is = read frame (λ clean was over. passed_on (IsAnswer was) (IsFaultBy (shown old) (shown new)) r Memory is tt)
+    -- it succeeded, and then allocation failed
+    pub read_out_of_memory : {Y : Type 0} {y : Y} → ReadsInAutocommit {E = Error} g old.idle.conn new.idle.conn (Ok y) → IsErrAnd r (λ failure. failure ≡ Memory) → Reads old new r IsAnswer
+    read_out_of_memory frame is = read frame (λ clean was over. passed_on (IsAnswer was) (IsFaultBy (shown old) (shown new)) r Memory is tt)
 
-    -- a table of these schemas wasn't
+    -- reading a table of these schemas failed
     pub not_read_in : {IsAllowed : Schema → Type 0} → ((schema : Schema) → HasEightTables schema → IsAllowed schema) → {Y : Type 0} {e : Error} → ReadsInAutocommit {X = Y} g old.idle.conn new.idle.conn (Err e)
         → (HasCleanDisk (shown new) → CanBeReadIn IsAllowed (shown old) → IsFault (shown old) (shown new) e) → IsErrAnd r (λ failure. failure ≡ failure_of e) → Reads old new r IsAnswer
     not_read_in has {e = e} frame fault is = record {
@@ -142,40 +131,37 @@ module _ {S : Type 0} {g : Ghosts S} where
       was_open = λ clean. none_ok (IsTrue (shown old).is_open) r (failure_of e) is;
     }
 
-    -- one of the five tables wasn't
+    -- reading one of the five tables failed
     pub not_read : {Y : Type 0} {e : Error} → ReadsInAutocommit {X = Y} g old.idle.conn new.idle.conn (Err e) → (HasCleanDisk (shown new) → CanBeRead (shown old) → IsFault (shown old) (shown new) e)
         → IsErrAnd r (λ failure. failure ≡ failure_of e) → Reads old new r IsAnswer
     not_read frame fault is = not_read_in eight_has_five frame fault is
 
-  -- ---- what is made of a read
+  -- ---- the result after a read
 
-  module _ {X Y : Type 0} {P : Stored → X → Type 0} {Q : Stored → Y → Type 0} {a b : StoreConnection S g} {r : Result Y StoreError} where
+  module _ {X Y : Type 0} {P : Stored → X → Type 0} {Q : Stored → Y → Type 0} {a b : Conn S g} {r : Result Y StoreError} where
     pub may_tell : {p : Result X StoreError} → MayRead a b p P → ((was : Stored) → MatchResult p (P was) (IsFaultBy (shown a) (shown b)) → MatchResult r (Q was) (IsFaultBy (shown a) (shown b))) → MayRead a b r Q
     may_tell one made = record { rests = one.rests; answers = λ clean was over. made was (one.answers clean was over) }
 
-    -- of one that succeeded
+    -- the read succeeded
     pub tell : {x : X} → Reads a b (Ok x) P → ((was : Stored) → IsOpenOver (shown a) was → P was x → MatchResult r (Q was) (IsFaultBy (shown a) (shown b))) → Reads a b r Q
     tell one made = record {
       may = record { rests = one.may.rests; answers = λ clean was over. made was (over (one.was_open clean)) (one.may.answers clean was over) };
       was_open = λ clean. on_ok_each r (one.was_open clean);
     }
 
-    -- of one that failed
+    -- the read failed
     pub may_fail : {e : StoreError} → MayRead a b (Err e) P → IsErrAnd r (λ failure. failure ≡ e) → MayRead a b r Q
     may_fail {e} one is = record { rests = one.rests; answers = λ clean was over. passed_on (Q was) (IsFaultBy (shown a) (shown b)) r e is (one.answers clean was over) }
 
     pub fail : {e : StoreError} → Reads a b (Err e) P → IsErrAnd r (λ failure. failure ≡ e) → Reads a b r Q
     fail {e} one is = record { may = may_fail one.may is; was_open = λ clean. none_ok (IsTrue (shown a).is_open) r e is }
 
-    -- memory was refused for what is made of it
+    -- allocation failed after the read
     pub refuse : {x : X} → Reads a b (Ok x) P → IsErrAnd r (λ failure. failure ≡ Memory) → Reads a b r Q
     refuse one is = tell one (λ was over p. passed_on (Q was) (IsFaultBy (shown a) (shown b)) r Memory is tt)
 
-    pub may_refuse : {x : X} → MayRead a b (Ok x) P → IsErrAnd r (λ failure. failure ≡ Memory) → MayRead a b r Q
-    may_refuse {x} one is = may_tell {p = Ok x} one (λ was p. passed_on (Q was) (IsFaultBy (shown a) (shown b)) r Memory is tt)
-
-  -- the same result tells something else
-  module _ {X : Type 0} {P Q : Stored → X → Type 0} {a b : StoreConnection S g} {r : Result X StoreError} where
+  -- the same result has another meaning
+  module _ {X : Type 0} {P Q : Stored → X → Type 0} {a b : Conn S g} {r : Result X StoreError} where
     pub may_retell : MayRead a b r P → ((was : Stored) (x : X) → P was x → Q was x) → MayRead a b r Q
     may_retell one made = may_tell one (λ was. match_each r (made was) (λ e h. h))
 
@@ -186,9 +172,9 @@ module _ {S : Type 0} {g : Ghosts S} where
         both (Ok x) clean was over is_open h = made was (over (is_open clean)) x h
         both (Err e) clean was over is_open h = h
 
-  -- ---- one after the other
+  -- ---- in sequence
 
-  module _ {X Y Z : Type 0} {P : Stored → X → Type 0} {Q : Stored → Y → Type 0} {R : Stored → Z → Type 0} {a b c : StoreConnection S g} {x : X} {r : Result Z StoreError} where
+  module _ {X Y Z : Type 0} {P : Stored → X → Type 0} {Q : Stored → Y → Type 0} {R : Stored → Z → Type 0} {a b c : Conn S g} {x : X} {r : Result Z StoreError} where
     pub may_go_on : {q : Result Y StoreError} → MayRead a b (Ok x) P → MayRead b c q Q
         → ((was : Stored) → SpellsWhileOpen (shown a) was → P was x → MatchResult q (Q was) (IsFaultBy (shown a) (shown c)) → MatchResult r (R was) (IsFaultBy (shown a) (shown c))) → MayRead a c r R
     may_go_on {q} one two made = record {
@@ -199,7 +185,6 @@ module _ {S : Type 0} {g : Ghosts S} where
           (match_each q (λ y h. h) (fault_of_all (shown a) (shown b) (shown c) one.rests two.rests clean) (two.answers clean was (spell_on (shown a) (shown b) one.rests early was over))));
     }
 
-    -- the second one fails
     pub may_stop : {e : StoreError} → MayRead a b (Ok x) P → MayRead b c (Err e) Q → IsErrAnd r (λ failure. failure ≡ e) → MayRead a c r R
     may_stop {e} one two is = may_go_on one two (λ was over p q. passed_on (R was) (IsFaultBy (shown a) (shown c)) r e is q)
 
@@ -213,11 +198,11 @@ module _ {S : Type 0} {g : Ghosts S} where
     pub stop : {e : StoreError} → Reads a b (Ok x) P → MayRead b c (Err e) Q → IsErrAnd r (λ failure. failure ≡ e) → Reads a c r R
     stop one two is = surely one two (may_stop one.may two is)
 
-  -- where the second one surely reads, the first one had an open connection
-  pub opened_by : {X Y : Type 0} {P : Stored → X → Type 0} {Q : Stored → Y → Type 0} {a b c : StoreConnection S g} {x : X} {y : Y} → MayRead a b (Ok x) P → Reads b c (Ok y) Q → HasCleanDisk (shown c) → IsTrue (shown a).is_open
+  -- if the second call surely reads, the connection was open before the first
+  pub opened_by : {X Y : Type 0} {P : Stored → X → Type 0} {Q : Stored → Y → Type 0} {a b c : Conn S g} {x : X} {y : Y} → MayRead a b (Ok x) P → Reads b c (Ok y) Q → HasCleanDisk (shown c) → IsTrue (shown a).is_open
   opened_by {a} {b} {c} one two clean = (one.rests.commit_stays (clean_at (shown a) (shown b) (shown c) two.may.rests clean)).was_open (two.was_open clean)
 
-  module _ {X Y Z : Type 0} {P : Stored → X → Type 0} {Q : Stored → Y → Type 0} {R : Stored → Z → Type 0} {a b c : StoreConnection S g} {x : X} {r : Result Z StoreError} where
+  module _ {X Y Z : Type 0} {P : Stored → X → Type 0} {Q : Stored → Y → Type 0} {R : Stored → Z → Type 0} {a b c : Conn S g} {x : X} {r : Result Z StoreError} where
     pub read_later : {y : Y} → MayRead a b (Ok x) P → Reads b c (Ok y) Q
         → ((was : Stored) → IsOpenOver (shown a) was → P was x → Q was y → MatchResult r (R was) (IsFaultBy (shown a) (shown c))) → Reads a c r R
     read_later one two made = record {
@@ -233,17 +218,16 @@ module _ {S : Type 0} {g : Ghosts S} where
     pub fail_later : {e : StoreError} → MayRead a b (Ok x) P → MayRead b c (Err e) Q → IsErrAnd r (λ failure. failure ≡ e) → Reads a c r R
     fail_later {e} one two is = record { may = may_stop one two is; was_open = λ clean. none_ok (IsTrue (shown a).is_open) r e is }
 
-  -- two that succeed, as one
-  module _ {X Y : Type 0} {P : Stored → X → Type 0} {Q : Stored → Y → Type 0} {a b c : StoreConnection S g} {x : X} {y : Y} where
+  module _ {X Y : Type 0} {P : Stored → X → Type 0} {Q : Stored → Y → Type 0} {a b c : Conn S g} {x : X} {y : Y} where
     pub may_both : MayRead a b (Ok x) P → MayRead b c (Ok y) Q → MayRead {X = X × Y} a c (Ok (x, y)) (λ was found. P was found.0 × Q was found.1)
     may_both one two = may_go_on one two (λ was over p q. (p, q))
 
     pub both : Reads a b (Ok x) P → MayRead b c (Ok y) Q → Reads {X = X × Y} a c (Ok (x, y)) (λ was found. P was found.0 × Q was found.1)
     both one two = go_on one two (λ was over p q. (p, q))
 
-  -- ---- what a caller learns of it
+  -- ---- the caller's view
 
-  pub tells_stored : {X WasUsable : Type 0} {IsAnswer : Stored → X → Type 0} {a b : StoreConnection S g} {r : Result X StoreError} → Reads a b r IsAnswer → HasCleanDisk (shown b) → AnswersFromStored (shown a) (shown b) WasUsable r IsAnswer
+  pub tells_stored : {X WasUsable : Type 0} {IsAnswer : Stored → X → Type 0} {a b : Conn S g} {r : Result X StoreError} → Reads a b r IsAnswer → HasCleanDisk (shown b) → AnswersFromStored (shown a) (shown b) WasUsable r IsAnswer
   tells_stored {a} {b} {r = r} reads clean = record {
     answers = λ was over. match_each r (λ x told. told) (λ e fault _. fault) (reads.may.answers clean was over);
     same = spell_on (shown a) (shown b) reads.may.rests clean;

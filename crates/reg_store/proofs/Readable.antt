@@ -1,4 +1,4 @@
--- What the tables of each layout spell can be read.
+-- The tables of each layout can be read if they spell a registry.
 use Rattle.std.proofs.Common.{◌≡◌, ℕ, List, Some, refl, sym, ap, subst, ◌∙◌, arith}
 use Rattle.std.specs.Prelude.{◌<◌, ◌^◌, IsSome, is_some, IsTrue, IsUtf8}
 use Rattle.std.specs.FinMap.{FinMap, get, empty, get-empty}
@@ -20,7 +20,6 @@ use Rattle.reg_store.proofs.EvidenceMaps.{evidence_if_spelled}
 use Rattle.reg_store.proofs.EvidenceRows.{the_value}
 use Rattle.reg_store.proofs.Texts.{was_written, utf8_subject, utf8_level, utf8_mode, utf8_first_meta, utf8_second_meta, readable_base, readable_key, readable_id}
 
--- nothing is under a key of an empty map
 none_in : {K V : Type 0} (R : K → K → Ordering) (m : FinMap R V) → m ≡ empty → (key : K) (value : V) → get m key ≡ Some value → ⊥
 none_in R m is key value there = let none = sym (ap (λ m. get m key) is ∙ get-empty R key) ∙ there in cc
 
@@ -31,7 +30,6 @@ one_readable db was s =
     (λ subject mode there. absurd (none_in text_cmp s.contents.modes none.0 subject mode there)) (λ key level there. absurd (none_in version_cmp s.contents.evidence none.1 key level there))
     (λ place id there. absurd (none_in position_cmp s.contents.against none.2 place id there))
 
--- what is spelled in layout 2 can be read, in all eight tables
 pub all_readable : (db : Database) (was : Stored) → {IsAllowed : Schema → Type 0} → (s : SpellsIn IsAllowed IsSpelledLayoutTwo db was) → HasEightTables s.schema → AreReadable s.contents
 all_readable db was s tables =
     readable_base s.contents was.registry was.replies s.spelled.base (λ name value there. utf8_second_meta was.registry.global was.registry.global_mode name value (sym (ap (λ m. get m name) s.spelled.meta) ∙ there))

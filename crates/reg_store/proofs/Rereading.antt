@@ -1,4 +1,4 @@
--- Several reads, one after the other.
+-- Several reads in sequence.
 use Rattle.std.proofs.Common.{◌≡◌, IsTrue, sym, ◌∙◌}
 use Rattle.sqlite.specs.State.{State}
 use Rattle.reg_tables.specs.Reads.{OnlyReads}
@@ -8,6 +8,6 @@ pub reads_then : (a b c : State) → OnlyReads a b → OnlyReads b c → OnlyRea
 reads_then a b c p q = record { commit_stays = keeps_then a b c p.commit_stays q.commit_stays; settled = q.settled }
 
 module _ (old mid : State) (r : OnlyReads old mid) (settled : IsTrue old.is_open → old.now ≡ old.committed) where
-  -- a later read shows what the first one would
+  -- a later read shows the same
   pub same_now : IsTrue mid.is_open → mid.now ≡ old.now
   same_now is_open = r.settled is_open ∙ r.commit_stays.committed is_open ∙ sym (settled (r.commit_stays.was_open is_open))

@@ -26,37 +26,34 @@ use Rattle.reg_store.specs.Inside.Viewing.{HasSubject, version_spelled, row_spel
 
 -- ---- entries
 
--- the row of `versions` that spells a version
-abbrev keep_entry : Row → ListedVersionView
-keep_entry row = (row.0, stored_version row.1)
+abbrev row_entry : Row → ListedVersionView
+row_entry row = (row.0, stored_version row.1)
 
-entries_back : (rows : List Row) → map row_spelled (map keep_entry rows) ≡ rows
+entries_back : (rows : List Row) → map row_spelled (map row_entry rows) ≡ rows
 entries_back [] = refl
 entries_back (row ∷ rows) = ap (λ rest. row ∷ rest) (entries_back rows)
 
--- other values leave the keys' order
-sorted_mapped : (rows : List Row) → is_sorted version_cmp (map keep_entry rows) ≡ is_sorted row_cmp rows
+-- other values keep the order of the keys
+sorted_mapped : (rows : List Row) → is_sorted version_cmp (map row_entry rows) ≡ is_sorted row_cmp rows
 sorted_mapped [] = refl
 sorted_mapped (row ∷ rows) = λ i. below rows i && sorted_mapped rows i
   where
-    below : (rs : List Row) → below_all version_cmp row.0 (map keep_entry rs) ≡ below_all row_cmp row.0 rs
+    below : (rs : List Row) → below_all version_cmp row.0 (map row_entry rs) ≡ below_all row_cmp row.0 rs
     below [] = refl
     below (r ∷ rs) = ap (λ b. is_lt (row_cmp row.0 r.0) && b) (below rs)
 
 module _ (contents : Contents) (g : Registry) (spelled : (key : RowKey) → get contents.versions key ≡ option_map stored_version (get g.rows key)) where
-  entries_spelled : entries contents.versions ≡ map keep_entry (entries g.rows)
+  entries_spelled : entries contents.versions ≡ map row_entry (entries g.rows)
   entries_spelled =
-      let es = map keep_entry (entries g.rows) in
+      let es = map row_entry (entries g.rows) in
       let sorted = subst T (sym (sorted_mapped (entries g.rows))) (entries_sorted g.rows) in
       let same = same_map version_order.total version_order.antisymmetric contents.versions (from_sorted es) (λ key.
       spelled key ∙ ap (option_map stored_version) (get-entries g.rows key) ∙ sym (find-mapped version_cmp stored_version key (entries g.rows)) ∙ sym (get-from_sorted version_cmp es key sorted)) in
       ap entries same ∙ entries-from_sorted version_cmp es sorted
 
-  -- the versions, in their order
   pub all_spelled : map row_spelled (entries contents.versions) ≡ entries g.rows
   all_spelled = ap (map row_spelled) entries_spelled ∙ entries_back (entries g.rows)
 
-  -- those of an id
   pub id_spelled : (id : ℕ) → map row_spelled (id_versions id contents) ≡ rows_with id (entries g.rows)
   id_spelled id = filtered (entries contents.versions) ∙ ap (rows_with id) all_spelled
     where
@@ -68,7 +65,6 @@ module _ (contents : Contents) (g : Registry) (spelled : (key : RowKey) → get 
           by true xs ys h = ap (λ rest. row_spelled e ∷ rest) h
           by false xs ys h = h
 
-  -- and those of a subject
   pub subject_spelled : (subject : List ℕ) → map (row_numbered subject) (subject_versions subject contents) ≡ rows_of g subject
   subject_spelled subject = numbered (entries contents.versions) ∙ ap (filter (λ (row : Row). bytes_eq row.0.0 subject)) all_spelled
     where
@@ -97,10 +93,8 @@ module _ (contents : Contents) (g : Registry) (k : Kept) (s : IsSpelled contents
       let it = was_written stored_version (get g.rows entry.0) entry.1 (sym (s.versions entry.0) ∙ found) in
       s.registered entry.0 it.0 it.1))
 
-  -- each line of the table has a subject
   pub all_lines : (lines : List ListedVersion) → map listed_version_view lines ≡ entries contents.versions → All HasSubject lines
   all_lines lines is = All-mapped IsOfSubject listed_version_view lines (subst (All IsOfSubject) (sym is) of_subjects)
 
-  -- and each of an id
   pub id_lines : (lines : List ListedVersion) (id : ℕ) → map listed_version_view lines ≡ id_versions id contents → All HasSubject lines
   id_lines lines id is = All-mapped IsOfSubject listed_version_view lines (subst (All IsOfSubject) (sym is) (All-filter (λ (e : ListedVersionView). e.1.id == id) IsOfSubject (entries contents.versions) of_subjects))

@@ -1,4 +1,4 @@
--- Rows of `texts` and `versions` that hold schemas and versions are those of tables that spell them, and the other way round.
+-- Valid rows of `texts` and `versions` are those of tables that spell schemas and versions, and the converse.
 use Rattle.std.proofs.Common.{◌≡◌, ℕ, ℤ, zero, suc, ◌+◌, ◌<◌, ◌≤◌, List, [], ◌∷◌, map, length, Option, Some, None, Bool, true, false, cond, refl, sym, ap, subst, ◌∙◌, arith, Ordering}
 use Rattle.std.specs.Prelude.{IsTrue, IsUtf8, All, slice_get, option_map, string_bytes}
 use Rattle.std.specs.List.{AllByRecursion}
@@ -22,7 +22,7 @@ use Rattle.reg_tables.proofs.ListMembers.{has_mapped, maps_had}
 use Rattle.reg_tables.proofs.MapLemmas.{tied_key, other_key}
 use Rattle.reg_tables.proofs.KeyedTables.{number_order, version_order}
 use Rattle.reg_tables.proofs.ListingLemmas.{found_first, find_had}
-use Rattle.reg_rows.specs.Spelling.{Text, AreNumbered, IsTextRow, AreTexts, FitsVersions, IsVersionRow}
+use Rattle.reg_rows.specs.Spelling.{Text, AreConsecutive, IsTextRow, AreTexts, FitsVersions, IsVersionRow}
 use Rattle.reg_store.specs.Spells.{stored_version}
 use Rattle.reg_store.specs.Opening.{text_columns}
 use Rattle.reg_store.specs.Opening.{version_columns}
@@ -32,7 +32,6 @@ use Rattle.reg_store.proofs.Texts.{was_written}
 
 -- ---- texts
 
--- the schemas of rows that have identity texts
 abbrev pub schemas_in : (lines : List RawText) → AllByRecursion IsTextRow (map text_columns lines) → Schemas
 schemas_in [] fit = []
 schemas_in (line ∷ lines) fit = fit.0.nodes ∷ schemas_in lines fit.1
@@ -60,15 +59,14 @@ ids_of lines = map (λ (row : ℕ × Text). row.0) (map text_columns lines)
 abbrev pairs_of : List RawText → List (ℕ × List ℕ)
 pairs_of lines = map without_rowid (map text_entry lines)
 
--- an id below the first has no text
-below_none : (first : ℕ) (lines : List RawText) → AreNumbered first (ids_of lines) → (id : ℕ) → id < first → find nat_cmp id (pairs_of lines) ≡ None
+below_none : (first : ℕ) (lines : List RawText) → AreConsecutive first (ids_of lines) → (id : ℕ) → id < first → find nat_cmp id (pairs_of lines) ≡ None
 below_none first [] n id l = refl
 below_none first (line ∷ lines) n id l =
     ap (λ b. cond b (Some (string_bytes line.text)) (find nat_cmp id (pairs_of lines))) (other_key nat_cmp number_order id line.id (λ e. let a = n.0 in omega (arith, l, a, e)))
     ∙ below_none (first + 1) lines n.1 id (omega (arith, l))
 
--- numbered rows have the text of each id at its position
-found_at : (first : ℕ) (lines : List RawText) → AreNumbered first (ids_of lines) → (fit : AllByRecursion IsTextRow (map text_columns lines)) → (n id : ℕ) → id ≡ first + n
+-- the text of an id is at the id's position
+found_at : (first : ℕ) (lines : List RawText) → AreConsecutive first (ids_of lines) → (fit : AllByRecursion IsTextRow (map text_columns lines)) → (n id : ℕ) → id ≡ first + n
     → find nat_cmp id (pairs_of lines) ≡ option_map identity (slice_get (schemas_in lines fit) n)
 found_at first [] h fit n id e = refl
 found_at first (line ∷ lines) h fit zero id e =
@@ -81,13 +79,11 @@ module _ (lines : List RawText) where
   abbrev pub texts_in : FinMap nat_cmp (List ℕ)
   texts_in = from_entries (pairs_of lines)
 
-  -- rows that fit spell their schemas
   pub texts_spelled : (fit : AreTexts (map text_columns lines)) → (id : ℕ) → get texts_in id ≡ option_map identity (schema_at (schemas_in lines fit.identities) id)
   texts_spelled fit zero = get-from_entries number_order.total (pairs_of lines) 0 ∙ below_none 1 lines fit.numbered 0 (omega arith)
   texts_spelled fit (suc n) = get-from_entries number_order.total (pairs_of lines) (suc n) ∙ found_at 1 lines fit.numbered fit.identities n (suc n) (omega arith)
 
   module _ (apart : HasNoDuplicates nat_cmp (map text_entry lines)) (schemas : Schemas) (all : All IsSchema schemas) (few : length schemas ≤ max_number) (spelled : (id : ℕ) → get texts_in id ≡ option_map identity (schema_at schemas id)) where
-    -- each line has the text of its id
     line_found : (line : RawText) → Has lines line → get texts_in line.id ≡ Some (string_bytes line.text)
     line_found line there =
         get-from_entries number_order.total (pairs_of lines) line.id ∙ found_first nat_cmp number_order (map text_entry lines) (text_entry line) apart.keys (maps_had text_entry lines line there)
@@ -95,7 +91,6 @@ module _ (lines : List RawText) where
     schema_of : (line : RawText) → Has lines line → (nodes : List NodeView) × (schema_at schemas line.id ≡ Some nodes) × (string_bytes line.text ≡ identity nodes)
     schema_of line there = was_written identity (schema_at schemas line.id) (string_bytes line.text) (sym (spelled line.id) ∙ line_found line there)
 
-    -- an id has a line if it has a schema
     line_there : (id : ℕ) → 0 < id → id ≤ length schemas → Has (ids_of lines) id
     line_there id l h =
         let it = schema_there schemas id l h in
@@ -120,7 +115,6 @@ module _ (lines : List RawText) where
         same [] = refl
         same (l ∷ ls) = ap (λ r. l.id ∷ r) (same ls)
 
-    -- rows of tables that spell schemas fit, in the order of their ids
     pub texts_fit : Rises (ids_of lines) → AreTexts (map text_columns lines)
     texts_fit rising =
         let in_order = numbered 1 (ids_of lines) rising ids_apart (λ id there. (id_within id there).0) (λ id other there a b. line_there other a (let l = (id_within id there).1 in omega (arith, b, l))) in
@@ -142,7 +136,6 @@ module _ (lines : List RawText) where
 
 -- ---- versions
 
--- what a row of `versions` says of a version
 abbrev version_in : VersionEntryView → Version
 version_in row = record { id = row.id; deleted = row.deleted }
 
@@ -150,7 +143,7 @@ version_back : (o : Option VersionEntryView) → o ≡ option_map stored_version
 version_back None = refl
 version_back (Some row) = refl
 
--- a map whose values are written otherwise
+-- a map whose values are encoded
 pub find-mapped : {K V W : Type 0} (R : K → K → Ordering) (write : V → W) (q : K) (es : List (K × V)) → find R q (map (λ (e : K × V). (e.0, write e.1)) es) ≡ option_map write (find R q es)
 find-mapped R write q [] = refl
 find-mapped R write q (e ∷ es) = rw (find-mapped R write q es) (by (is_eq (R q e.0)))
@@ -159,7 +152,6 @@ find-mapped R write q (e ∷ es) = rw (find-mapped R write q es) (by (is_eq (R q
     by true = refl
     by false = refl
 
--- the versions of the rows
 pub rows_in : FinMap version_cmp VersionEntryView → Rows
 rows_in versions = from_entries (map (λ (e : RowKey × VersionEntryView). (e.0, version_in e.1)) (entries versions))
 
@@ -171,7 +163,6 @@ module _ (versions : FinMap version_cmp VersionEntryView) where
   pub versions_spelled : (key : RowKey) → get versions key ≡ option_map stored_version (get (rows_in versions) key)
   versions_spelled key = version_back (get versions key) ∙ ap (option_map stored_version) (sym (row_found key))
 
-  -- a version is that of a row
   pub row_there : (key : RowKey) (version : Version) → get (rows_in versions) key ≡ Some version → (row : VersionEntryView) × (get versions key ≡ Some row) × (version ≡ version_in row)
   row_there key version there = was_written version_in (get versions key) version (sym (row_found key) ∙ there)
 
@@ -179,7 +170,6 @@ module _ (lines : List RawVersion) where
   abbrev pub versions_in : FinMap version_cmp VersionEntryView
   versions_in = from_entries (map without_rowid (map version_entry lines))
 
-  -- the rows that fit have subjects and numbers
   pub version_fits : AllByRecursion IsVersionRow (map version_columns lines) → (key : RowKey) (row : VersionEntryView) → get versions_in key ≡ Some row → FitsVersions key.0 key.1
   version_fits all key row there =
       let es = map version_entry lines in
@@ -188,7 +178,6 @@ module _ (lines : List RawVersion) where
       let fits = all_has IsVersionRow (map version_columns lines) (version_columns line.0) all (maps_had version_columns lines line.0 line.1) in
       subst (λ (k : RowKey). FitsVersions k.0 k.1) (ap (λ (x : ℤ × RowKey × VersionEntryView). x.1) (sym line.2) ∙ e.2) fits
 
-  -- each row of a table that spells versions fits
   pub versions_fit : HasNoDuplicates version_cmp (map version_entry lines) → (schemas : Schemas) (rows : Rows) → ((key : RowKey) → get versions_in key ≡ option_map stored_version (get rows key))
       → ((key : RowKey) (version : Version) → get rows key ≡ Some version → IsRow schemas key version) → ((key : RowKey) (version : Version) → get rows key ≡ Some version → IsTrue (is_subject key.0)) → AllByRecursion IsVersionRow (map version_columns lines)
   versions_fit apart schemas rows spelled are subjects = all_from IsVersionRow (map version_columns lines) (λ row there.

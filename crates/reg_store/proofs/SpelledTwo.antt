@@ -1,4 +1,4 @@
--- What is spelled in layout 2, beside what the tables of both layouts spell.
+-- What layout 2 spells in addition to the tables of both layouts.
 use Rattle.std.proofs.Common.{◌≡◌, ◌≢◌, ℕ, List, codes, sym, ap, ◌∙◌}
 use Rattle.std.specs.Prelude.{option_map}
 use Rattle.std.specs.FinMap.{get, insert}
@@ -22,24 +22,22 @@ pub other_name : codes "global" ≢ codes "mode"
 other_name e = absurd (cc)
 
 module _ (meta : TextMap (List ℕ)) where
-  -- the rows of `meta` with another level
   pub level_changed : (was level : Level) (mode : List ℕ) → meta ≡ layout_two_meta (level_text was) mode → insert meta (codes "global") (level_text level) ≡ layout_two_meta (level_text level) mode
   level_changed was level mode is =
       ap (λ m. insert m (codes "global") (level_text level)) is
       ∙ insert-swap (insert (meta_before_level (codes "2")) (codes "global") (level_text was)) (codes "mode") mode (codes "global") (level_text level) other_name
       ∙ ap (λ m. insert m (codes "mode") mode) (insert-insert (meta_before_level (codes "2")) (codes "global") (level_text was) (level_text level))
 
-  -- and with another mode
   pub mode_changed : (level was mode : List ℕ) → meta ≡ layout_two_meta level was → insert meta (codes "mode") mode ≡ layout_two_meta level mode
   mode_changed level was mode is = ap (λ m. insert m (codes "mode") mode) is ∙ insert-insert _ (codes "mode") was mode
 
 -- ---- the five tables
 
--- what the tables that layout 2 adds hold stays
+-- the contents of the tables that layout 2 adds stay
 abbrev pub KeepsAdded : Contents → Contents → Type 0
 KeepsAdded was now = (now.modes ≡ was.modes) × (now.evidence ≡ was.evidence) × (now.against ≡ was.against)
 
--- what the five tables hold is another, and spells another registry with the same own modes
+-- the five tables change, and spell another registry with the same own modes
 pub spelled_in : (contents : Contents) (was : Stored) (s : IsSpelledLayoutTwo contents was) (now : Contents) (h : Registry) (l : Kept) → IsSpelled now h l → now.meta ≡ layout_two_meta (level_text h.global) (mode_text h.global_mode) → h.own_modes ≡ was.registry.own_modes
     → KeepsAdded contents now → IsSpelledLayoutTwo now (record was { registry = h; replies = l })
 spelled_in contents was s now h l spelled meta same kept = record {
@@ -51,7 +49,6 @@ spelled_in contents was s now h l spelled meta same kept = record {
 }
 
 module _ (old new : State) where
-  -- a change of what the tables hold
   pub changed : (change : Contents → Contents) → Changes old new change → (was : Stored) (s : Spells old.now was) (now : Stored) → IsSpelledLayoutTwo (change s.contents) now → Spells new.now now
   changed change changes was s now spelled = record { schema = s.schema; known = s.known; contents = change s.contents; holds = changes s.schema s.known s.contents s.holds; spelled = spelled }
 

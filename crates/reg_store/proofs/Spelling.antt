@@ -1,4 +1,4 @@
--- What a change of the tables makes of what they spell.
+-- What changing the tables does to what they spell.
 use Rattle.std.proofs.Common.{◌≡◌, ℕ, zero, suc, arith, ◌+◌, ◌<◌, List, [], ◌∷◌, ◌++◌, length, take, get_or, Option, Some, None, Bool, true, false, cond, refl, sym, ap, subst, ◌∙◌}
 use Rattle.std.specs.Prelude.{option_map, bytes_eq, IsTrue, All, ◌≤◌}
 use Rattle.std.specs.FinMap.{get}
@@ -25,11 +25,10 @@ use Rattle.reg_core.specs.Stored.{Stored}
 use Rattle.reg_store.specs.declared.keep.Keep.{Keep}
 use Rattle.reg_store.specs.Changes.{keep_entry, stored_after_changes}
 use Rattle.reg_store.specs.Spells.{CanBeKept, IsSpelled, stored_reply}
-use Rattle.reg_store.specs.Inside.Making.{StoresChange, StoresReply}
+use Rattle.reg_store.specs.Inside.Applying.{StoresChange, StoresReply}
 use Rattle.reg_store.proofs.Maps.{insert_both}
 use Rattle.reg_store.proofs.SpelledTwo.{spelled_in, level_changed, changed, put}
 
--- what holds of each entry holds with one more
 pub each_entry : {V : Type 0} (P : List ℕ → V → Type 0) (look : List ℕ → Option V) (k : List ℕ) (v : V) → P k v → ((q : List ℕ) (w : V) → look q ≡ Some w → P q w)
     → (q : List ℕ) (w : V) → cond (bytes_eq k q) (Some v) (look q) ≡ Some w → P q w
 each_entry P look k v here others q w = go (bytes_eq k q) refl
@@ -41,7 +40,7 @@ each_entry P look k v here others q w = go (bytes_eq k q) refl
 abbrev HaveOwnTexts : Schemas → Type 0
 HaveOwnTexts l = (i j : ℕ) (one other : List NodeView) → schema_at l i ≡ Some one → schema_at l j ≡ Some other → identity one ≡ identity other → i ≡ j
 
--- levels are no matter of what a registry is
+-- levels don't matter to `IsRegistry`
 same_registry : (g h : Registry) → h.schemas ≡ g.schemas → h.rows ≡ g.rows → IsRegistry g → IsRegistry h
 same_registry g h schemas rows is = record {
   schemas = subst (All IsSchema) (sym schemas) is.schemas;
@@ -50,7 +49,7 @@ same_registry g h schemas rows is = record {
   rows = λ key version there. subst (λ (l : Schemas). IsRow l key version) (sym schemas) (is.rows key version (ap (λ (m : Rows). get m key) (sym rows) ∙ there));
 }
 
--- what schemas, versions, levels and kept replies are in stays
+-- the contents of the tables of schemas, versions, levels and kept replies stay
 abbrev pub KeepsBase : Contents → Contents → Type 0
 KeepsBase was now = (now.texts ≡ was.texts) × (now.versions ≡ was.versions) × (now.levels ≡ was.levels) × (now.kept ≡ was.kept)
 
@@ -68,8 +67,7 @@ spelled_as contents g k s now keeps = record {
 }
 
 module _ (contents : Contents) (g : Registry) (k : Kept) (s : IsSpelled contents g k) where
-  -- the global level, modes and the rows of `meta` are no matter of it
-  -- the other tables hold something else
+  -- the global level, the modes and the rows of `meta` don't matter, nor do other tables
   pub spelled_beside : (now : Contents) → KeepsBase contents now → (level : Level) (mode : Mode) (modes : OwnModes) → IsSpelled now (record g { global = level; global_mode = mode; own_modes = modes }) k
   spelled_beside now keeps level mode modes =
       let it = spelled_as contents g k s now keeps in
@@ -129,7 +127,6 @@ stored_after_changes-append (c ∷ cs) change was = stored_after_changes-append 
 pub stored_after_changes-more : (changes : List Change) (i : ℕ) (change : Change) (was : Stored) → i < length changes → stored_after_changes (take (i + 1) changes) was ≡ stored_after_changes (get_or changes i change ∷ []) (stored_after_changes (take i changes) was)
 stored_after_changes-more changes i change was lt = ap (λ l. stored_after_changes l was) (take_more changes i change lt) ∙ stored_after_changes-append (take i changes) (get_or changes i change) was
 
--- what fits at its turn fits the registry after those before it
 pub fits_at : (changes : List Change) (i : ℕ) (change : Change) (g : Registry) → i < length changes → change ≡ get_or changes i change → ChangesFit changes g → ChangeFits change (after_changes (take i changes) g)
 fits_at [] i change g low is fits = absurd (omega (arith, low))
 fits_at (c ∷ cs) zero change g low is fits = subst (λ x. ChangeFits x g) (sym is) fits.0

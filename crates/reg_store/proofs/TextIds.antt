@@ -1,4 +1,4 @@
--- The ids of tables that spell a registry are the numbers from 1 to the count of its schemas.
+-- The ids in `texts` are the numbers from 1 to the count of the registry's schemas.
 use Rattle.std.proofs.Common.{◌≡◌, ℕ, pos, ◌<◌, ◌≤◌, List, [], ◌∷◌, map, length, false, sym, ap, subst, ◌∙◌, arith}
 use Rattle.std.specs.Prelude.{option_map}
 use Rattle.std.specs.List.{IsDistinct, AllByRecursion}
@@ -20,14 +20,13 @@ use Rattle.reg_tables.proofs.ListMembers.{has_mapped, maps_had, has_permuted}
 use Rattle.std.specs.List.Sorted.{IsPermutation}
 use Rattle.std.proofs.lemmas.List.Sorted.{IsPermutation-sym, IsPermutation-trans, IsPermutation-map}
 use Rattle.std.proofs.lemmas.Simd.{map-map}
-use Rattle.reg_rows.specs.Spelling.{AreNumbered}
+use Rattle.reg_rows.specs.Spelling.{AreConsecutive}
 use Rattle.reg_store.specs.Inside.Reads.{SpellsBase}
 use Rattle.reg_store.proofs.Ids.{schema_within, schema_there}
 use Rattle.reg_store.proofs.Numbering.{Rises, numbered, few_numbered}
 use Rattle.reg_store.proofs.Texts.{was_written}
 use Rattle.reg_store.proofs.TextParts.{int_of}
 
--- numbers are as distinct as the integers that they are
 distinct_numbers : (ns : List ℕ) → IsDistinct (eq_by_cmp int_cmp) (map pos ns) → IsDistinct (eq_by_cmp nat_cmp) ns
 unfolding IsDistinct
 distinct_numbers [] h = tt
@@ -37,7 +36,6 @@ distinct_numbers (n ∷ ns) h = (each ns h.0, distinct_numbers ns h.1)
     each [] all = tt
     each (m ∷ ms) all = (sym (ap is_eq (int_order n m)) ∙ all.0, each ms all.1)
 
--- ids that are sorted are those of the same table
 pub ids_sorted : (db : Database) (old new : List ℕ) → IsPermutation old new → ListsIds db old → ListsIds db new
 ids_sorted db old new same lists = IsPermutation-trans _ _ _ lists (IsPermutation-map int_of old new same)
 
@@ -68,7 +66,7 @@ module _ (db : Database) (was : Stored) (s : SpellsBase db was) (ids : List ℕ)
       let same : found.0 ≡ id = (let other = sym found.2 ∙ is in cc) in
       subst (Has ids) same found.1
 
-  pub ids_fit : Rises ids → AreNumbered 1 ids × (length ids ≤ max_number)
+  pub ids_fit : Rises ids → AreConsecutive 1 ids × (length ids ≤ max_number)
   ids_fit rising =
       let in_order = numbered 1 ids rising ids_apart (λ id there. (id_within id there).0) (λ id other there a b. id_there other a (let l = (id_within id there).1 in omega (arith, b, l))) in
       let most = few_numbered 1 (length was.registry.schemas) ids in_order (λ id there. (id_within id there).1) (omega arith) in

@@ -1,4 +1,4 @@
--- The rows of `texts`, a range of ids at a time, where the ids are the numbers from 1 on.
+-- The rows of `texts` in ranges of ids, if the ids are the numbers from 1 on.
 use Rattle.std.proofs.Common.{◌≡◌, ◌⊎◌, ◌↔◌, ◌&&◌, inl, inr, ℕ, pos, suc, zero, ◌+◌, ◌<◌, ◌≤◌, List, [], ◌∷◌, ◌++◌, map, filter, length, Bool, true, false, cond, not, swap, set, get_or, refl, sym, ap, subst, ◌∙◌, arith, Ordering, Less, Equal, Greater}
 use Rattle.std.specs.List.{AllByRecursion}
 use Rattle.std.specs.List.Sorted.{IsPermutation}
@@ -20,12 +20,11 @@ use Rattle.reg_tables.specs.Contents.{text_form}
 use Rattle.reg_tables.specs.Listings.{RowParts, parts_of, entry_parts, text_entry, is_between, ListsIds, ListsTexts, ListsTextsBetween}
 use Rattle.reg_tables.proofs.ListMembers.{has_mapped, maps_had, has_permuted}
 use Rattle.reg_tables.proofs.RawTexts.{between_tests}
-use Rattle.reg_rows.specs.Spelling.{AreNumbered}
-use Rattle.reg_store.specs.Inside.Testing.{text_fits, Judges, NumbersTexts}
+use Rattle.reg_rows.specs.Spelling.{AreConsecutive}
+use Rattle.reg_store.specs.Inside.TableChecks.{text_fits, Judges, NumbersTexts}
 
 -- ---- a row's id
 
--- each row has a number for its rowid
 abbrev pub HaveIds : List Row → Type 0
 HaveIds rows = (row : Row) → Has rows row → (id : ℕ) × (rowid row ≡ Int (pos id))
 
@@ -37,7 +36,6 @@ have_ids db ids lists row there =
     let it = has_mapped int_of ids (rowid row) (has_permuted (map rowid (db.trees texts.tree)) (map int_of ids) (rowid row) lists (maps_had rowid (db.trees texts.tree) row there)) in
     (it.0, it.2)
 
--- whether a row whose id is known lies in a range
 module _ (low high id : ℕ) (row : Row) (is : rowid row ≡ Int (pos id)) where
   not_below : (o : Ordering) → MatchOrdering o (id < low) (id ≡ low) (low < id) → low ≤ id → not (is_lt o) ≡ true
   not_below Less h l = absurd (omega (arith, h, l))
@@ -73,9 +71,9 @@ module _ (low high id : ℕ) (row : Row) (is : rowid row ≡ Int (pos id)) where
   outside (inl l) = tests ∙ ap (λ b. b && not (is_gt (nat_cmp id high))) (below (nat_cmp id low) (ranked id low (nat_cmp id low) refl) l)
   outside (inr h) = tests ∙ ap (λ b. not (is_lt (nat_cmp id low)) && b) (above (nat_cmp id high) (ranked id high (nat_cmp id high) refl) h) ∙ last_false (not (is_lt (nat_cmp id low)))
 
--- ---- rows that are split by a test
+-- ---- rows partitioned by a test
 
--- what passes the first test passes one of the others, and nothing else does
+-- each row passes the first test and exactly one of the others, or none of the three
 abbrev pub Splits : Bool → Bool → Bool → Type 0
 Splits whole one other = ((whole ≡ true) × (one ≡ true) × (other ≡ false)) ⊎ (((whole ≡ true) × (one ≡ false) × (other ≡ true)) ⊎ ((whole ≡ false) × (one ≡ false) × (other ≡ false)))
 
@@ -119,7 +117,6 @@ module _ (db : Database) (have : HaveIds (db.trees texts.tree)) where
   abbrev rows : List Row
   rows = db.trees texts.tree
 
-  -- no row has an id from 1 to 0
   pub judges_none : Judges (ListsTextsBetween 1 0 db) true
   judges_none = record {
     lines = [];
@@ -164,7 +161,6 @@ module _ (db : Database) (have : HaveIds (db.trees texts.tree)) where
       go id is (inr (inr (inl h))) = inr (inl (inside 1 high id row is (omega (arith, h.0)) h.1, outside 1 mid id row is (inr h.0), inside (mid + 1) high id row is (omega (arith, h.0)) h.1))
       go id is (inr (inr (inr h))) = inr (inr (outside 1 high id row is (inr h), outside 1 mid id row is (inr (omega arith)), outside (mid + 1) high id row is (inr h)))
 
-  -- what is said of one range and of the next is said of both
   pub judges_more : (mid high : ℕ) → mid ≤ high → (a b : Bool) → Judges (ListsTextsBetween 1 mid db) a → Judges (ListsTextsBetween (mid + 1) high db) b → Judges (ListsTextsBetween 1 high db) (a && b)
   judges_more mid high up a b one two = record {
     lines = one.lines ++ two.lines;
@@ -181,13 +177,12 @@ module _ (db : Database) (have : HaveIds (db.trees texts.tree)) where
     );
   }
 
--- the numbers from a first one on are no more than they are many
-pub within : (first : ℕ) (ids : List ℕ) → AreNumbered first ids → (id : ℕ) → Has ids id → (first ≤ id) × (id < first + length ids)
+-- consecutive numbers are less than the first one plus their count
+pub within : (first : ℕ) (ids : List ℕ) → AreConsecutive first ids → (id : ℕ) → Has ids id → (first ≤ id) × (id < first + length ids)
 within first [] n id h = absurd h
 within first (x ∷ ids) n id (inl same) = let is = n.0 in (omega (arith, same, is), omega (arith, same, is))
 within first (x ∷ ids) n id (inr later) = let it = within (first + 1) ids n.1 id later in let low = it.0 in let high = it.1 in (omega (arith, low), omega (arith, high))
 
--- the range of all ids has all rows
 pub judges_all : (db : Database) (count high : ℕ) → NumbersTexts db count → count ≤ high → (fit : Bool) → Judges (ListsTextsBetween 1 high db) fit → Judges (ListsTexts db) fit
 judges_all db count high numbers up fit it = record {
   lines = it.lines;
@@ -214,7 +209,7 @@ swapped-map f (d ∷ xs) i j p q =
     map-set f (set l i (get_or l j d)) j (get_or l i d) ∙ ap (λ k. set k j (f (get_or l i d))) (map-set f l i (get_or l j d))
     ∙ ap (λ y. set (set (map f l) i y) j (f (get_or l i d))) (sym (get_or-map f l j d (f d) q)) ∙ ap (λ y. set (set (map f l) i (get_or (map f l) j (f d))) j y) (sym (get_or-map f l i d (f d) p))
 
--- what is mapped is put into another order by putting what it is mapped from into one
+-- reordering the results of a map by reordering its arguments
 reordered : {A B : Type 0} (f : A → B) (xs : List A) (ys : List B) → IsPermutation (map f xs) ys → (zs : List A) × IsPermutation xs zs × (map f zs ≡ ys)
 reordered {A} f xs ys =
     IsPermutation-keeps (map f xs) (λ l. (zs : List A) × IsPermutation xs zs × (map f zs ≡ l)) (xs, IsPermutation-refl xs, refl)
@@ -232,7 +227,6 @@ same_ints [] (m ∷ ms) h = absurd (cc)
 same_ints (n ∷ ns) [] h = absurd (cc)
 same_ints (n ∷ ns) (m ∷ ms) h = let head : n ≡ m = cc in let tail : map int_of ns ≡ map int_of ms = cc in λ i. head i ∷ same_ints ns ms tail i
 
--- the lines of the table in the order of its ids
 pub in_order : (db : Database) (count : ℕ) (numbers : NumbersTexts db count) (lines : List RawText) → ListsTexts db lines → (sorted : List RawText) × IsPermutation lines sorted × (map (λ (line : RawText). line.id) sorted ≡ numbers.ids)
 in_order db count numbers lines lists =
     let rows = db.trees texts.tree in

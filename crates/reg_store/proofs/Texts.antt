@@ -1,4 +1,4 @@
--- What the tables spell is read: its texts are UTF-8, and its statuses are low.
+-- What the tables spell can be read: texts are UTF-8, and statuses are below 2^32.
 use Rattle.std.proofs.Common.{◌≡◌, inl, inr, ℕ, ◌<◌, ◌^◌, Bool, true, false, List, Option, Some, None, codes, refl, sym, ap, subst, ◌∙◌, arith, get_or}
 use Rattle.std.specs.Prelude.{IsUtf8, IsTrue, length, nat_lt, nat_le, ◌&&◌, option_map}
 use Rattle.std.specs.FinMap.{get, insert, empty, get-empty}
@@ -32,7 +32,6 @@ key_byte_ascii c e = grind (arith, nat_tests)
 below : (i n : ℕ) → nat_lt i n ≡ true → i < n
 below i n e = grind (arith, nat_tests)
 
--- a key is ASCII
 pub utf8_key : (text : List ℕ) → IsKey text → IsUtf8 text
 utf8_key text k = IsUtf8-from_ascii text ascii
   where
@@ -60,7 +59,6 @@ utf8_level Off = (level_text Off, (refl, refl))
 pub low_status : (n : ℕ) → IsKeptStatus n → n < 2 ^ 32
 low_status n h = grind (arith, nat_tests)
 
--- what holds of each entry of a map holds with one more
 each_inserted : {V : Type 0} (P : List ℕ → V → Type 0) (m : TextMap V) (k : List ℕ) (v : V) → P k v → ((q : List ℕ) (w : V) → get m q ≡ Some w → P q w)
     → (q : List ℕ) (w : V) → get (insert m k v) q ≡ Some w → P q w
 each_inserted P m k v here others q w some = elim (same_or_not text_cmp text_order q k) [
@@ -69,7 +67,6 @@ each_inserted P m k v here others q w some = elim (same_or_not text_cmp text_ord
   | inr other ↦ others q w (sym (get-insert-other text_cmp text_order m k v q other) ∙ some)
 ]
 
--- a value that is written so is one that was there
 pub was_written : {V W : Type 0} (write : V → W) (o : Option V) (w : W) → option_map write o ≡ Some w → (v : V) × (o ≡ Some v) × (w ≡ write v)
 was_written write None w h = absurd (cc)
 was_written write (Some v) w h = (v, refl, let same : write v ≡ w = cc in sym same)
@@ -79,7 +76,6 @@ unfolding lib.Utf8.encode
 utf8_mode Readwrite = (mode_text Readwrite, (refl, refl))
 utf8_mode Readonly = (mode_text Readonly, (refl, refl))
 
--- texts under names
 abbrev pub AreTexts : TextMap (List ℕ) → Type 0
 AreTexts meta = (name value : List ℕ) → get meta name ≡ Some value → IsUtf8 name × IsUtf8 value
 
@@ -113,7 +109,7 @@ module _ (contents : Contents) (g : Registry) (k : Kept) (s : IsSpelled contents
       let number = (s.registry.rows key it.0 it.1).within.1 in
       (utf8_subject key.0 (s.registered key it.0 it.1), omega (arith, number))
 
-  -- what the tables spell can be read, where the rows of `meta` and of the tables that layout 2 adds can
+  -- the base tables can be read if the rows of `meta` and of the tables that layout 2 adds can
   pub readable_base : AreTexts contents.meta → AreTexts contents.modes → ((key : List ℕ × ℕ) (level : List ℕ) → get contents.evidence key ≡ Some level → IsUtf8 key.0 × (key.1 < 2 ^ 32) × IsUtf8 level)
       → ((key : PositionKey) (id : ℕ) → get contents.against key ≡ Some id → IsUtf8 key.0.0 × (key.0.1 < 2 ^ 32) × (key.1 < 2 ^ 32) × (id < 2 ^ 32)) → AreReadable contents
   readable_base meta modes evidence against = record {

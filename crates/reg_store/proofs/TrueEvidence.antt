@@ -1,4 +1,4 @@
--- Evidence stays true, whatever changes a registry has.
+-- Evidence stays true under each change of a registry.
 use Rattle.std.proofs.Common.{◌≡◌, ◌∙◌, ◌++◌, Bool, true, false, cond, List, [], ◌∷◌, ap, sym, subst}
 use Rattle.std.specs.Prelude.{Option, None, Some, option_to_list}
 use Rattle.std.specs.FinMap.{get, insert, remove, get-insert, get-remove}
@@ -22,14 +22,14 @@ use Rattle.reg_store.specs.declared.keep.Keep.{Keep}
 use Rattle.reg_store.specs.Changes.{HoldsAfterChanges, stored_after_apply}
 
 module _ (g : Registry) (had : EvidenceMap) (holds : IsTrueEvidence g had) where
-  -- a schema more is no matter of it, since each version has its own already
+  -- a new schema changes nothing, since each version has its schema already
   true_with_more : IsRegistry g → (more : Schemas) → IsTrueEvidence (record g { schemas = g.schemas ++ more }) had
   true_with_more ok more key version one nodes there is schema =
       let (before, had_schema) = row_schema g.schemas key version (ok.rows key version there) in
       let same : before ≡ nodes = same_Some before nodes (sym (schema_more g.schemas more version.id before had_schema) ∙ schema) in
       subst (λ (x : List NodeView). IsTrueForSchema (g.schemas ++ more) x one) same (true-more g.schemas more before one (holds key version one before there is had_schema))
 
-  -- a new version comes with its own, which is true
+  -- a new version has true evidence
   true_with_row : (row : Row) (own : Evidence) → IsNewEvidence g row own → IsTrueEvidence (record g { rows = insert g.rows row.0 row.1 }) (insert had row.0 own)
   true_with_row row own new key version one nodes there is schema =
       by (same_key key row.0) (sym (get-insert row_order g.rows row.0 row.1 key) ∙ there) (sym (get-insert row_order had row.0 own key) ∙ is)
@@ -39,11 +39,9 @@ module _ (g : Registry) (had : EvidenceMap) (holds : IsTrueEvidence g had) where
           subst (IsTrueForSchema g.schemas nodes) (same_Some own one its) (new.holds nodes (ap (λ (x : Version). schema_at g.schemas x.id) (same_Some row.1 version here) ∙ schema))
       by false here its = holds key version one nodes here its schema
 
-  -- versions that were there had theirs
   true_of_was : (key : RowKey) (version : Version) (one : Evidence) (nodes : List NodeView) → IsRetained g.rows key version → get had key ≡ Some one → schema_at g.schemas version.id ≡ Some nodes → IsTrueForSchema g.schemas nodes one
   true_of_was key version one nodes was is schema = holds key was.old one nodes was.there is (ap (schema_at g.schemas) (sym was.same) ∙ schema)
 
-  -- what is left was there
   left_had : (gone key : RowKey) (one : Evidence) → get (remove had gone) key ≡ Some one → get had key ≡ Some one
   left_had gone key one is = by (same_key key gone) (sym (get-remove row_order had gone key) ∙ is)
     where
@@ -51,7 +49,6 @@ module _ (g : Registry) (had : EvidenceMap) (holds : IsTrueEvidence g had) where
       by true none = absurd (none-some one none)
       by false there = there
 
--- one change that a registry can have
 change_stays_true : (c : Change) (g : Registry) (had : EvidenceMap) → IsRegistry g → ChangeFits c g → IsTrueEvidence g had → IsTrueEvidence (after_change c g) (evidence_after_change c had)
 change_stays_true (change.SetGlobal level) g had ok fits holds = holds
 change_stays_true (change.SetLevel subject level) g had ok fits holds = holds
@@ -66,12 +63,10 @@ change_stays_true (change.SetGlobalMode mode) g had ok fits holds = holds
 change_stays_true (change.SetMode subject mode) g had ok fits holds = holds
 change_stays_true (change.DropMode subject) g had ok fits holds = holds
 
--- and several, one after the other
 changes_stay_true : (cs : List Change) (g : Registry) (had : EvidenceMap) → IsRegistry g → ChangesFit cs g → IsTrueEvidence g had → IsTrueEvidence (after_changes cs g) (evidence_after_changes cs had)
 changes_stay_true [] g had ok fit holds = holds
 changes_stay_true (c ∷ cs) g had ok fit holds =
     changes_stay_true cs (after_change c g) (evidence_after_change c had) (change_fits-IsRegistry c g ok fit.0) fit.1 (change_stays_true c g had ok fit.0 holds)
 
--- so it is where what is stored takes them, with a reply
 pub taken : (changes : List Change) (keep : Option Keep) (was : Stored) (Holds : Stored → Type 0) → IsRegistry was.registry → ChangesFit changes was.registry → Holds (stored_after_apply changes keep was) → HoldsAfterChanges changes keep was Holds
 taken changes keep was Holds ok fit holds = record { holds = holds; stays_true = changes_stay_true changes was.registry was.evidence ok fit }

@@ -1,4 +1,4 @@
--- The ids of versions, of which those of one are read at a time: where their rowids are apart and as many as the rows of `against`, they are all rows.
+-- The ids of versions, read for one version at a time. If their rowids are distinct and as many as the rows of `against`, they are all rows.
 use Rattle.std.proofs.Common.{◌≡◌, ◌⊎◌, ◌↔◌, inl, inr, ℕ, ℤ, ◌≤◌, ◌<◌, List, [], ◌∷◌, ◌++◌, map, filter, flat_map, length, Bool, true, IsTrue, refl, sym, ap, subst, subst₂, ◌∙◌, arith}
 use Rattle.std.specs.Prelude.{Contains}
 use Rattle.std.specs.List.{AllByRecursion, AllZip}
@@ -24,12 +24,12 @@ use Rattle.reg_tables.specs.Contents.{version_cmp, against_form, position_cells}
 use Rattle.reg_tables.specs.Listings.{RowParts, parts_of, entry_parts, Lists, against_entry, against_rows, is_of, ListsAgainst, ListsAgainstOf}
 use Rattle.reg_tables.proofs.KeyedTables.{version_order}
 use Rattle.reg_tables.proofs.ListMembers.{has_mapped, maps_had, has_permuted}
-use Rattle.reg_tables.proofs.ListingLemmas.{same_id, same_id_swaps, apart_if_distinct, distinct_ints, distinct_if_apart, ints_distinct}
+use Rattle.reg_tables.proofs.ListingLemmas.{same_id, same_id_swaps, apart_if_distinct, distinct_ints}
 use Rattle.reg_tables.proofs.MapLemmas.{same_key, tied_key, same_or_not}
 use Rattle.reg_tables.proofs.Keys.{distinct_positions}
 use Rattle.reg_tables.proofs.VersionIds.{is_of_told}
 use Rattle.reg_rows.specs.Positions.{VersionPosition, IsContiguousFor, AreContiguous}
-use Rattle.reg_store.specs.Inside.Testing.{AreDistinct, against_fits, place_at, ArePositionsInOrder, rowids_in, JudgesVersions}
+use Rattle.reg_store.specs.Inside.TableChecks.{AreDistinct, against_fits, place_at, ArePositionsInOrder, rowids_in, JudgesVersions}
 use Rattle.reg_store.proofs.TextParts.{mapped-append}
 
 -- ---- members of lists that are joined
@@ -47,13 +47,11 @@ fit_both : (xs ys : List RawAgainst) → AllByRecursion against_fits xs → AllB
 fit_both [] ys one two = two
 fit_both (x ∷ xs) ys one two = (one.0, fit_both xs ys one.1 two)
 
--- a list that has the item has it between two others
 between : {X : Type 0} (xs : List X) (x : X) → Has xs x → (before : List X) × (after : List X) × (xs ≡ before ++ x ∷ after)
 between [] x there = absurd there
 between (a ∷ xs) x (inl is) = ([], xs, ap (λ y. y ∷ xs) (sym is))
 between (a ∷ xs) x (inr there) = let it = between xs x there in (a ∷ it.0, it.1, ap (λ l. a ∷ l) it.2)
 
--- rows that are apart and among others, and as many as these, are all of them
 all_rows_are : (xs ys : List Row) → IsAscending HaveOwnRowids xs → ((x : Row) → Has xs x → Has ys x) → length ys ≤ length xs → IsPermutation ys xs
 all_rows_are [] [] up among few = IsPermutation-refl []
 all_rows_are [] (y ∷ ys) up among few = absurd (omega (arith, few))
@@ -71,11 +69,10 @@ all_rows_are (x ∷ xs) ys up among few =
 
 -- ---- rows and lines
 
--- a row has this place
 abbrev pub HasPlace : List Row → VersionPosition → Type 0
 HasPlace rows place = (row : Row) × Has rows row × (against_form.key_of row ≡ position_cells place)
 
--- the places of a version in these rows are counted
+-- the positions of a version in these rows are the numbers from 1 to a count
 pub record Counted (rows : List Row) (version : RowKey) : Type 0 where
   pub count : ℕ
   pub positions : (position : ℕ) → HasPlace rows (version, position) ↔ ((0 < position) × (position ≤ count))
@@ -133,9 +130,6 @@ module _ (rows : List Row) (lines : List RawAgainst) (lists : Lists against_form
   pub rows_apart : AreDistinct (rowids_in lines) → IsAscending HaveOwnRowids rows
   rows_apart apart = apart_if_distinct rows (IsDistinct-IsPermutation same_id same_id_swaps (map Int (rowids_in lines)) (map rowid rows) (IsPermutation-sym (map rowid rows) (map Int (rowids_in lines)) lines_rowids) (distinct_ints (rowids_in lines) apart))
 
-  pub lines_apart : IsAscending HaveOwnRowids rows → AreDistinct (rowids_in lines)
-  lines_apart up = ints_distinct (rowids_in lines) (IsDistinct-IsPermutation same_id same_id_swaps (map rowid rows) (map Int (rowids_in lines)) lines_rowids (distinct_if_apart rows up))
-
 -- ---- the rows of a version
 
 version_cells_are : (row : Row) (place : VersionPosition) → against_form.key_of row ≡ position_cells place → column row 1 ∷ column row 2 ∷ [] ≡ column (position_cells place) 0 ∷ column (position_cells place) 1 ∷ []
@@ -160,7 +154,6 @@ module _ (rows : List Row) (version : RowKey) where
   pub close : Counted rows version → Counted (filter (is_of version) rows) version
   close it = record { count = it.count; positions = λ position. (λ h. (it.positions position).0 (widen position h), λ within. narrow position ((it.positions position).1 within)) }
 
--- no place of a version is counted
 pub uncounted : (places : List VersionPosition) (version : RowKey) → ((position : ℕ) → Contains places (version, position) → ⊥) → IsContiguousFor places version
 uncounted places version none = record { count = 0; positions = λ position. (λ h. absurd (none position h), λ within. absurd (let low = within.0 in let high = within.1 in omega (arith, low, high))) }
 
@@ -189,7 +182,6 @@ module _ (db : Database) where
       (IsPermutation-append (map (parts_of against_form) (filter (is_of version) rows)) (map (entry_parts against_form) (map against_entry lines)) (map (parts_of against_form) (rows_of versions))
       (map (entry_parts against_form) (map against_entry (joined parts))) lists.0 (all_listed versions parts lists.1))
 
-  -- each line is one of a version that was read
   pub version_read : (versions : List RowKey) (parts : List (List RawAgainst)) → Parts versions parts → (line : RawAgainst) → Has (joined parts) line → Has versions (place_at line).0
   version_read [] [] lists line there = absurd there
   version_read [] (lines ∷ parts) lists line there = absurd lists
@@ -201,7 +193,7 @@ module _ (db : Database) where
     | inr later ↦ inr (version_read versions parts lists.1 line later)
   ]
 
-  -- what is said of each part is said of the lines of each version that was read
+  -- facts about each part are facts about the rows of each version that was read
   part_of : (Q : List RawAgainst → Type 0) (versions : List RowKey) (parts : List (List RawAgainst)) → Parts versions parts → AllByRecursion Q parts → (version : RowKey) → Has versions version → (lines : List RawAgainst) × ListsAgainstOf version db lines × Q lines
   part_of Q [] parts lists all version there = absurd there
   part_of Q (first ∷ versions) [] lists all version there = absurd lists
@@ -227,7 +219,7 @@ module _ (db : Database) where
     abbrev pub against : List RawAgainst
     against = joined it.parts
 
-    -- where the rowids are apart and as many as the rows, the lines are those of all rows
+    -- if the rowids are distinct and as many as the rows, every row was read
     pub lists_all : AreDistinct rowids → length rows ≡ length rowids → ListsAgainst db against
     lists_all apart many =
         let listed = all_listed versions it.parts it.lists in
@@ -236,7 +228,6 @@ module _ (db : Database) where
         let whole = all_rows_are (rows_of versions) rows (rows_apart (rows_of versions) against listed (subst AreDistinct (sym it.have) apart)) (rows_among versions) (omega (arith, many, long, same)) in
         IsPermutation-trans (map (parts_of against_form) rows) (map (parts_of against_form) (rows_of versions)) (map (entry_parts against_form) (map against_entry against)) (IsPermutation-map (parts_of against_form) rows (rows_of versions) whole) listed
 
-    -- and they stand in order
     pub positions_if_fit : ListsAgainst db against → IsTrue fit → AreContiguous (map place_at against)
     positions_if_fit all sure version = elim (read_or_not versions version) [
       | inl there ↦

@@ -1,4 +1,4 @@
--- Versions whose ids are read one after the other, and what comes of it.
+-- Reading the ids of versions one version after the other, and the verdict.
 use Rattle.std.proofs.Common.{◌≡◌, ◌↔◌, ◌&&◌, ℕ, ℤ, ◌+◌, ◌<◌, List, [], ◌∷◌, ◌++◌, map, flat_map, take, length, get_or, Bool, true, IsTrue, refl, sym, ap, subst, ◌∙◌, append_assoc, append-nil, arith}
 use Rattle.std.specs.List.{AllByRecursion, AllZip}
 use Rattle.std.proofs.lemmas.Bool.{and_from, and_parts}
@@ -9,7 +9,7 @@ use Rattle.reg_tables.specs.declared.evidence.RawEvidence.{RawEvidence}
 use Rattle.reg_tables.specs.declared.evidence.RawAgainst.{RawAgainst}
 use Rattle.reg_tables.specs.Listings.{against_rows, greatest_integer, ListsAgainstOf, ListsEvidence}
 use Rattle.reg_store.specs.Spells.{SpellsUnopened}
-use Rattle.reg_store.specs.Inside.Testing.{AreDistinct, evidence_fits, version_at, ArePositionsInOrder, rowids_in, JudgesVersion, JudgesVersions, JudgesIds, EvidencePasses, SpellsSome}
+use Rattle.reg_store.specs.Inside.TableChecks.{AreDistinct, evidence_fits, version_at, ArePositionsInOrder, rowids_in, JudgesVersion, JudgesVersions, JudgesIds, EvidencePasses, SpellsSome}
 use Rattle.reg_store.proofs.PartsPass.{parts_passed, fits, parts_apart, parts_counted, parts_fit}
 use Rattle.reg_store.proofs.TextParts.{mapped-append}
 
@@ -44,9 +44,8 @@ versions_more db versions version rowids added a b it one = record {
       );
 }
 
--- each part of the test
-abbrev pub Passes : List RawEvidence → List ℤ → Bool → ℕ → Type 0
-Passes evidence rowids fit count = IsTrue fit × (AreDistinct (map (λ (line : RawEvidence). line.rowid) evidence) × AllByRecursion evidence_fits evidence) × (length rowids ≡ count) × AreDistinct rowids
+abbrev pub AllPass : List RawEvidence → List ℤ → Bool → ℕ → Type 0
+AllPass evidence rowids fit count = IsTrue fit × (AreDistinct (map (λ (line : RawEvidence). line.rowid) evidence) × AllByRecursion evidence_fits evidence) × (length rowids ≡ count) × AreDistinct rowids
 
 module _ (db : Database) (evidence : List RawEvidence) where
   pub next_version : (i : ℕ) (line d : RawEvidence) → i < length evidence → line ≡ get_or evidence i d → (before added after : List ℤ) (a b fit : Bool) → JudgesVersions (map version_at (take i evidence)) db before a
@@ -62,12 +61,12 @@ module _ (db : Database) (evidence : List RawEvidence) where
   -- ---- the verdict
 
   module _ (lists : ListsEvidence db evidence) (rowids : List ℤ) (fit : Bool) (count : ℕ) (it : JudgesIds (map version_at evidence) db rowids fit count) (few : length rowids < greatest_integer) where
-    pub all_passed : Passes evidence rowids fit count → EvidencePasses db
+    pub all_passed : AllPass evidence rowids fit count → EvidencePasses db
     all_passed p =
         let many : length (against_rows db) ≡ length rowids = (let same = p.2 in let counted = it.counted in omega (arith, same, counted, few)) in
         parts_passed db evidence lists rowids fit it.judged p.1 p.3 many p.0
 
-    pub none_refused : SpellsSome SpellsUnopened db → Passes evidence rowids fit count
+    pub none_refused : SpellsSome SpellsUnopened db → AllPass evidence rowids fit count
     none_refused s =
         let rows = fits db evidence lists rowids fit it.judged s in
         let many = parts_counted db evidence lists rowids fit it.judged s in

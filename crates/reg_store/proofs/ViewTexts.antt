@@ -15,7 +15,7 @@ use Rattle.reg_core.specs.Rows.{id_of, text_at}
 use Rattle.reg_core.specs.Views.{IsViewOf, rows_to_read}
 use Rattle.reg_core.proofs.IdLemmas.{text_within, text_there as id_has_text, text_at-schema, id_of-text_at, id_of-no_text}
 use Rattle.reg_tables.specs.Contents.{Contents}
-use Rattle.reg_tables.proofs.MapLemmas.{same_or_not, other_key}
+use Rattle.reg_tables.proofs.MapLemmas.{same_or_not}
 use Rattle.reg_tables.proofs.KeyedTables.{number_order}
 use Rattle.reg_core.proofs.RowLemmas.{All-mapped}
 use Rattle.reg_store.specs.Inside.Viewing.{HasText, AreTrueTexts, AddsText, PutsText, IsViewButTexts}
@@ -25,12 +25,6 @@ use Rattle.reg_store.specs.Inside.Viewing.{HasText, AreTrueTexts, AddsText, Puts
 abbrev Texts : Type 0
 Texts = BTreeMap ℕ (String Global)
 
-pub puts_text : (old new : Texts) (id : ℕ) (text : String Global) → tree.Updates nat_cmp old new id (Some text) → PutsText old new id (Some text)
-puts_text old new id text updates = record {
-  here = λ _. ap (option_map string_bytes) updates.1;
-  others = λ other apart. ap (option_map string_bytes) (updates.2 other (other_key nat_cmp number_order id other (λ e. apart (sym e))));
-}
-
 some_there : (o : Option (String Global)) → is_some o ≡ true → (text : List ℕ) × (option_map string_bytes o ≡ Some text)
 some_there None h = absurd (cc)
 some_there (Some text) h = (string_bytes text, refl)
@@ -39,13 +33,11 @@ none_there : (o : Option (String Global)) → is_some o ≡ false → option_map
 none_there None h = refl
 none_there (Some text) h = absurd (cc)
 
--- a text that is there stays
 pub text_stays : (texts : Texts) (schemas : Schemas) (id : ℕ) → is_some (tree.get nat_cmp texts id) ≡ true → AddsText texts texts schemas id
 text_stays texts schemas id there =
     let it = some_there (tree.get nat_cmp texts id) there in
     record { here = λ true_texts. it.1 ∙ sym (true_texts id it.0 it.1); kept = λ _ other h. h; true_texts = λ h. h }
 
--- a text that isn't there is put
 pub text_comes : (old new : Texts) (schemas : Schemas) (id : ℕ) (found : Option (String Global)) → is_some (tree.get nat_cmp old id) ≡ false → option_map string_bytes found ≡ text_at schemas id → PutsText old new id found → AddsText old new schemas id
 text_comes old new schemas id found absent is puts =
     let here : HasText new schemas id = puts.here (none_there (tree.get nat_cmp old id) absent) ∙ is in
@@ -69,7 +61,6 @@ true_if_empty texts schemas empty id text there =
 -- ---- ids
 
 module _ (contents : Contents) (g : Registry) (registry : IsRegistry g) (spelled : (id : ℕ) → get contents.texts id ≡ text_at g.schemas id) where
-  -- the id that was found for a text
   pub id_found : (found : Option ℕ) (text : List ℕ) → MatchOption found ((id : ℕ) → get contents.texts id ≢ Some text) (λ id. get contents.texts id ≡ Some text) → found ≡ id_of g.schemas text
   id_found None text none = go (id_of g.schemas text) refl
     where
@@ -88,7 +79,6 @@ module _ (contents : Contents) (g : Registry) (registry : IsRegistry g) (spelled
           let two = text_at-schema g.schemas other text (id_of-text_at g.schemas text other is) in
           ap Some (registry.apart id other one.0 two.0 one.1 two.1 (one.2 ∙ sym two.2))
 
-  -- no id, so no schema
   pub none_counted : ((id : ℕ) → get contents.texts id ≡ None) → 0 ≡ length g.schemas
   none_counted none = go (length g.schemas) refl
     where
@@ -109,7 +99,6 @@ module _ (contents : Contents) (g : Registry) (registry : IsRegistry g) (spelled
   some_text : (id : ℕ) (text : List ℕ) → text_at g.schemas id ≡ Some text → IsSome (get contents.texts id)
   some_text id text is = subst IsSome (sym (spelled id ∙ is)) refl
 
-  -- the greatest id is the number of schemas
   pub last_counted : (id : ℕ) → IsSome (get contents.texts id) → ((other : ℕ) → IsSome (get contents.texts other) → other ≤ id) → id ≡ length g.schemas
   last_counted id there last =
       let it = text_some id there in
@@ -125,7 +114,6 @@ module _ (contents : Contents) (g : Registry) (registry : IsRegistry g) (spelled
 abbrev with_texts : View → Texts → View
 with_texts view texts = record view { texts = texts }
 
--- the versions whose schemas are read don't depend on the texts
 reads_same : (command : Command) (view : View) (texts : Texts) → rows_to_read command (with_texts view texts) ≡ rows_to_read command view
 reads_same (SetGlobal level) view texts = refl
 reads_same (SetLevel subject level) view texts = refl

@@ -17,17 +17,15 @@ use Rattle.reg_store.specs.declared.keep.Keep.{Keep}
 use Rattle.reg_core.specs.Stored.{Stored}
 use Rattle.reg_store.specs.Spells.{stored_reply, Spells, SpellsWhileOpen}
 use Rattle.reg_store.specs.Changes.{SpellsInTransaction, TransactionContinues}
-use Rattle.reg_store.specs.Inside.Making.{IsFaultOfChange, IsFaultOfReply}
+use Rattle.reg_store.specs.Inside.Applying.{IsFaultOfChange, IsFaultOfReply}
 use Rattle.reg_store.specs.Failures.{failure_of, is_fault, IsFaultBy}
 use Rattle.reg_store.proofs.Failing.{fault_by, fault_if_by, by_until}
 use Rattle.reg_tables.proofs.Reasons.{reason_of, reason_by, fault_since}
 
--- what holds of an error by two facts
 pub if_err_both : {X E : Type 0} {P Q R : E → Type 0} (r : Result X E) → ((e : E) → P e → Q e → R e) → IfErr r P → IfErr r Q → IfErr r R
 if_err_both (Ok x) f p q = tt
 if_err_both (Err e) f p q = f e p q
 
--- what holds of the failure that an error is made to
 pub mapped_err : {X : Type 0} (Q : StoreError → Type 0) (r : Result X Error) (s : Result X StoreError) → MatchResult r (λ x. s ≡ Ok x) (λ e. IsErrAnd s (λ failure. failure ≡ failure_of e))
     → IfErr r (λ e. Q (failure_of e)) → IfErr s Q
 mapped_err Q (Ok x) (Ok y) is h = tt
@@ -39,7 +37,7 @@ pub nonempty : {X : Type 0} (xs : List X) → xs ≢ [] → 0 < length xs
 nonempty [] some = absurd (some refl)
 nonempty (x ∷ xs) some = omega arith
 
--- a later change fails as one at the start does, since the transaction goes on
+-- a later change fails as one at the start does, since the transaction continues
 pub fault_later : (first later new : State) → Survives first later (λ _. ⊥) → HasCleanDisk later → later.faults ≤ new.faults → TransactionContinues first later → (e : Error) → IsInsertFault later new e → IsInsertFault first new e
 fault_later first later new s clean up goes e (inl (inl (inl (inl store)))) = inl (inl (inl (inl (store.0, store.1, reason_by later new first new (fault_since first later new (s.closes clean) s.counts up) store.0 store.2))))
 fault_later first later new s clean up goes e (inl (inl (inl (inr stopped)))) = inl (inl (inl (inr (stopped.0, subst IsSome s.limit stopped.1))))
@@ -47,7 +45,7 @@ fault_later first later new s clean up goes e (inl (inl (inr late))) = inl (inl 
 fault_later first later new s clean up goes e (inl (inr large)) = inl (inr large)
 fault_later first later new s clean up goes e (inr rowid) = inr rowid
 
--- in a transaction with no limit on steps, memory and the disk alone fail
+-- in a transaction without a step limit, only memory and the disk fail
 module _ (s new : State) (e : Error) (unlimited : s.step_limit ≡ None) (inside : IsTrue s.in_transaction) where
   pub fault_of_write : IsWriteFault s new e → IsFaultBy s new (failure_of e)
   fault_of_write (inl fault) = fault_by s new e unlimited fault
@@ -73,12 +71,10 @@ module _ (s new : State) (e : Error) (shut : IsTrue s.is_open ⊎ IsWriteFault s
     | inr fault ↦ inl (inl fault)
   ]
 
--- a transaction that was begun shows what the connection did
 pub begun_spells : {S : Type 0} (g : Ghosts S) (conn begun : Held S) → begun ≡ record conn { in_transaction = true } → (was : Stored) → SpellsWhileOpen (state g conn) was → SpellsInTransaction (state g begun) was
 begun_spells g conn begun is was over is_open =
     subst (λ h. Spells (state g h).now was) (sym is) (over (subst (λ h. IsTrue (state g h).is_open) is is_open)).spells
 
--- a fault inside is one of the call
 module _ {S : Type 0} (g : Ghosts S) (conn begun last : Held S) (end : Held S) (is : begun ≡ record conn { in_transaction = true }) (up : (state g last).faults ≤ (state g end).faults) (e : StoreError) where
   pub of_call : IsFaultBy (state g begun) (state g last) e → IsFaultBy (state g conn) (state g end) e
   of_call h = subst (λ b. IsFaultBy (state g b) (state g end) e) is (by_until (state g begun) (state g last) (state g end) up e h)

@@ -1,4 +1,4 @@
--- Why a call of the store fails.
+-- Why a call of a store fails.
 use Rattle.std.specs.Prelude.{Bool, true, false}
 use Rattle.sqlite.specs.State.{State}
 use Rattle.sqlite.specs.declared.error.Error.{Error}

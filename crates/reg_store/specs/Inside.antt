@@ -1,6 +1,6 @@
 pub mod Viewing
-pub mod Testing
-pub mod Making
+pub mod TableChecks
+pub mod Applying
 pub mod Reads
 pub mod Evidence
 pub mod Auditing

@@ -1,4 +1,4 @@
--- What listings show of a registry.
+-- The lines of listings.
 use Rattle.std.specs.Prelude.{ℕ, Bool, true, false, List, [], ◌∷◌, codes, map, length, filter, bytes_eq, decimal, Option, None, Some, Vec, String, string_bytes}
 use Rattle.std.specs.List.{dedup, enumerate_from}
 use Rattle.std.specs.FinMap.{entries}
@@ -18,7 +18,7 @@ Fields = List (List ℕ)
 
 -- ---- the line of a version
 
--- this project's choice: how it is written whether a version is soft-deleted
+-- this project's choice: the field that shows whether a version is soft-deleted
 abbrev pub flag_text : Bool → List ℕ
 flag_text true = codes "true"
 flag_text false = codes "false"
@@ -39,7 +39,7 @@ schema_lines schemas = map (λ (entry : ℕ × List NodeView). schema_line entry
 
 -- ---- the line of a subject
 
--- Schema Registry API reference, Config: how a subject's own level is spelt; this project's choice: the empty text where it has none
+-- Schema Registry API reference, Config: the text of a subject's own level; this project's choice: empty if it has none
 abbrev pub own_text : Option Level → List ℕ
 own_text None = []
 own_text (Some level) = level_text level
@@ -48,7 +48,7 @@ own_text (Some level) = level_text level
 abbrev pub deleted_rows : List Row → List Row
 deleted_rows rows = filter (λ (row : Row). row.1.deleted) rows
 
--- this project's choice: the subject, its own level, and how many of its versions are live and how many are soft-deleted
+-- this project's choice: the subject, its own level, and the numbers of its live and of its soft-deleted versions
 abbrev pub subject_line : List ℕ → Option Level → List Row → Fields
 subject_line subject own rows = subject ∷ own_text own ∷ decimal (length (live_rows rows)) ∷ decimal (length (deleted_rows rows)) ∷ []
 
@@ -56,25 +56,23 @@ subject_line subject own rows = subject ∷ own_text own ∷ decimal (length (li
 abbrev pub subject_listed : Registry → List ℕ → Fields
 subject_listed g subject = subject_line subject (g.own subject) (rows_of g subject)
 
--- Schema Registry API reference, Subjects: the subjects of these versions, each once, where those of one subject stand side by side
+-- Schema Registry API reference, Subjects: the distinct subjects of these versions, which are sorted by subject
 abbrev pub subjects_of : List Row → List (List ℕ)
 subjects_of rows = dedup bytes_eq (map (λ (row : Row). row.0.0) rows)
 
 -- ---- listings
 
--- this project's choice: a line for each subject that has a version, a deleted one perhaps, in the order of their bytes; for each version, in the order of
--- subjects and numbers; for each schema, in the order of ids
+-- This project's choice: a line for each subject that has a version, perhaps a soft-deleted one, in the order of their bytes; for each version, in the order of
+-- subjects and numbers; for each schema, in the order of ids.
 abbrev pub listing_lines : Listing → Registry → List Fields
 listing_lines Subjects g = map (subject_listed g) (subjects_of (entries g.rows))
 listing_lines Versions g = map version_line (entries g.rows)
 listing_lines AllSchemas g = schema_lines g.schemas
 
--- ---- what is answered
+-- ---- the texts of returned lines
 
--- the texts of one line
 abbrev pub fields_of : Vec (String Global) Global → Fields
 fields_of line = map string_bytes line.items
 
--- the texts of all lines
 abbrev pub lines_of : Vec (Vec (String Global) Global) Global → List Fields
 lines_of lines = map fields_of lines.items

@@ -1,4 +1,4 @@
--- The rows of the tables as lines, and the databases that `Store::open` accepts and rejects.
+-- The databases that `Store::open` accepts and rejects.
 use Rattle.std.specs.Prelude.{◌≡◌, ◌≢◌, ◌⊎◌, ◌<◌, ℕ, List, Bool, IsTrue, length, nat_lt, codes, Some, if◌then◌else◌}
 use Rattle.sqlite.specs.Order.{Row}
 use Rattle.sqlite.specs.Tree.{Trees}
@@ -42,7 +42,6 @@ meta_columns line = (line.name, line.value)
 
 -- ---- databases
 
--- one of the rows has this name and this value
 abbrev pub HasMetaRow : List Row → List ℕ → List ℕ → Type 0
 HasMetaRow rows name value = (row : Row) × Has rows row × IsEntry pair_form row name value
 
@@ -53,11 +52,11 @@ pub record RowsNameLayout (rows : List Row) (number : ℕ) : Type 0 where
   pub layout : HasMetaRow rows (codes "layout") text
   pub is : number_in text ≡ Some number
 
--- in a database that begins with the five tables, the rows of `meta` do
+-- in a database that begins with the five tables, the rows of `meta` name this layout
 abbrev pub NamesLayout : Database → ℕ → Type 0
 NamesLayout db number = RowsNameLayout (db.trees meta.tree) number
 
--- in any database, the rows that SQLite returns for `meta` do, be `meta` a table or a view
+-- in any database, the rows that SQLite returns for `meta`, a table or a view, name this layout
 pub record ShowsLayout (db : Database) (number : ℕ) : Type 0 where
   pub rows : List Row
   pub shows : ShowsMeta db rows
@@ -73,7 +72,7 @@ pub record HasOtherLayout (own : ℕ) (db : Database) (number : ℕ) : Type 0 wh
 abbrev pub layout_error : ℕ → ℕ → StoreError
 layout_error own number = if nat_lt number own then OldLayout number else NewerLayout number
 
--- an error with a number has the number from the rows of `meta`, and the layout is older or newer than this one
+-- a number in the error comes from the rows of `meta`, and is that of an older or newer layout
 abbrev pub HasMetaNumberOf : ℕ → Database → StoreError → Type 0
 HasMetaNumberOf own db (OldLayout number) = (0 < number) × (number < own) × ShowsLayout db number × (HasFiveTables db.schema → NamesLayout db number)
 HasMetaNumberOf own db (NewerLayout number) = (own < number) × ShowsLayout db number × (HasFiveTables db.schema → NamesLayout db number)
@@ -101,7 +100,7 @@ pub record IsIndexed (before : Database) (db : Trees) : Type 0 where
   pub found : LacksIndex before
   pub indexed : (held : Contents) → HoldsContents layout_two_unindexed before held → HoldsContents layout_two_indexed_last (record { schema = layout_two_indexed_last; trees = db }) held
 
--- the trees spell what is stored, with or without the index
+-- the trees spell the stored state, with or without the index
 abbrev pub RecoversToUnopened : Trees → Stored → Type 0
 RecoversToUnopened = RecoversToIn IsOpenable IsSpelledLayoutTwo
 
@@ -109,7 +108,7 @@ RecoversToUnopened = RecoversToIn IsOpenable IsSpelledLayoutTwo
 abbrev pub CrashKeepsStored : State → State → Type 0
 CrashKeepsStored old new = IsTrue old.is_open → (was : Stored) → SpellsUnopened old.now was → (db : Trees) → new.may_leave db → RecoversToUnopened db was
 
--- the tables spelled what is stored, and the connection is open and its last commit spells the same
+-- the tables spelled the stored state, and the connection is open and its last commit spells the same
 pub record OpensOver (old new : State) : Type 0 where
   pub stored : Stored
   pub spelled : SpellsUnopened old.now stored
@@ -119,7 +118,7 @@ pub record OpensOver (old new : State) : Type 0 where
 abbrev pub HasVersionRows : Database → ℕ → Type 0
 HasVersionRows db count = count ≡ length (db.trees versions.tree)
 
--- the tables of layout 1 spell what is stored, and `versions` has this number of rows
+-- the tables of layout 1 spell the stored state, and `versions` has this number of rows
 pub record FindsLayoutOne (db : Database) (count : ℕ) : Type 0 where
   pub stored : Stored
   pub spells : SpellsLayoutOne db stored

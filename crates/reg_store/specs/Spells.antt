@@ -31,7 +31,7 @@ stored_reply entry = record { command = entry.command; status = entry.reply.stat
 abbrev pub stored_version : Version → VersionEntryView
 stored_version version = record { id = version.id; deleted = version.deleted }
 
--- this project's choice: a retry key, the status of a reply that is kept, and two texts
+-- this project's choice: a valid retry key, the status of a kept reply, and two texts
 pub record CanBeKept (key : List ℕ) (entry : KeptEntry) : Type 0 where
   pub is_key : IsKey key
   pub status : IsKeptStatus entry.reply.status
@@ -55,17 +55,17 @@ pub record IsSpelled (contents : Contents) (g : Registry) (k : Kept) : Type 0 wh
 -- ---- layout 1
 
 -- this project's choice: the registry's mode is READWRITE, and no subject has its own mode
-pub record HasNoModes (g : Registry) : Type 0 where
+pub record HasDefaultModes (g : Registry) : Type 0 where
   pub global : g.global_mode ≡ Readwrite
   pub own : (subject : List ℕ) → g.own_modes subject ≡ None
 
--- this project's choice: the contents of layout 1 spell what is stored
+-- this project's choice: the contents of layout 1 spell the stored state
 pub record IsSpelledLayoutOne (contents : Contents) (was : Stored) : Type 0 where
   pub base : IsSpelled contents was.registry was.replies
-  -- the format, the layout and the global level, and no more
+  -- only the format, the layout and the global level
   pub meta : contents.meta ≡ meta_of_layout_one (level_text was.registry.global)
-  -- layout 1 has no place for modes, and none for evidence
-  pub modes : HasNoModes was.registry
+  -- layout 1 has neither modes nor evidence
+  pub modes : HasDefaultModes was.registry
   pub evidence : was.evidence ≡ empty
 
 -- ---- layout 2
@@ -74,7 +74,7 @@ pub record IsSpelledLayoutOne (contents : Contents) (was : Stored) : Type 0 wher
 abbrev pub layout_two_meta : List ℕ → List ℕ → TextMap (List ℕ)
 layout_two_meta level mode = insert (meta_of_layout (codes "2") level) (codes "mode") mode
 
--- this project's choice: the id at a position, counted from 1, of those that a version was tested against
+-- this project's choice: the id at a position, counted from 1, of those that a version was checked against
 abbrev pub id_at : ℕ → Evidence → Option ℕ
 id_at zero one = None
 id_at (suc n) one = slice_get one.against n
@@ -85,7 +85,7 @@ pub record IsSpelledEvidence (contents : Contents) (evidence : EvidenceMap) : Ty
   pub ids : (place : PositionKey) → get contents.against place ≡ option_and_then (id_at place.1) (get evidence place.0)
   pub few : (key : RowKey) (one : Evidence) → get evidence key ≡ Some one → length one.against < 2 ^ 32
 
--- this project's choice: the contents of layout 2 spell what is stored
+-- this project's choice: the contents of layout 2 spell the stored state
 pub record IsSpelledLayoutTwo (contents : Contents) (was : Stored) : Type 0 where
   pub base : IsSpelled contents was.registry was.replies
   pub meta : contents.meta ≡ layout_two_meta (level_text was.registry.global) (mode_text was.registry.global_mode)
@@ -95,7 +95,7 @@ pub record IsSpelledLayoutTwo (contents : Contents) (was : Stored) : Type 0 wher
 
 -- ---- databases
 
--- this project's choice: the database has one of these schemas, and its tables hold contents that spell what is stored so
+-- this project's choice: the database has one of these schemas, and its tables hold contents that spell the stored state
 pub record SpellsIn (IsAllowed : Schema → Type 0) (Spelled : Contents → Stored → Type 0) (db : Database) (was : Stored) : Type 0 where
   pub schema : Schema
   pub known : IsAllowed schema
@@ -103,7 +103,7 @@ pub record SpellsIn (IsAllowed : Schema → Type 0) (Spelled : Contents → Stor
   pub holds : HoldsContents schema db contents
   pub spelled : Spelled contents was
 
--- this project's choice: the tables are those of layout 2 and spell what is stored
+-- this project's choice: the tables are those of layout 2 and spell the stored state
 abbrev pub Spells : Database → Stored → Type 0
 Spells = SpellsIn IsLayoutTwo IsSpelledLayoutTwo
 
@@ -111,16 +111,16 @@ Spells = SpellsIn IsLayoutTwo IsSpelledLayoutTwo
 abbrev pub SpellsUnopened : Database → Stored → Type 0
 SpellsUnopened = SpellsIn IsOpenable IsSpelledLayoutTwo
 
--- this project's choice: the tables are those of layout 1, with or without the index, and spell what is stored
+-- this project's choice: the tables are those of layout 1, with or without the index, and spell the stored state
 abbrev pub SpellsLayoutOne : Database → Stored → Type 0
 SpellsLayoutOne = SpellsIn IsLayoutOne IsSpelledLayoutOne
 
--- this project's choice: a crash leaves the tables of one of these schemas, and they spell what is stored so
+-- this project's choice: a crash leaves tables of one of these schemas, which spell the stored state
 pub record RecoversToIn (IsAllowed : Schema → Type 0) (Spelled : Contents → Stored → Type 0) (db : Trees) (was : Stored) : Type 0 where
   pub schema : Schema
   pub spells : SpellsIn IsAllowed Spelled (record { schema = schema; trees = db }) was
 
--- this project's choice: a crash leaves the tables of layout 2, and they spell what is stored
+-- this project's choice: a crash leaves the tables of layout 2, and they spell the stored state
 abbrev pub RecoversTo : Trees → Stored → Type 0
 RecoversTo = RecoversToIn IsLayoutTwo IsSpelledLayoutTwo
 
@@ -130,7 +130,7 @@ RecoversToLayoutOne = RecoversToIn IsLayoutOne IsSpelledLayoutOne
 
 -- ---- connections
 
--- SQLite, transactions: the connection is open outside a transaction, and its last commit spells what is stored
+-- SQLite, transactions: the connection is open outside a transaction, and its last commit spells the stored state
 pub record IsOpenIn (Spelled : Database → Stored → Type 0) (s : State) (was : Stored) : Type 0 where
   pub is_open : IsTrue s.is_open
   pub settled : s.committed ≡ s.now
@@ -144,6 +144,6 @@ IsOpenOver = IsOpenIn Spells
 abbrev pub IsOpenOverLayoutOne : State → Stored → Type 0
 IsOpenOverLayoutOne = IsOpenIn SpellsLayoutOne
 
--- SQLite, transactions: if the connection is still open, its last commit spells what is stored; a fault may have closed it
+-- SQLite, transactions: if the connection is still open, its last commit spells the stored state; a fault may have closed it
 abbrev pub SpellsWhileOpen : State → Stored → Type 0
 SpellsWhileOpen s was = IsTrue s.is_open → IsOpenOver s was

@@ -46,15 +46,15 @@ pub record KeepsOpen (old new : State) : Type 0 where
   pub stays_closed : HasCleanDisk new → IsTrue new.is_open → IsTrue old.is_open
   pub closes : HasCleanDisk new → IsTrue old.is_open → IsTrue new.is_open ⊎ MoreFaults old.faults new.faults
 
--- This project's choice: what a failed call leaves of the connection that it returns. Nothing has changed; after an error other than `Disk`, nothing has
--- changed after a crash either.
+-- This project's choice: what a failed call leaves of the connection that it returns. Nothing has changed; after an error other than `Disk`, a crash changes
+-- nothing either.
 pub record KeepsConnection (old new : State) (e : StoreError) : Type 0 where
   pub nothing : HasCleanDisk new → OnlyReads old new
   pub before : HasCleanDisk new → IsTrue old.is_open → KeepsCrashStates old new e
   pub closes : HasCleanDisk new → IsTrue old.is_open → IsTrue new.is_open ⊎ MoreFaults old.faults new.faults
   pub settled : RecoversLastCommit new
 
--- This project's choice: why `create` fails, and what it leaves. In an empty database memory or a disk fault is the cause. A crash may leave the new registry.
+-- This project's choice: why `create` fails, and what it leaves. In an empty database, memory or a disk fault is the cause. A crash may leave the new registry.
 pub record IsCreateFailure (RecoversToNew : Trees → Type 0) (old new : State) (e : StoreError) : Type 0 where
   pub fault : HasCleanDisk new → old.now.schema ≡ no_schema → IsFaultBy old new e
   pub leaves : KeepsConnection old new e
@@ -85,7 +85,7 @@ pub record KeepsBorrowed {S T : Type 0} {g : Ghosts S} (old new : Store S g) (re
 abbrev pub StillSpells : State → State → Type 0
 StillSpells old new = (was : Stored) → SpellsWhileOpen old was → SpellsWhileOpen new was
 
--- This project's choice: what a call that only reads returns and leaves. `Ok` has facts about what is stored. `Err` is a fault, unless the store had failed
+-- This project's choice: what a call that only reads returns and leaves. `Ok` has facts about the stored state. `Err` is a fault, unless the store had failed
 -- before (`WasUsable`).
 pub record AnswersFromStored {T : Type 0} (old new : State) (WasUsable : Type 0) (result : Result T StoreError) (IsAnswer : Stored → T → Type 0) : Type 0 where
   pub answers : (was : Stored) → SpellsWhileOpen old was → MatchResult result (IsAnswer was) (λ e. WasUsable → IsFaultBy old new e)

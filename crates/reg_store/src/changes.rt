@@ -1,11 +1,11 @@
-//! Changes of the tables, in a transaction. Whatever a call answers, nothing is committed.
+//! Changes of the tables in a transaction. No call commits.
 
 ghost use Rattle.std.specs.Prelude.{◌≢◌, [], OnOk, IfErr, IfSome, IsSome, IsTrue};
 ghost use Rattle.sqlite.specs.State.{HasCleanDisk};
 ghost use Rattle.reg_core.specs.declared.decision.Change.TheVariants.{AddRow};
 ghost use Rattle.reg_tables.specs.Frames.{state_in, RunsInTransaction, KeepsTransaction};
 ghost use Rattle.reg_store.specs.Changes.{IsKeepable, TransactionContinues};
-ghost use Rattle.reg_store.specs.Inside.Making.{StoresChange, StoresChanges, StoresReply, IsFaultOfChange, IsFaultOfChanges, IsFaultOfReply, PutsIds, IsFaultOfIds, PutsOwn, IsFaultOfOwn};
+ghost use Rattle.reg_store.specs.Inside.Applying.{StoresChange, StoresChanges, StoresReply, IsFaultOfChange, IsFaultOfChanges, IsFaultOfReply, PutsIds, IsFaultOfIds, PutsOwn, IsFaultOfOwn};
 
 use crate::keep::Keep;
 use reg_core::{Change, Evidence, Row};
@@ -15,11 +15,11 @@ use reg_tables::{
 };
 use sqlite::{Alter, Error, ErrorCode, Transaction};
 
-/// Puts the ids that a version was tested against, at the positions from 1 on.
+/// Adds the ids that a version was checked against, at the positions from 1 on.
 ///
 /// # Errors
 ///
-/// As `reg_tables::put_against`; `TooBig` also where there are more ids than positions.
+/// As `reg_tables::put_against`; also `TooBig` if there are more ids than positions.
 fn put_ids<S: Alter>(
     tx: &mut Transaction<'_, S>,
     subject: &str,
@@ -45,7 +45,7 @@ fn put_ids<S: Alter>(
     Ok(())
 }
 
-/// Puts what a version was admitted by.
+/// Adds the evidence of a version.
 fn put_own<S: Alter>(
     tx: &mut Transaction<'_, S>,
     subject: &str,
@@ -62,7 +62,7 @@ fn put_own<S: Alter>(
     put_ids(tx, subject, number, own.against())
 }
 
-/// Puts a version, and what it was admitted by.
+/// Adds a version and its evidence.
 fn put_row<S: Alter>(tx: &mut Transaction<'_, S>, row: &Row, own: &Evidence) -> Result<(), Error>
     ensures frame { RunsInTransaction S.Store tx.old tx.new result }
     ensures made { HasCleanDisk (state_in S.Store tx.new)
@@ -75,8 +75,7 @@ fn put_row<S: Alter>(tx: &mut Transaction<'_, S>, row: &Row, own: &Evidence) -> 
     put_own(tx, subject, row.version(), own)
 }
 
-/// Makes one change.
-fn make<S: Alter>(tx: &mut Transaction<'_, S>, change: &Change) -> Result<(), Error>
+fn apply_change<S: Alter>(tx: &mut Transaction<'_, S>, change: &Change) -> Result<(), Error>
     ensures frame { RunsInTransaction S.Store tx.old tx.new result }
     ensures made { HasCleanDisk (state_in S.Store tx.new)
         → OnOk result (StoresChange (state_in S.Store tx.old) (state_in S.Store tx.new) change.now) }
@@ -97,8 +96,8 @@ fn make<S: Alter>(tx: &mut Transaction<'_, S>, change: &Change) -> Result<(), Er
     }
 }
 
-/// Makes the changes, in order.
-pub(crate) fn make_all<S: Alter>(
+/// Applies the changes in order.
+pub(crate) fn apply_changes<S: Alter>(
     tx: &mut Transaction<'_, S>,
     changes: &[Change],
 ) -> Result<(), Error>
@@ -113,12 +112,12 @@ pub(crate) fn make_all<S: Alter>(
         → IfErr result (IsFaultOfChanges (state_in S.Store tx.old) (state_in S.Store tx.new) changes.now) }
 {
     for change in changes {
-        make(tx, change)?;
+        apply_change(tx, change)?;
     }
     Ok(())
 }
 
-/// Keeps a reply, if there is one to keep.
+/// Stores the reply, if any.
 pub(crate) fn keep_reply<S: Alter>(
     tx: &mut Transaction<'_, S>,
     keep: Option<Keep<'_>>,

@@ -1,4 +1,4 @@
-//! Why a call of the store fails.
+//! Why a call of a store fails.
 
 ghost use Rattle.std.specs.Prelude.{◌≡◌};
 ghost use Rattle.sqlite.specs.declared.error.Error.TheVariants.{SqliteFailure};
@@ -9,7 +9,7 @@ use sqlite::{Constraint, ErrorCode};
 use std::alloc::AllocError;
 use thiserror::Error;
 
-/// Why a call of the store fails. A failed call changes nothing.
+/// Why a call of a store fails. A failed call changes nothing.
 #[derive(Clone, Copy, Debug, PartialEq, Eq, Error)]
 pub enum StoreError {
     /// Allocation failed. The store stays usable.
@@ -66,7 +66,7 @@ impl From<OutOfMemory> for StoreError {
     }
 }
 
-/// The failure that a code of `sqlite` is.
+/// The store's error for an error code of SQLite.
 fn failure_with(code: ErrorCode) -> StoreError
     ensures { result ≡ failure_of (SqliteFailure code) }
 {
@@ -78,8 +78,8 @@ fn failure_with(code: ErrorCode) -> StoreError
         | ErrorCode::TooBig
         | ErrorCode::NoRowid
         | ErrorCode::Closed => StoreError::Disk,
-        // SQLite chose a rowid that a row already has. In a file whose rows are in the order of
-        // their rowids this can't happen: the file is damaged.
+        // SQLite chose a rowid that another row has. This can't happen in a file whose rows are in
+        // the order of their rowids: the file is damaged.
         ErrorCode::ConstraintViolation(Constraint::PrimaryKey) => StoreError::Disk,
         _ => StoreError::NotARegistry,
     }

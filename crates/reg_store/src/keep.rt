@@ -13,7 +13,6 @@ pub struct Keep<'a> {
 }
 
 impl<'a> Keep<'a> {
-    /// The command's text.
     pub(crate) fn text(&self) -> &'a str
         ensures { result.now ≡ self.now.command.now }
     {

@@ -1,4 +1,4 @@
-//! Which tables a database has.
+//! The two layouts of the tables.
 
 /// A layout of the tables.
 #[derive(Clone, Copy, Debug, PartialEq, Eq)]

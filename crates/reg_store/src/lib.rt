@@ -1,20 +1,21 @@
-//! A registry and its kept replies in a database: made, read and changed in whole transactions.
+//! A schema registry and its kept replies in a database: created, read and changed in whole
+//! transactions.
 //!
-//! What a call says of the tables holds where the disk has returned what was written to it
+//! Clauses about the tables are true if the disk has returned what was written to it
 //! (`HasCleanDisk`).
 
 #![tactic(auto)]
 
 mod changes;
+mod conn;
 mod error;
-mod idle;
 mod keep;
 mod layout;
 mod listing;
 mod open_connection;
 mod rowids;
 mod store;
-mod testing;
+mod table_checks;
 
 pub use error::StoreError;
 pub use keep::Keep;

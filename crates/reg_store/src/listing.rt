@@ -1,13 +1,13 @@
-//! What can be listed.
+//! The kinds of listings.
 
-/// What a listing is of.
+/// A kind of listing.
 #[derive(Clone, Copy, Debug, PartialEq, Eq)]
 pub enum Listing {
-    /// The subjects that have versions, each with its own level, and how many of its versions are
-    /// live and how many are soft-deleted.
+    /// The subjects that have versions: each with its own level and its numbers of live and of
+    /// soft-deleted versions.
     Subjects,
-    /// The versions of all subjects, soft-deleted ones too.
+    /// The versions of all subjects, including soft-deleted ones.
     Versions,
-    /// The schemas, by their ids.
+    /// The schemas in the order of their ids.
     Schemas,
 }

@@ -6,17 +6,16 @@ ghost use Rattle.reg_tables.specs.Frames.{ReadsInAutocommit};
 ghost use Rattle.reg_store.specs.Failures.{IsFaultBy, is_fault};
 ghost use Rattle.reg_store.specs.Inside.Reads.{shown};
 
+use crate::conn::Conn;
 use crate::error::StoreError;
-use crate::idle::StoreConnection;
 use sqlite::Alter;
 
 /// Fails if the connection is closed. It prepares a statement that reads no table, which SQLite
 /// does only over an open connection.
-pub(crate) fn require_open<S: Alter>(db: &mut StoreConnection<S>) -> Result<(), StoreError>
+pub(crate) fn require_open<S: Alter>(db: &mut Conn<S>) -> Result<(), StoreError>
     ensures frame { ReadsInAutocommit S.Store db.old.idle.conn db.new.idle.conn result }
     ensures is_open { HasCleanDisk (shown db.new) → OnOk result (IsTrue (shown db.new).is_open) }
-    ensures fault { HasCleanDisk (shown db.new)
-        → IfErr result (IsFaultBy (shown db.old) (shown db.new)) }
+    ensures fault { HasCleanDisk (shown db.new) → IfErr result (IsFaultBy (shown db.old) (shown db.new)) }
 {
     let prepared = db.idle.conn.prepare("SELECT 1");
     let _idle = db.idle.conn.is_autocommit();
@@ -26,8 +25,8 @@ pub(crate) fn require_open<S: Alter>(db: &mut StoreConnection<S>) -> Result<(), 
     }
 }
 
-/// Passes on `Memory` and `Disk`. With any other error SQLite rejects the statement, and does so
-/// only over an open connection.
+/// Passes on `Memory` and `Disk`. Any other error means that SQLite rejected the statement, which
+/// it does only over an open connection.
 fn only_fault(error: StoreError) -> Result<(), StoreError>
     ensures ok { OnOk result (IsTrue (not (is_fault error))) }
     ensures err { IfErr result (λ e. (e ≡ error) × IsTrue (is_fault error)) }

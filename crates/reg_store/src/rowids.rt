@@ -1,10 +1,10 @@
-//! Rowids, none of which may come twice.
+//! Duplicate rowids.
 
 ghost use Rattle.std.specs.Prelude.{◌↔◌, IsTrue};
-ghost use Rattle.reg_store.specs.Inside.Testing.{AreDistinct};
+ghost use Rattle.reg_store.specs.Inside.TableChecks.{AreDistinct};
 
-/// Whether no number comes twice. It sorts them.
-pub(crate) fn are_apart(numbers: &mut [i64]) -> bool
+/// Whether the numbers are distinct. Sorts them.
+pub(crate) fn are_distinct(numbers: &mut [i64]) -> bool
     ensures { IsTrue result ↔ AreDistinct numbers.old }
 {
     numbers.sort_unstable();

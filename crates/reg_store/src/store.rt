@@ -1,23 +1,22 @@
 //! The store.
 
-use crate::idle::StoreConnection;
+use crate::conn::Conn;
 use sqlite::Alter;
 use std::alloc::Global;
 
 mod applying;
 mod auditing;
-mod behind;
 mod checking;
 mod chosen;
+mod creating;
 mod cursor;
-mod few;
-mod known;
+mod last_with_id;
 mod levels;
 mod line_iterator;
 mod lines;
 mod listing;
-mod making;
 mod modes;
+mod next_rows;
 mod opening;
 mod reading;
 mod rows;
@@ -25,18 +24,19 @@ mod schema_lines;
 mod settings;
 mod stepping;
 mod subject_lines;
+mod sufficient_rows;
 mod texts;
 mod viewing;
 
 pub use checking::check_first;
+pub use creating::create_first;
 pub use line_iterator::Lines;
-pub use making::create_first;
 
-/// A registry and its kept replies in a database. Contracts see what its connection shows
-/// (`state_of`), and whether the disk has failed (`has_failed`).
+/// A schema registry and its kept replies in a database. Contracts use the state of its connection
+/// (`state_of`) and whether the disk has failed (`has_failed`).
 #[derive(Drop)]
 pub struct Store<S: Alter> {
     alloc: Global,
-    db: StoreConnection<S>,
+    db: Conn<S>,
     failed: bool,
 }

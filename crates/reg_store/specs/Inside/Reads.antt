@@ -1,4 +1,4 @@
--- What a call says that only reads what is stored.
+-- The clauses of functions that only read the stored state.
 use Rattle.std.specs.Prelude.{◌≡◌, IsTrue, Result, OnOk, MatchResult}
 use Rattle.sqlite.specs.Schema.{Schema}
 use Rattle.sqlite.specs.Effect.{Database}
@@ -6,18 +6,18 @@ use Rattle.sqlite.specs.Held.{state}
 use Rattle.sqlite.specs.State.{State, HasCleanDisk, KeepsCommit, Survives}
 use Rattle.sqlite_trees.specs.declared.store.Store.{Ghosts}
 use Rattle.reg_store.specs.declared.error.StoreError.{StoreError}
-use Rattle.reg_store.specs.declared.idle.StoreConnection.{StoreConnection}
+use Rattle.reg_store.specs.declared.conn.Conn.{Conn}
 use Rattle.reg_core.specs.Stored.{Stored}
 use Rattle.reg_tables.specs.Layout.{HasFiveTables}
 use Rattle.reg_tables.specs.Contents.{Contents, HoldsContents, AreReadable}
 use Rattle.reg_store.specs.Spells.{IsSpelled, SpellsWhileOpen}
 use Rattle.reg_store.specs.Failures.{IsFaultBy}
 
--- SQLite, transactions: what the connection shows
-abbrev pub shown : {S : Type 0} {g : Ghosts S} → StoreConnection S g → State
+-- SQLite, transactions: the state of the connection
+abbrev pub shown : {S : Type 0} {g : Ghosts S} → Conn S g → State
 shown {S} {g} db = state g db.idle.conn
 
--- the five tables that each layout has come first, hold what can be read, and spell a registry, but for its modes, and kept replies
+-- the five tables of both layouts come first, can be read, and spell kept replies and a registry without its modes
 pub record SpellsBase (db : Database) (was : Stored) : Type 0 where
   pub schema : Schema
   pub first : HasFiveTables schema
@@ -26,18 +26,18 @@ pub record SpellsBase (db : Database) (was : Stored) : Type 0 where
   pub readable : AreReadable contents
   pub spelled : IsSpelled contents was.registry was.replies
 
--- nothing is committed, and a connection that showed its last commit shows it still
+-- nothing is committed, and a connection that showed its last commit still shows it
 pub record CommitsNothing (old new : State) : Type 0 where
   pub commit_stays : HasCleanDisk new → KeepsCommit old new
   pub settled : HasCleanDisk new → IsTrue new.is_open → old.now ≡ old.committed → new.now ≡ new.committed
   pub survives : Survives old new (λ _. ⊥)
 
--- A call that reads what is stored, if it reads at all, changes nothing. Where the tables spell what is stored, an Ok tells of it, and an Err is a fault.
-pub record MayRead {S X : Type 0} {g : Ghosts S} (old new : StoreConnection S g) (result : Result X StoreError) (IsAnswer : Stored → X → Type 0) : Type 0 where
+-- A call that changes nothing and may read the stored state. If the tables spell it, `Ok` has facts about it, and `Err` is a fault.
+pub record MayRead {S X : Type 0} {g : Ghosts S} (old new : Conn S g) (result : Result X StoreError) (IsAnswer : Stored → X → Type 0) : Type 0 where
   pub rests : CommitsNothing (shown old) (shown new)
   pub answers : HasCleanDisk (shown new) → (was : Stored) → SpellsWhileOpen (shown old) was → MatchResult result (IsAnswer was) (IsFaultBy (shown old) (shown new))
 
--- a call that surely reads it: what it answers was read over an open connection
-pub record Reads {S X : Type 0} {g : Ghosts S} (old new : StoreConnection S g) (result : Result X StoreError) (IsAnswer : Stored → X → Type 0) : Type 0 where
+-- a call that reads the stored state on every path: it succeeds only over an open connection
+pub record Reads {S X : Type 0} {g : Ghosts S} (old new : Conn S g) (result : Result X StoreError) (IsAnswer : Stored → X → Type 0) : Type 0 where
   pub may : MayRead old new result IsAnswer
   pub was_open : HasCleanDisk (shown new) → OnOk result (IsTrue (shown old).is_open)

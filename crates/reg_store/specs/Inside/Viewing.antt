@@ -1,4 +1,4 @@
--- What a view is read by.
+-- The parts of a view.
 use Rattle.std.specs.Prelude.{◌≡◌, ◌≢◌, ◌⊎◌, ◌<◌, ◌≤◌, ◌&&◌, ◌||◌, ℕ, Bool, true, false, not, bytes_eq, IsTrue, List, All, find, length, String, string_bytes, Option, None, Some, option_map, option_and_then}
 use Rattle.std.specs.List.{Contains}
 use Rattle.std.specs.BTreeMap as tree
@@ -20,75 +20,72 @@ use Rattle.reg_tables.specs.Entries.{SubjectVersionView, ListedVersionView, vers
 
 -- ---- settings
 
--- the value of the first line of `meta` that has the name
+-- the value of the first row of `meta` with this name
 abbrev pub value_in : List ℕ → List RawMeta → Option (List ℕ)
 value_in name lines = option_map (λ (line : RawMeta). string_bytes line.value) (find (λ (line : RawMeta). bytes_eq (string_bytes line.name) name) lines)
 
 -- ---- rows
 
--- the version that a row of `versions` is of
 abbrev pub version_spelled : VersionEntryView → Version
 version_spelled row = record { id = row.id; deleted = row.deleted }
 
 abbrev pub row_spelled : ListedVersionView → Row
 row_spelled entry = (entry.0, version_spelled entry.1)
 
--- the same, where the subject is known
 abbrev pub row_numbered : List ℕ → SubjectVersionView → Row
 row_numbered subject entry = ((subject, entry.0), version_spelled entry.1)
 
--- these versions are some of those, in any order, and all of them where they are fewer than `versions_limit`
+-- these are some of those versions in any order, and all of them if they are fewer than `versions_limit`
 pub record AreSome (rows all : List Row) : Type 0 where
   pub each : (row : Row) → Contains rows row → Contains all row
   pub few : length rows < versions_limit → (row : Row) → Contains all row → Contains rows row
 
--- the version is of the subject, and is shown
 abbrev pub is_shown_of : Bool → List ℕ → Row → Bool
 is_shown_of deleted subject row = bytes_eq row.0.0 subject && (deleted || not row.1.deleted)
 
--- among these versions it is the last one of the subject that is shown, if there is one
+-- the last shown version of the subject among these, or `None`
 abbrev pub IsLastShown : Bool → List ℕ → List Row → Option Row → Type 0
 IsLastShown deleted subject rows None = All (λ row. is_shown_of deleted subject row ≡ false) rows
 IsLastShown deleted subject rows (Some last) =
     Contains rows last × (is_shown_of deleted subject last ≡ true) × All (λ row. is_shown_of deleted subject row ≡ true → row.0.1 ≤ last.0.1) rows
 
--- the line with the greater number, if there are two
+-- the version with the greater number
 abbrev pub IsLaterOf : Option ListedVersion → ListedVersion → ListedVersion → Type 0
 IsLaterOf None line result = result ≡ line
 IsLaterOf (Some before) line result = ((result ≡ before) × (line.number ≤ before.number)) ⊎ ((result ≡ line) × (before.number ≤ line.number))
 
--- this project's choice: the text in the line's first column is a subject
+-- this project's choice: the text in the row's first column is a valid subject
 abbrev pub HasSubject : ListedVersion → Type 0
 HasSubject line = IsTrue (is_subject (string_bytes line.subject))
 
 -- ---- texts
 
--- the text that is there for an id, if one is
+-- the text of the id in the map, or `None`
 abbrev pub text_there : BTreeMap ℕ (String Global) → ℕ → Option (List ℕ)
 text_there texts id = option_map string_bytes (tree.get nat_cmp texts id)
 
--- the id has the text that is there
+-- the map has the id's text, if the id has one
 abbrev pub HasText : BTreeMap ℕ (String Global) → Schemas → ℕ → Type 0
 HasText texts schemas id = text_there texts id ≡ text_at schemas id
 
--- each text that is there is the id's
+-- each text in the map is that of its id
 abbrev pub AreTrueTexts : BTreeMap ℕ (String Global) → Schemas → Type 0
 AreTrueTexts texts schemas = (id : ℕ) (text : List ℕ) → text_there texts id ≡ Some text → text_at schemas id ≡ Some text
 
--- the text of one id is added, if it has one, where the texts were true
+-- the text of the id is added if it has one, and a true map stays true
 pub record AddsText (old new : BTreeMap ℕ (String Global)) (schemas : Schemas) (id : ℕ) : Type 0 where
   pub here : AreTrueTexts old schemas → HasText new schemas id
   pub kept : AreTrueTexts old schemas → (other : ℕ) → HasText old schemas other → HasText new schemas other
   pub true_texts : AreTrueTexts old schemas → AreTrueTexts new schemas
 
--- the text is put under the id, if there is one and none was
+-- the text, if any, is added for an id that had none in the map
 pub record PutsText (old new : BTreeMap ℕ (String Global)) (id : ℕ) (found : Option (String Global)) : Type 0 where
   pub here : text_there old id ≡ None → text_there new id ≡ option_map string_bytes found
   pub others : (other : ℕ) → other ≢ id → text_there new other ≡ text_there old other
 
 -- ---- views
 
--- the view shows what the command needs of the registry, but for the texts
+-- the view shows what the command needs of the registry, without the texts
 pub record IsViewButTexts (view : View) (g : Registry) (command : Command) : Type 0 where
   pub rows : SufficeFor (level_of_view view) view.known (row_needs command) view.rows.items (rows_needed g (subject_of command) (row_needs command))
   pub levels : IsTrue (needs_levels command) → (view.own ≡ option_and_then g.own (subject_of command)) × (view.global ≡ g.global)

@@ -1,4 +1,4 @@
-//! Whether what versions were admitted by is true.
+//! Whether the stored evidence is true.
 
 ghost use Rattle.std.specs.Prelude.{◌≡◌, ◌↔◌, ℕ, List, All, None, IsTrue, option_map, option_and_then};
 ghost use Rattle.std.specs.FinMap.{get};
@@ -11,11 +11,11 @@ ghost use Rattle.reg_store.specs.Stores.{ReadsStore};
 ghost use Rattle.reg_store.specs.Inside.Auditing.{HasSchema, HasEvidence, IsTrueAt};
 ghost use Rattle.reg_store.specs.Inside.Reads.{MayRead, Reads};
 
+use crate::conn::Conn;
 use crate::error::StoreError;
-use crate::idle::StoreConnection;
 use crate::store::Store;
-use crate::store::behind::next_version;
 use crate::store::levels::level_in;
+use crate::store::next_rows::next_version;
 use crate::store::texts::text_under;
 use avro_schema::Schema;
 use reg_core::{Level, Row, is_compatible_with, schema_of};
@@ -25,30 +25,30 @@ use sqlite::Alter;
 use std::alloc::Global;
 
 impl<S: Alter> Store<S> {
-    /// Whether all stored evidence is true: whether each version's schema goes with the schemas that
-    /// its evidence names, in the directions of its level. Soft-deleted versions are asked too. A
-    /// version without evidence passes, and one whose level is NONE.
+    /// Whether all stored evidence is true: each version's schema is compatible with the schemas
+    /// that its evidence names, in the directions of its level. This includes soft-deleted
+    /// versions. Versions without evidence pass, and those whose level is NONE.
     ///
-    /// It holds the texts of one pair at a time, and a memory of few schemas.
+    /// It keeps the texts of one pair in memory, and a small cache of schemas.
     ///
     /// # Errors
     ///
-    /// `Memory`, `Disk`, and `NotARegistry` where the tables no longer spell one. Whatever is
-    /// answered, nothing is changed.
+    /// `Memory` or `Disk`, or `NotARegistry` if the tables no longer hold a registry. In each
+    /// case nothing is changed.
     pub fn audit(&mut self) -> Result<bool, StoreError>
         ensures { ReadsStore self.old self.new result (λ was yes. IsTrue yes ↔ HasTrueEvidence was) }
     {
         if self.failed {
             return Err(StoreError::Disk);
         }
-        let yes = all_hold(self.alloc, &mut self.db);
+        let yes = all_true(self.alloc, &mut self.db);
         self.failed = matches!(yes, Err(StoreError::Disk));
         yes
     }
 }
 
-/// Whether what all versions were admitted by is true.
-fn all_hold<S: Alter>(alloc: Global, db: &mut StoreConnection<S>) -> Result<bool, StoreError>
+/// Whether the evidence of all versions is true.
+fn all_true<S: Alter>(alloc: Global, db: &mut Conn<S>) -> Result<bool, StoreError>
     ensures { Reads db.old db.new result (λ was yes. IsTrue yes ↔ HasTrueEvidence was) }
 {
     let mut cache = SchemaCache::new();
@@ -62,34 +62,33 @@ fn all_hold<S: Alter>(alloc: Global, db: &mut StoreConnection<S>) -> Result<bool
         }
         last = Some(row);
     }
-    // No file holds so many versions.
+    // No file has room for 2^64 versions.
     Err(StoreError::Memory)
 }
 
-/// Whether what the version was admitted by is true, if it has evidence. It isn't where the version
-/// has no schema.
+/// Whether the evidence of the version is true; `false` if its schema is missing.
 fn holds<S: Alter>(
     alloc: Global,
-    db: &mut StoreConnection<S>,
+    db: &mut Conn<S>,
     cache: &mut SchemaCache,
     row: &Row,
 ) -> Result<bool, StoreError>
     ensures { Reads db.old db.new result (λ was yes. (nodes : List NodeView)
         → HasSchema was row.now.1.id nodes → IsTrue yes ↔ IsTrueAt was row.now.0 nodes) }
 {
-    match level_admitted(db, row)? {
+    match evidence_level(db, row)? {
         None => Ok(true),
-        // Nothing is asked under NONE.
+        // NONE requires no comparison.
         Some(Level::Off) => Ok(true),
-        Some(level) => holds_under(alloc, db, cache, row, level),
+        Some(level) => is_true_under(alloc, db, cache, row, level),
     }
 }
 
-/// Whether the version's schema goes with those that its evidence names, in the directions of the
-/// level.
-fn holds_under<S: Alter>(
+/// Whether the version's schema is compatible with those that its evidence names, in the directions
+/// of the level.
+fn is_true_under<S: Alter>(
     alloc: Global,
-    db: &mut StoreConnection<S>,
+    db: &mut Conn<S>,
     cache: &mut SchemaCache,
     row: &Row,
     level: Level,
@@ -100,15 +99,15 @@ fn holds_under<S: Alter>(
 {
     match schema_under(alloc, db, row.id())? {
         None => Ok(false),
-        Some(new) => goes_with_all(alloc, db, cache, row, level, &new),
+        Some(new) => is_compatible_with_all(alloc, db, cache, row, level, &new),
     }
 }
 
-/// Whether the new schema goes with those that the version's evidence names, in the directions of the
-/// level.
-fn goes_with_all<S: Alter>(
+/// Whether the new schema is compatible with those that the version's evidence names, in the
+/// directions of the level.
+fn is_compatible_with_all<S: Alter>(
     alloc: Global,
-    db: &mut StoreConnection<S>,
+    db: &mut Conn<S>,
     cache: &mut SchemaCache,
     row: &Row,
     level: Level,
@@ -118,21 +117,21 @@ fn goes_with_all<S: Alter>(
         → IsTrue yes ↔ All (IsCompatibleWith was.registry.schemas level (nodes_view new.now)) one.against) }
 {
     for index in 0..u32::MAX {
-        let Some(id) = id_named(db, row, index + 1)? else {
+        let Some(id) = evidence_id(db, row, index + 1)? else {
             return Ok(true);
         };
-        if !goes_with_id(alloc, db, cache, level, id, new)? {
+        if !is_compatible_with_id(alloc, db, cache, level, id, new)? {
             return Ok(false);
         }
     }
     Ok(true)
 }
 
-/// Whether the new schema goes with the one that has the id, in the directions of the level. It
-/// doesn't where there is none.
-fn goes_with_id<S: Alter>(
+/// Whether the new schema is compatible with the schema of the id, in the directions of the level;
+/// `false` if the id has no schema.
+fn is_compatible_with_id<S: Alter>(
     alloc: Global,
-    db: &mut StoreConnection<S>,
+    db: &mut Conn<S>,
     cache: &mut SchemaCache,
     level: Level,
     id: u32,
@@ -147,10 +146,10 @@ fn goes_with_id<S: Alter>(
     }
 }
 
-/// The schema that has the id, if there is one.
+/// The schema of the id, or `None`.
 fn schema_under<S: Alter>(
     alloc: Global,
-    db: &mut StoreConnection<S>,
+    db: &mut Conn<S>,
     id: u32,
 ) -> Result<Option<Schema>, StoreError>
     ensures { Reads db.old db.new result (λ was found.
@@ -162,11 +161,8 @@ fn schema_under<S: Alter>(
     }
 }
 
-/// The level that the version was admitted by, if it has evidence.
-fn level_admitted<S: Alter>(
-    db: &mut StoreConnection<S>,
-    row: &Row,
-) -> Result<Option<Level>, StoreError>
+/// The level of the version's evidence, or `None` without evidence.
+fn evidence_level<S: Alter>(db: &mut Conn<S>, row: &Row) -> Result<Option<Level>, StoreError>
     ensures { Reads db.old db.new result (λ was found.
         found ≡ option_map (λ one. one.level) (get was.evidence row.now.0)) }
 {
@@ -176,9 +172,9 @@ fn level_admitted<S: Alter>(
     }
 }
 
-/// The id at the position, counted from 1, of those that the version's evidence names.
-fn id_named<S: Alter>(
-    db: &mut StoreConnection<S>,
+/// The id at the position, counted from 1, in the version's evidence.
+fn evidence_id<S: Alter>(
+    db: &mut Conn<S>,
     row: &Row,
     position: u32,
 ) -> Result<Option<u32>, StoreError>

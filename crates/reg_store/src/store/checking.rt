@@ -1,4 +1,4 @@
-//! The test of layout 1.
+//! The check of layout 1.
 
 ghost use Rattle.std.specs.Prelude.{◌≡◌, IfOk, IfErr, None, false};
 ghost use Rattle.sqlite.specs.Held.{state};
@@ -7,13 +7,13 @@ ghost use Rattle.reg_tables.specs.Frames.{ReadsInAutocommit};
 ghost use Rattle.reg_store.specs.Opening.{FindsLayoutOne};
 ghost use Rattle.reg_store.specs.OpenFailures.{IsCheckFailure};
 
+use crate::conn::Conn;
 use crate::error::StoreError;
-use crate::idle::StoreConnection;
-use crate::testing::test_layout_one;
+use crate::table_checks::check_layout_one;
 use sqlite::{Alter, Connection};
 use std::alloc::Global;
 
-/// The number of rows of `versions`, soft-deleted ones too, if the tables spell a registry in
+/// The number of rows of `versions`, including soft-deleted ones, if the tables spell a registry in
 /// layout 1, with or without the index. The connection is outside a transaction, and the call
 /// returns it. Nothing is written.
 ///
@@ -36,11 +36,11 @@ pub fn check_first<S: Alter>(
 {
     connection.set_step_limit(None);
     let _idle = connection.is_autocommit();
-    let mut db = StoreConnection {
+    let mut db = Conn {
         idle: reg_tables::AutocommitConnection { conn: connection },
     };
-    let found = test_layout_one(alloc, &mut db);
-    let StoreConnection { idle } = db;
+    let found = check_layout_one(alloc, &mut db);
+    let Conn { idle } = db;
     let reg_tables::AutocommitConnection { conn } = idle;
     (found, conn)
 }

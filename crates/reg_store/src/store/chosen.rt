@@ -1,4 +1,4 @@
-//! One version in place of all: the one of a subject that is chosen, or one of an id.
+//! One version instead of all: the chosen one of a subject, or one of an id.
 
 ghost use Rattle.std.specs.Prelude.{◌≡◌, ◌||◌, [], ◌∷◌, None, Some, IfOk, IfErr, MatchOption, false, true, not, map, option_map, option_to_list};
 ghost use Rattle.std.specs.FinMap.{entries, get};
@@ -13,8 +13,8 @@ ghost use Rattle.reg_store.specs.declared.error.StoreError.TheVariants.{Memory};
 ghost use Rattle.reg_store.specs.Inside.Viewing.{HasSubject, row_numbered, row_spelled};
 ghost use Rattle.reg_store.specs.Inside.Reads.{MayRead, Reads};
 
+use crate::conn::Conn;
 use crate::error::StoreError;
-use crate::idle::StoreConnection;
 use crate::store::rows::{push_row, row_in};
 use reg_core::{OutOfMemory, Row, Subject, VersionChoice};
 use reg_tables::{
@@ -24,11 +24,11 @@ use reg_tables::{
 use sqlite::Alter;
 use std::alloc::Global;
 
-/// The version of the subject that is chosen among those that are shown. Where there is none such,
-/// the last one that is shown tells whether there are others.
+/// The chosen version of the subject, if it is shown. Otherwise the last shown version, to show
+/// whether there are any.
 pub(crate) fn chosen_rows<S: Alter>(
     alloc: Global,
-    db: &mut StoreConnection<S>,
+    db: &mut Conn<S>,
     subject: &Subject,
     choice: Option<VersionChoice>,
     deleted: bool,
@@ -46,10 +46,10 @@ pub(crate) fn chosen_rows<S: Alter>(
     }
 }
 
-/// The version of the subject with the number, where it is shown. Else the last one that is.
+/// The version of the subject with the number, if it is shown; otherwise the last shown version.
 pub(crate) fn numbered_rows<S: Alter>(
     alloc: Global,
-    db: &mut StoreConnection<S>,
+    db: &mut Conn<S>,
     subject: &Subject,
     number: u32,
     deleted: bool,
@@ -64,9 +64,9 @@ pub(crate) fn numbered_rows<S: Alter>(
     }
 }
 
-/// The line of the version of the subject with the number, where that is shown.
+/// The version of the subject with the number, if it is shown.
 fn shown_line<S: Alter>(
-    db: &mut StoreConnection<S>,
+    db: &mut Conn<S>,
     subject: &Subject,
     number: u32,
     deleted: bool,
@@ -89,10 +89,10 @@ fn shown_line<S: Alter>(
     }
 }
 
-/// The last version of the subject that is shown, if there is one.
+/// The last shown version of the subject, if any.
 pub(crate) fn last_rows<S: Alter>(
     alloc: Global,
-    db: &mut StoreConnection<S>,
+    db: &mut Conn<S>,
     subject: &Subject,
     deleted: bool,
 ) -> Result<Vec<Row>, StoreError>
@@ -103,9 +103,9 @@ pub(crate) fn last_rows<S: Alter>(
     Ok(row_list(alloc, subject, line)?)
 }
 
-/// The line of the last version of the subject that is shown, if there is one.
+/// The row of the last shown version of the subject, or `None`.
 pub(crate) fn last_line<S: Alter>(
-    db: &mut StoreConnection<S>,
+    db: &mut Conn<S>,
     subject: &Subject,
     deleted: bool,
 ) -> Result<Option<SubjectVersion>, StoreError>
@@ -120,7 +120,7 @@ pub(crate) fn last_line<S: Alter>(
     }
 }
 
-/// The version of the subject that the line is of, if there is a line.
+/// The row as a list of at most one version of the subject.
 pub(crate) fn row_list(
     alloc: Global,
     subject: &Subject,
@@ -137,10 +137,10 @@ pub(crate) fn row_list(
     Ok(rows)
 }
 
-/// A version of the id, if there is one and some version has it.
+/// A version that has the id, if the id is given and some version has it.
 pub(crate) fn one_row_of<S: Alter>(
     alloc: Global,
-    db: &mut StoreConnection<S>,
+    db: &mut Conn<S>,
     id: Option<u32>,
 ) -> Result<Vec<Row>, StoreError>
     ensures { MayRead db.old db.new result (λ was rows.
@@ -153,12 +153,8 @@ pub(crate) fn one_row_of<S: Alter>(
     }
 }
 
-/// A version of the id, if there is one.
-fn some_row<S: Alter>(
-    alloc: Global,
-    db: &mut StoreConnection<S>,
-    id: u32,
-) -> Result<Vec<Row>, StoreError>
+/// A version that has the id, if any.
+fn some_row<S: Alter>(alloc: Global, db: &mut Conn<S>, id: u32) -> Result<Vec<Row>, StoreError>
     ensures { Reads db.old db.new result (λ was rows.
         map (λ row. row.1.id) (latest rows.items)
         ≡ map (λ row. row.1.id) (latest (rows_with id (entries was.registry.rows)))) }
@@ -169,7 +165,6 @@ fn some_row<S: Alter>(
     }
 }
 
-/// The version that the line is of, if it has a subject.
 fn one_row(alloc: Global, line: ListedVersion) -> Result<Vec<Row>, StoreError>
     ensures ok { IfOk result (λ rows. rows.items ≡ row_spelled (listed_version_view line) ∷ []) }
     ensures err { IfErr result (λ e. HasSubject line → e ≡ Memory) }

@@ -1,19 +1,18 @@
-//! Levels: the global one, and those of subjects.
+//! The global level and the levels of subjects.
 
 ghost use Rattle.std.specs.Prelude.{◌≡◌, None, Some, IfOk, OnErr, IsTrue, option_and_then, option_copied};
 ghost use Rattle.reg_core.specs.Levels.{level_of};
 ghost use Rattle.reg_store.specs.Inside.Reads.{MayRead, Reads};
 
+use crate::conn::Conn;
 use crate::error::StoreError;
-use crate::idle::StoreConnection;
 use reg_core::{Level, Subject};
 use reg_tables::{global_level, own_level};
 use sqlite::Alter;
 
-/// The level that the subject has of its own, if that is needed and there is one, and the global
-/// level.
+/// The subject's own level, if it has one and `needed` is set, and the global level.
 pub(crate) fn levels_for<S: Alter>(
-    db: &mut StoreConnection<S>,
+    db: &mut Conn<S>,
     subject: Option<&Subject>,
     needed: bool,
 ) -> Result<(Option<Level>, Level), StoreError>
@@ -26,9 +25,9 @@ pub(crate) fn levels_for<S: Alter>(
     Ok((own, global))
 }
 
-/// The level that the subject has of its own, if that is needed and there is one.
+/// The subject's own level, if it has one and `needed` is set.
 pub(crate) fn own_for<S: Alter>(
-    db: &mut StoreConnection<S>,
+    db: &mut Conn<S>,
     subject: Option<&Subject>,
     needed: bool,
 ) -> Result<Option<Level>, StoreError>
@@ -44,9 +43,9 @@ pub(crate) fn own_for<S: Alter>(
     }
 }
 
-/// The level that the subject has of its own, if it has one.
+/// The subject's own level, or `None`.
 pub(crate) fn own<S: Alter>(
-    db: &mut StoreConnection<S>,
+    db: &mut Conn<S>,
     subject: &Subject,
 ) -> Result<Option<Level>, StoreError>
     ensures { Reads db.old db.new result (λ was own. own ≡ was.registry.own subject.now) }
@@ -57,8 +56,7 @@ pub(crate) fn own<S: Alter>(
     }
 }
 
-/// The global level.
-fn global<S: Alter>(db: &mut StoreConnection<S>) -> Result<Level, StoreError>
+fn global<S: Alter>(db: &mut Conn<S>) -> Result<Level, StoreError>
     ensures { Reads db.old db.new result (λ was level. level ≡ was.registry.global) }
 {
     match global_level(&mut db.idle)? {
@@ -67,7 +65,6 @@ fn global<S: Alter>(db: &mut StoreConnection<S>) -> Result<Level, StoreError>
     }
 }
 
-/// The level that a row spells.
 pub(crate) fn level_in(text: &str) -> Result<Level, StoreError>
     ensures ok { IfOk result (λ level. level_of text.now ≡ Some level) }
     ensures err { OnErr result (level_of text.now ≡ None) }

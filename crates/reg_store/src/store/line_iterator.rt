@@ -1,4 +1,4 @@
-//! Lines of a listing that the store lends, one at a time.
+//! The lines of a listing, read one at a time.
 
 ghost use Rattle.std.specs.Prelude.{◌≡◌, [], List, None, Some, Err, IfOk, IfErr, IfSome, OnOk, IsTrue, false};
 ghost use Rattle.sqlite.specs.State.{HasCleanDisk};
@@ -16,8 +16,8 @@ use crate::store::cursor::Cursor;
 use sqlite::Alter;
 use std::mem;
 
-/// The lines of a listing, which a store hands out one at a time. While they live it can't be
-/// used. They hold the cursor behind the last line, and no other line.
+/// The lines of a listing, read one at a time. They borrow the store. Only the position of the last
+/// line is kept in memory.
 pub struct Lines<'s, S: Alter, P: Drop = Cursor> {
     store: &'s mut Store<S>,
     cursor: P,
@@ -39,11 +39,11 @@ impl<S: Alter, P: Drop> Drop for Lines<'_, S, P> {
 impl<S: Alter> Store<S> {
     ghost use Rattle.std.specs.Borrow.{sem};
 
-    /// The lines of the listing, one at a time, in their order, without a header.
+    /// The lines of the listing in their order, one at a time, without a header.
     ///
     /// # Errors
     ///
-    /// `Disk`, where the store has answered it before.
+    /// `Disk` if the store has returned it before.
     pub fn lines(&mut self, kind: Listing) -> Result<Lines<'_, S>, StoreError>
         ensures* rests { sem 𝓛 (StoreRests S.row S.Store self.entry result) }
         ensures same_reference { IfOk result (λ lines. lines.store.ghost_name ≡ self.entry.ghost_name) }
@@ -63,7 +63,7 @@ impl<S: Alter> Store<S> {
     }
 }
 
-/// Before all lines of the listing.
+/// The position before all lines of the listing.
 fn start_of(kind: Listing) -> Cursor
     ensures { (g : Registry) → IsCursorAt kind g 0 result }
 {
@@ -75,13 +75,12 @@ fn start_of(kind: Listing) -> Cursor
 }
 
 impl<S: Alter> Lines<'_, S> {
-    /// The fields of the next line, or `None` where all lines were handed out.
+    /// The fields of the next line, or `None` after the last line.
     ///
     /// # Errors
     ///
-    /// `Memory`, `Disk`, and `NotARegistry` where the tables no longer spell one. From then on it
-    /// answers that error again. Whatever is answered, nothing is changed, and the store itself
-    /// doesn't remember it.
+    /// `Memory` or `Disk`, or `NotARegistry` if the tables no longer hold a registry. Every later
+    /// call returns the same error. No call changes the store, which doesn't remember the error.
     pub fn next(&mut self) -> Result<Option<Vec<String>>, StoreError>
         ensures same_reference { self.new.store.ghost_name ≡ self.old.store.ghost_name }
         ensures frame { KeepsBorrowed (store_of self.old) (store_of self.new) result }
@@ -98,7 +97,7 @@ impl<S: Alter> Lines<'_, S> {
             return Err(error);
         }
         let cursor = mem::replace(&mut self.cursor, Cursor::Schema(0));
-        match self.store.line_behind(cursor) {
+        match self.store.line_after(cursor) {
             Ok((line, cursor)) => {
                 self.cursor = cursor;
                 Ok(line)

@@ -1,4 +1,4 @@
-//! The lines of listings, made of what they show.
+//! The texts of a listing's lines.
 
 ghost use Rattle.std.specs.Prelude.{◌≡◌, ◌++◌, ◌∷◌, [], IfOk, OnOk, length, map, string_bytes};
 ghost use Rattle.reg_core.specs.Rows.{live_rows};
@@ -7,7 +7,6 @@ ghost use Rattle.reg_store.specs.Listings.{deleted_rows, fields_of, flag_text, l
 use reg_core::{Level, OutOfMemory, Row, Subject};
 use std::alloc::Global;
 
-/// The lines of these versions.
 pub(crate) fn version_lines(alloc: Global, rows: &[Row]) -> Result<Vec<Vec<String>>, OutOfMemory>
     ensures { IfOk result (λ lines. lines_of lines ≡ map version_line rows.now) }
 {
@@ -18,7 +17,6 @@ pub(crate) fn version_lines(alloc: Global, rows: &[Row]) -> Result<Vec<Vec<Strin
     Ok(lines)
 }
 
-/// Adds a line.
 pub(crate) fn push_line(lines: &mut Vec<Vec<String>>, line: Vec<String>) -> Result<(), OutOfMemory>
     ensures { OnOk result (lines_of lines.new ≡ lines_of lines.old ++ fields_of line ∷ []) }
 {
@@ -26,7 +24,6 @@ pub(crate) fn push_line(lines: &mut Vec<Vec<String>>, line: Vec<String>) -> Resu
     Ok(())
 }
 
-/// The line of a version.
 pub(crate) fn version_line(alloc: Global, row: &Row) -> Result<Vec<String>, OutOfMemory>
     ensures { IfOk result (λ line. fields_of line ≡ version_line row.now) }
 {
@@ -39,14 +36,13 @@ pub(crate) fn version_line(alloc: Global, row: &Row) -> Result<Vec<String>, OutO
     Ok(Vec::from_array(alloc, [subject, number, id, deleted])?)
 }
 
-/// How it is written whether a version is soft-deleted.
+/// The field that shows whether a version is soft-deleted.
 fn flag_text(deleted: bool) -> &'static str
     ensures { result.now ≡ flag_text deleted }
 {
     if deleted { "true" } else { "false" }
 }
 
-/// The line of the schema that has this id and identity text.
 pub(crate) fn schema_line(alloc: Global, id: u32, text: String) -> Result<Vec<String>, OutOfMemory>
     ensures { IfOk result (λ line. fields_of line ≡ schema_line id (string_bytes text)) }
 {
@@ -54,7 +50,6 @@ pub(crate) fn schema_line(alloc: Global, id: u32, text: String) -> Result<Vec<St
     Ok(Vec::from_array(alloc, [id, text])?)
 }
 
-/// The line of the subject that has this level of its own, if it has one, and these versions.
 pub(crate) fn subject_line(
     alloc: Global,
     subject: &Subject,
@@ -72,7 +67,7 @@ pub(crate) fn subject_line(
     Ok(Vec::from_array(alloc, [subject, own, live, deleted])?)
 }
 
-/// How a subject's own level is spelt: the empty text where it has none.
+/// The text of a subject's own level, empty if it has none.
 fn own_text(own: Option<Level>) -> &'static str
     ensures { result.now ≡ own_text own }
 {
@@ -82,14 +77,12 @@ fn own_text(own: Option<Level>) -> &'static str
     }
 }
 
-/// The number of these versions that aren't soft-deleted.
 fn live_count(rows: &[Row]) -> usize
     ensures { result ≡ length (live_rows rows.now) }
 {
     rows.iter().filter(|row| !row.deleted()).count()
 }
 
-/// The number of these versions that are soft-deleted.
 fn deleted_count(rows: &[Row]) -> usize
     ensures { result ≡ length (deleted_rows rows.now) }
 {

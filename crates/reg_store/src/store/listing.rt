@@ -6,8 +6,8 @@ ghost use Rattle.reg_store.specs.Stores.{ReadsStore};
 ghost use Rattle.reg_store.specs.Listings.{lines_of, listing_lines, version_line};
 ghost use Rattle.reg_store.specs.Inside.Reads.{Reads};
 
+use crate::conn::Conn;
 use crate::error::StoreError;
-use crate::idle::StoreConnection;
 use crate::listing::Listing;
 use crate::store::Store;
 use crate::store::lines::version_lines;
@@ -18,12 +18,12 @@ use sqlite::Alter;
 use std::alloc::Global;
 
 impl<S: Alter> Store<S> {
-    /// The fields of each line of the listing, in their order, without a header.
+    /// The fields of each line of the listing in their order, without a header.
     ///
     /// # Errors
     ///
-    /// `Memory`, `Disk`, and `NotARegistry` where the tables no longer spell one. Whatever is
-    /// answered, nothing is changed.
+    /// `Memory` or `Disk`, or `NotARegistry` if the tables no longer hold a registry. In each
+    /// case nothing is changed.
     pub fn rows(&mut self, kind: Listing) -> Result<Vec<Vec<String>>, StoreError>
         ensures { ReadsStore self.old self.new result (λ was rows.
             lines_of rows ≡ listing_lines kind was.registry) }
@@ -37,14 +37,12 @@ impl<S: Alter> Store<S> {
     }
 }
 
-/// The lines of the listing.
 fn listed<S: Alter>(
     alloc: Global,
-    db: &mut StoreConnection<S>,
+    db: &mut Conn<S>,
     kind: Listing,
 ) -> Result<Vec<Vec<String>>, StoreError>
-    ensures { Reads db.old db.new result (λ was lines.
-        lines_of lines ≡ listing_lines kind was.registry) }
+    ensures { Reads db.old db.new result (λ was lines. lines_of lines ≡ listing_lines kind was.registry) }
 {
     match kind {
         Listing::Subjects => listed_subjects(alloc, db),
@@ -56,7 +54,7 @@ fn listed<S: Alter>(
 /// The lines of the versions of all subjects.
 fn listed_versions<S: Alter>(
     alloc: Global,
-    db: &mut StoreConnection<S>,
+    db: &mut Conn<S>,
 ) -> Result<Vec<Vec<String>>, StoreError>
     ensures { Reads db.old db.new result (λ was lines.
         lines_of lines ≡ map version_line (entries was.registry.rows)) }

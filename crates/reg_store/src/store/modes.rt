@@ -4,15 +4,15 @@ ghost use Rattle.std.specs.Prelude.{◌≡◌, None, Some, IfOk, OnErr, option_a
 ghost use Rattle.reg_core.specs.Modes.{mode_of};
 ghost use Rattle.reg_store.specs.Inside.Reads.{MayRead, Reads};
 
+use crate::conn::Conn;
 use crate::error::StoreError;
-use crate::idle::StoreConnection;
 use reg_core::{Mode, Subject};
 use reg_tables::own_mode;
 use sqlite::Alter;
 
-/// The mode that the subject has of its own, if there is one.
+/// The own mode of the subject, if one is given and has one.
 pub(crate) fn own_for<S: Alter>(
-    db: &mut StoreConnection<S>,
+    db: &mut Conn<S>,
     subject: Option<&Subject>,
 ) -> Result<Option<Mode>, StoreError>
     ensures { MayRead db.old db.new result (λ was own.
@@ -24,8 +24,8 @@ pub(crate) fn own_for<S: Alter>(
     }
 }
 
-/// The mode that the subject has of its own, if it has one.
-fn own<S: Alter>(db: &mut StoreConnection<S>, subject: &Subject) -> Result<Option<Mode>, StoreError>
+/// The own mode of the subject, or `None`.
+fn own<S: Alter>(db: &mut Conn<S>, subject: &Subject) -> Result<Option<Mode>, StoreError>
     ensures { Reads db.old db.new result (λ was own. own ≡ was.registry.own_modes subject.now) }
 {
     match own_mode(&mut db.idle, subject.as_str())? {

@@ -1,4 +1,4 @@
-//! How a store is opened over the tables of a registry.
+//! Opening a store over the tables of a registry.
 
 ghost use Rattle.std.specs.Prelude.{◌≡◌, ◌⊎◌, IfOk, IfErr, OnOk, OnErr, IsTrue, None, false};
 ghost use Rattle.sqlite.specs.Tree.{Trees};
@@ -10,14 +10,14 @@ ghost use Rattle.reg_store.specs.Failures.{failure_of, IsFaultBy};
 ghost use Rattle.reg_store.specs.Opening.{OpensOver, IsIndexed, CrashKeepsStored};
 ghost use Rattle.reg_store.specs.Stores.{state_of, has_failed, KeepsCrashStates, KeepsConnection};
 ghost use Rattle.reg_store.specs.OpenFailures.{IsOpenFailure};
-ghost use Rattle.reg_store.specs.Inside.Making.{HoldsWithIndex};
+ghost use Rattle.reg_store.specs.Inside.Applying.{HoldsWithIndex};
 ghost use Rattle.reg_store.specs.Inside.Reads.{shown};
 
+use crate::conn::Conn;
 use crate::error::StoreError;
-use crate::idle::StoreConnection;
 use crate::open_connection::require_open;
 use crate::store::Store;
-use crate::testing::test_layout_two;
+use crate::table_checks::check_layout_two;
 use reg_tables::{index_versions, is_unindexed_two};
 use sqlite::{Alter, Connection, Error};
 use std::alloc::Global;
@@ -60,7 +60,7 @@ impl<S: Alter> Store<S> {
     {
         connection.set_step_limit(None);
         let _idle = connection.is_autocommit();
-        let mut db = StoreConnection {
+        let mut db = Conn {
             idle: reg_tables::AutocommitConnection { conn: connection },
         };
         match make_ready(alloc, &mut db) {
@@ -70,7 +70,7 @@ impl<S: Alter> Store<S> {
                 failed: false,
             }),
             Err(error) => {
-                let StoreConnection { idle } = db;
+                let Conn { idle } = db;
                 let reg_tables::AutocommitConnection { conn } = idle;
                 Err((error, conn))
             }
@@ -78,29 +78,26 @@ impl<S: Alter> Store<S> {
     }
 }
 
-/// Tests the tables, then adds the index if it is missing. On `Ok` the connection is open.
-fn make_ready<S: Alter>(alloc: Global, db: &mut StoreConnection<S>) -> Result<(), StoreError>
-    ensures done { HasCleanDisk (shown db.new)
-        → OnOk result (OpensOver (shown db.old) (shown db.new)) }
-    ensures fails { HasCleanDisk (shown db.new)
-        → IfErr result (IsOpenFailure (shown db.old) (shown db.new)) }
+/// Checks the tables, then adds the index if it is missing. On `Ok` the connection is open.
+fn make_ready<S: Alter>(alloc: Global, db: &mut Conn<S>) -> Result<(), StoreError>
+    ensures done { HasCleanDisk (shown db.new) → OnOk result (OpensOver (shown db.old) (shown db.new)) }
+    ensures fails { HasCleanDisk (shown db.new) → IfErr result (IsOpenFailure (shown db.old) (shown db.new)) }
     ensures leaves { IfErr result (KeepsConnection (shown db.old) (shown db.new)) }
-    ensures survives { Survives (shown db.old) (shown db.new)
-        (IsIndexed (shown db.old).now) }
+    ensures survives { Survives (shown db.old) (shown db.new) (IsIndexed (shown db.old).now) }
 {
     let _live = db.idle.conn.schema();
     let _idle = db.idle.conn.is_autocommit();
-    test_layout_two(alloc, db)?;
+    check_layout_two(alloc, db)?;
     if !is_unindexed_two(&db.idle.conn) {
         return require_open(db);
     }
-    let made = make_index(db);
+    let made = add_index(db);
     let _settled = db.idle.conn.is_autocommit();
     Ok(made?)
 }
 
 /// Adds the index of versions in one transaction.
-fn make_index<S: Alter>(db: &mut StoreConnection<S>) -> Result<(), Error>
+fn add_index<S: Alter>(db: &mut Conn<S>) -> Result<(), Error>
     ensures done { HasCleanDisk (shown db.new) → OnOk result (
         IsTrue (shown db.old).is_open × IsTrue (shown db.new).is_open
         × ((shown db.new).committed ≡ (shown db.new).now)
@@ -110,8 +107,7 @@ fn make_index<S: Alter>(db: &mut StoreConnection<S>) -> Result<(), Error>
         (IsTrue (shown db.old).is_open
         → (contents : Contents) × HoldsContents layout_two_unindexed (shown db.old).now contents)
         → IsFaultBy (shown db.old) (shown db.new) (failure_of e)) }
-    ensures nothing { HasCleanDisk (shown db.new)
-        → OnErr result (KeepsCommit (shown db.old) (shown db.new)) }
+    ensures nothing { HasCleanDisk (shown db.new) → OnErr result (KeepsCommit (shown db.old) (shown db.new)) }
     ensures before { HasCleanDisk (shown db.new) → IfErr result (λ e. IsTrue (shown db.old).is_open
         → KeepsCrashStates (shown db.old) (shown db.new) (failure_of e)) }
     ensures survives { Survives (shown db.old) (shown db.new)

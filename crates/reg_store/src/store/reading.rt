@@ -1,4 +1,4 @@
-//! What is kept under a key, and the text of an id.
+//! The reply under a retry key, and the text of an id.
 
 ghost use Rattle.std.specs.Prelude.{◌≡◌, None, IfOk, OnErr, option_map, string_bytes};
 ghost use Rattle.reg_core.specs.Replies.{IsKeptStatus};
@@ -9,8 +9,8 @@ ghost use Rattle.reg_store.specs.Spells.{stored_reply};
 ghost use Rattle.reg_store.specs.Stores.{ReadsStore};
 ghost use Rattle.reg_store.specs.Inside.Reads.{Reads};
 
+use crate::conn::Conn;
 use crate::error::StoreError;
-use crate::idle::StoreConnection;
 use crate::store::Store;
 use crate::store::texts::text_under;
 use reg_core::{Key, Reply};
@@ -18,12 +18,12 @@ use reg_tables::{KeptReply, kept_reply};
 use sqlite::Alter;
 
 impl<S: Alter> Store<S> {
-    /// The text and the reply that are kept under the key, if something is.
+    /// The command's text and the reply under the key, or `None`.
     ///
     /// # Errors
     ///
-    /// `Memory`, `Disk`, and `NotARegistry` where the tables no longer spell one. Whatever is
-    /// answered, nothing is changed.
+    /// `Memory` or `Disk`, or `NotARegistry` if the tables no longer hold a registry. In each
+    /// case nothing is changed.
     pub fn kept(&mut self, key: &Key<'_>) -> Result<Option<(String, Reply)>, StoreError>
         ensures { ReadsStore self.old self.new result (λ was found.
             was.replies key.now ≡ option_map (λ kept. entry_with (string_bytes kept.0) kept.1) found) }
@@ -36,12 +36,12 @@ impl<S: Alter> Store<S> {
         found
     }
 
-    /// The identity text of the id's schema, if there is one.
+    /// The identity text of the id's schema, or `None`.
     ///
     /// # Errors
     ///
-    /// `Memory`, `Disk`, and `NotARegistry` where the tables no longer spell one. Whatever is
-    /// answered, nothing is changed.
+    /// `Memory` or `Disk`, or `NotARegistry` if the tables no longer hold a registry. In each
+    /// case nothing is changed.
     pub fn text_of(&mut self, id: u32) -> Result<Option<String>, StoreError>
         ensures { ReadsStore self.old self.new result (λ was found.
             option_map string_bytes found ≡ text_at was.registry.schemas id) }
@@ -55,9 +55,9 @@ impl<S: Alter> Store<S> {
     }
 }
 
-/// What is kept under the key.
+/// The command's text and the reply under the key, or `None`.
 fn kept_under<S: Alter>(
-    db: &mut StoreConnection<S>,
+    db: &mut Conn<S>,
     key: &Key<'_>,
 ) -> Result<Option<(String, Reply)>, StoreError>
     ensures { Reads db.old db.new result (λ was found.
@@ -65,12 +65,12 @@ fn kept_under<S: Alter>(
 {
     match kept_reply(&mut db.idle, key.as_str())? {
         None => Ok(None),
-        Some(row) => Ok(Some(told_in(row)?)),
+        Some(row) => Ok(Some(reply_in(row)?)),
     }
 }
 
-/// The text and the reply of a row, if the reply is one.
-fn told_in(row: KeptReply) -> Result<(String, Reply), StoreError>
+/// The command's text and the reply of a row, if its status is one of a reply.
+fn reply_in(row: KeptReply) -> Result<(String, Reply), StoreError>
     ensures ok { IfOk result (λ kept.
         kept_reply_view row ≡ stored_reply (entry_with (string_bytes kept.0) kept.1)) }
     ensures err { OnErr result (¬ IsKeptStatus row.status) }

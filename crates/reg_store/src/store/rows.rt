@@ -10,21 +10,21 @@ ghost use Rattle.reg_store.specs.declared.error.StoreError.TheVariants.{Memory};
 ghost use Rattle.reg_store.specs.Inside.Viewing.{row_spelled, row_numbered, HasSubject};
 ghost use Rattle.reg_store.specs.Inside.Reads.{MayRead, Reads};
 
+use crate::conn::Conn;
 use crate::error::StoreError;
-use crate::idle::StoreConnection;
 use crate::store::chosen::{chosen_rows, one_row_of};
-use crate::store::few::{compared_rows, deleted_rows, looked_up_rows, registered_rows};
+use crate::store::sufficient_rows::{compared_rows, deleted_rows, looked_up_rows, registered_rows};
 use reg_core::{Level, OutOfMemory, Row, RowsNeeded, Subject, SubjectRows};
 use reg_tables::{ListedVersion, SubjectVersion, all_versions, versions_of, versions_of_id};
 use sqlite::Alter;
 use std::alloc::Global;
 
-/// The versions that tell a command's answer and its changes, in the order of subjects and numbers:
-/// all that it looks at, deleted ones too, or few that tell the same. The level is the one in force,
-/// and the id that of the schema that the command sends.
+/// The versions that determine a command's reply and changes, in the order of subjects and numbers:
+/// all that it reads, including soft-deleted ones, or fewer with the same result. `level` is the
+/// level in force, and `known` the id of the schema in the command.
 pub(crate) fn rows_for<S: Alter>(
     alloc: Global,
-    db: &mut StoreConnection<S>,
+    db: &mut Conn<S>,
     subject: Option<&Subject>,
     needed: RowsNeeded,
     level: Level,
@@ -39,16 +39,16 @@ pub(crate) fn rows_for<S: Alter>(
         RowsNeeded::OfId(id) => rows_of_id(alloc, db, id),
         RowsNeeded::OneOfId(id) => one_row_of(alloc, db, id),
         RowsNeeded::OfSubject(asked) => match subject {
-            Some(subject) => asked_rows(alloc, db, subject, asked, level, known),
+            Some(subject) => purpose_rows(alloc, db, subject, asked, level, known),
             None => Ok(Vec::new(alloc)),
         },
     }
 }
 
-/// The versions of a subject that tell what is asked of them.
-fn asked_rows<S: Alter>(
+/// The versions of a subject that are needed for this purpose.
+fn purpose_rows<S: Alter>(
     alloc: Global,
-    db: &mut StoreConnection<S>,
+    db: &mut Conn<S>,
     subject: &Subject,
     asked: SubjectRows,
     level: Level,
@@ -71,10 +71,10 @@ fn asked_rows<S: Alter>(
     }
 }
 
-/// The versions of the id, if there is one, in the order of subjects and numbers.
+/// The versions of the id, if one is given, in the order of subjects and numbers.
 fn rows_of_id<S: Alter>(
     alloc: Global,
-    db: &mut StoreConnection<S>,
+    db: &mut Conn<S>,
     id: Option<u32>,
 ) -> Result<Vec<Row>, StoreError>
     ensures { MayRead db.old db.new result (λ was rows.
@@ -86,44 +86,34 @@ fn rows_of_id<S: Alter>(
     }
 }
 
-/// The versions of a subject, in the order of their numbers.
+/// The versions of a subject in the order of their numbers.
 pub(crate) fn subject_rows<S: Alter>(
     alloc: Global,
-    db: &mut StoreConnection<S>,
+    db: &mut Conn<S>,
     subject: &Subject,
 ) -> Result<Vec<Row>, StoreError>
-    ensures { Reads db.old db.new result (λ was rows.
-        rows.items ≡ rows_of was.registry subject.now) }
+    ensures { Reads db.old db.new result (λ was rows. rows.items ≡ rows_of was.registry subject.now) }
 {
     let lines = versions_of(alloc, &mut db.idle, subject.as_str())?;
     Ok(rows_under(alloc, subject, lines)?)
 }
 
-/// The versions of an id, in the order of subjects and numbers.
-fn id_rows<S: Alter>(
-    alloc: Global,
-    db: &mut StoreConnection<S>,
-    id: u32,
-) -> Result<Vec<Row>, StoreError>
-    ensures { Reads db.old db.new result (λ was rows.
-        rows.items ≡ rows_with id (entries was.registry.rows)) }
+fn id_rows<S: Alter>(alloc: Global, db: &mut Conn<S>, id: u32) -> Result<Vec<Row>, StoreError>
+    ensures { Reads db.old db.new result (λ was rows. rows.items ≡ rows_with id (entries was.registry.rows)) }
 {
     let lines = versions_of_id(alloc, &mut db.idle, id)?;
     rows_in(alloc, lines)
 }
 
-/// The versions of all subjects, in the order of subjects and numbers.
-pub(crate) fn all_rows<S: Alter>(
-    alloc: Global,
-    db: &mut StoreConnection<S>,
-) -> Result<Vec<Row>, StoreError>
+/// The versions of all subjects in the order of subjects and numbers.
+pub(crate) fn all_rows<S: Alter>(alloc: Global, db: &mut Conn<S>) -> Result<Vec<Row>, StoreError>
     ensures { Reads db.old db.new result (λ was rows. rows.items ≡ entries was.registry.rows) }
 {
     let lines = all_versions(alloc, &mut db.idle)?;
     rows_in(alloc, lines)
 }
 
-/// The versions of the subject that the lines are of.
+/// The rows as versions of the subject.
 fn rows_under(
     alloc: Global,
     subject: &Subject,
@@ -139,7 +129,6 @@ fn rows_under(
     Ok(rows)
 }
 
-/// The versions that the lines are of.
 fn rows_in(alloc: Global, lines: Vec<ListedVersion>) -> Result<Vec<Row>, StoreError>
     ensures ok { IfOk result (λ rows. rows.items ≡ map (λ line. row_spelled (listed_version_view line)) lines.items) }
     ensures err { IfErr result (λ e. All HasSubject lines.items → e ≡ Memory) }
@@ -151,7 +140,6 @@ fn rows_in(alloc: Global, lines: Vec<ListedVersion>) -> Result<Vec<Row>, StoreEr
     Ok(rows)
 }
 
-/// Adds a version.
 pub(crate) fn push_row(rows: &mut Vec<Row>, row: Row) -> Result<(), OutOfMemory>
     ensures { OnOk result (rows.new.items ≡ rows.old.items ++ row ∷ []) }
 {
@@ -159,7 +147,7 @@ pub(crate) fn push_row(rows: &mut Vec<Row>, row: Row) -> Result<(), OutOfMemory>
     Ok(())
 }
 
-/// The version that a line is of, if it has a subject.
+/// The row as a version, if its subject is valid.
 pub(crate) fn row_in(line: ListedVersion) -> Result<Row, StoreError>
     ensures ok { IfOk result (λ row. row ≡ row_spelled (listed_version_view line)) }
     ensures err { OnErr result (¬ HasSubject line) }

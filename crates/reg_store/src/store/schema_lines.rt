@@ -1,4 +1,4 @@
-//! The lines of schemas, by their ids.
+//! The lines of schemas in the order of their ids.
 
 ghost use Rattle.std.specs.Prelude.{◌≡◌, None, Some, IsSome, length, option_map, MatchResult};
 ghost use Rattle.sqlite.specs.State.{HasCleanDisk};
@@ -9,29 +9,27 @@ ghost use Rattle.reg_core.specs.Stored.{Stored};
 ghost use Rattle.reg_store.specs.Spells.{SpellsWhileOpen};
 ghost use Rattle.reg_store.specs.Inside.Reads.{Reads, CommitsNothing, shown};
 
+use crate::conn::Conn;
 use crate::error::StoreError;
-use crate::idle::StoreConnection;
 use crate::store::lines::{push_line, schema_line};
 use crate::store::texts::{count, text_under};
 use sqlite::Alter;
 use std::alloc::Global;
 
-/// The lines of all schemas.
 pub(crate) fn listed_schemas<S: Alter>(
     alloc: Global,
-    db: &mut StoreConnection<S>,
+    db: &mut Conn<S>,
 ) -> Result<Vec<Vec<String>>, StoreError>
-    ensures { Reads db.old db.new result (λ was lines.
-        lines_of lines ≡ schema_lines was.registry.schemas) }
+    ensures { Reads db.old db.new result (λ was lines. lines_of lines ≡ schema_lines was.registry.schemas) }
 {
     let count = count(db)?;
     each_schema(alloc, db, count)
 }
 
-/// The lines of all schemas, which are this many.
+/// The lines of all schemas, if `count` is their number.
 fn each_schema<S: Alter>(
     alloc: Global,
-    db: &mut StoreConnection<S>,
+    db: &mut Conn<S>,
     count: u32,
 ) -> Result<Vec<Vec<String>>, StoreError>
     ensures rests { CommitsNothing (shown db.old) (shown db.new) }
@@ -47,10 +45,9 @@ fn each_schema<S: Alter>(
     Ok(lines)
 }
 
-/// The line of the id's schema.
 fn listed_schema<S: Alter>(
     alloc: Global,
-    db: &mut StoreConnection<S>,
+    db: &mut Conn<S>,
     id: u32,
 ) -> Result<Vec<String>, StoreError>
     ensures rests { CommitsNothing (shown db.old) (shown db.new) }

@@ -6,8 +6,8 @@ ghost use Rattle.reg_core.specs.Modes.{mode_of};
 ghost use Rattle.reg_store.specs.Inside.Viewing.{value_in};
 ghost use Rattle.reg_store.specs.Inside.Reads.{Reads};
 
+use crate::conn::Conn;
 use crate::error::StoreError;
-use crate::idle::StoreConnection;
 use crate::store::levels::{levels_for, own_for as own_level_for};
 use crate::store::modes::own_for as own_mode_for;
 use reg_core::{Level, Mode, Needs, Subject};
@@ -15,10 +15,9 @@ use reg_tables::{RawMeta, raw_meta};
 use sqlite::Alter;
 use std::alloc::Global;
 
-/// The levels and the modes that are needed.
 pub(crate) fn settings_for<S: Alter>(
     alloc: Global,
-    db: &mut StoreConnection<S>,
+    db: &mut Conn<S>,
     subject: Option<&Subject>,
     needs: Needs,
 ) -> Result<((Option<Level>, Level), (Option<Mode>, Mode)), StoreError>
@@ -37,10 +36,10 @@ pub(crate) fn settings_for<S: Alter>(
     Ok((levels, (None, Mode::Readwrite)))
 }
 
-/// The modes, and the levels. That of the subject is there if it is needed.
+/// The modes and the global level, and the subject's own level if it is needed.
 fn with_modes<S: Alter>(
     alloc: Global,
-    db: &mut StoreConnection<S>,
+    db: &mut Conn<S>,
     subject: Option<&Subject>,
     needs_levels: bool,
 ) -> Result<((Option<Level>, Level), (Option<Mode>, Mode)), StoreError>
@@ -57,11 +56,8 @@ fn with_modes<S: Alter>(
     Ok(((level, globals.0), (mode, globals.1)))
 }
 
-/// The global level and the global mode, in one read.
-fn globals<S: Alter>(
-    alloc: Global,
-    db: &mut StoreConnection<S>,
-) -> Result<(Level, Mode), StoreError>
+/// The global level and the global mode in one read.
+fn globals<S: Alter>(alloc: Global, db: &mut Conn<S>) -> Result<(Level, Mode), StoreError>
     ensures { Reads db.old db.new result (λ was globals.
         (globals.0 ≡ was.registry.global) × (globals.1 ≡ was.registry.global_mode)) }
 {
@@ -86,7 +82,6 @@ fn globals_in(lines: &[RawMeta]) -> Result<(Level, Mode), StoreError>
     Ok((level, mode))
 }
 
-/// The level under the name `global`.
 fn level_under(lines: &[RawMeta]) -> Option<Level>
     ensures { result ≡ option_and_then level_of (value_in (codes "global") lines.now) }
 {
@@ -96,7 +91,6 @@ fn level_under(lines: &[RawMeta]) -> Option<Level>
     }
 }
 
-/// The mode under the name `mode`.
 fn mode_under(lines: &[RawMeta]) -> Option<Mode>
     ensures { result ≡ option_and_then mode_of (value_in (codes "mode") lines.now) }
 {
@@ -106,7 +100,7 @@ fn mode_under(lines: &[RawMeta]) -> Option<Mode>
     }
 }
 
-/// The value under the name.
+/// The value of the first row with this name, or `None`.
 fn value_under<'a>(lines: &'a [RawMeta], name: &str) -> Option<&'a str>
     ensures { option_copied result ≡ value_in name.now lines.now }
 {

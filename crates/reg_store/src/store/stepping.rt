@@ -1,4 +1,4 @@
-//! The line of a listing behind a cursor.
+//! The next line of a listing after a cursor.
 
 ghost use Rattle.std.specs.Prelude.{ℕ, None};
 ghost use Rattle.reg_store.specs.Stores.{KeepsBorrowed};
@@ -6,12 +6,12 @@ ghost use Rattle.reg_store.specs.declared.listing.Listing.{Listing};
 ghost use Rattle.reg_store.specs.NextLines.{IsCursorAt, IsNextLine};
 ghost use Rattle.reg_store.specs.Inside.Reads.{Reads};
 
+use crate::conn::Conn;
 use crate::error::StoreError;
-use crate::idle::StoreConnection;
 use crate::store::Store;
-use crate::store::behind::{next_subject, next_version};
 use crate::store::cursor::Cursor;
 use crate::store::lines::{schema_line, version_line};
+use crate::store::next_rows::{next_subject, next_version};
 use crate::store::subject_lines::listed_subject;
 use crate::store::texts::text_under;
 use reg_core::Row;
@@ -19,8 +19,8 @@ use sqlite::Alter;
 use std::alloc::Global;
 
 impl<S: Alter> Store<S> {
-    /// The next line behind the cursor, if there is one, and where the lines then end.
-    pub(crate) fn line_behind(
+    /// The next line after the cursor, or `None`, and the cursor after it.
+    pub(crate) fn line_after(
         &mut self,
         cursor: Cursor,
     ) -> Result<(Option<Vec<String>>, Cursor), StoreError>
@@ -32,10 +32,10 @@ impl<S: Alter> Store<S> {
     }
 }
 
-/// The next line behind the cursor, if there is one, and where the lines then end.
+/// The next line after the cursor, or `None`, and the cursor after it.
 fn line_at<S: Alter>(
     alloc: Global,
-    db: &mut StoreConnection<S>,
+    db: &mut Conn<S>,
     cursor: Cursor,
 ) -> Result<(Option<Vec<String>>, Cursor), StoreError>
     ensures { Reads db.old db.new result (λ was found.
@@ -48,10 +48,10 @@ fn line_at<S: Alter>(
     }
 }
 
-/// The line of the next subject, if there is one, and where the lines then end.
+/// The line of the next subject, or `None`, and the cursor after it.
 fn subject_at<S: Alter>(
     alloc: Global,
-    db: &mut StoreConnection<S>,
+    db: &mut Conn<S>,
     last: Option<Row>,
 ) -> Result<(Option<Vec<String>>, Cursor), StoreError>
     ensures { Reads db.old db.new result (λ was found.
@@ -66,10 +66,10 @@ fn subject_at<S: Alter>(
     }
 }
 
-/// The line of the next version, if there is one, and where the lines then end.
+/// The line of the next version, or `None`, and the cursor after it.
 fn version_at<S: Alter>(
     alloc: Global,
-    db: &mut StoreConnection<S>,
+    db: &mut Conn<S>,
     last: Option<Row>,
 ) -> Result<(Option<Vec<String>>, Cursor), StoreError>
     ensures { Reads db.old db.new result (λ was found.
@@ -84,16 +84,16 @@ fn version_at<S: Alter>(
     }
 }
 
-/// The line of the schema with the next id, if there is one, and where the lines then end.
+/// The line of the schema with the next id, or `None`, and the cursor after it.
 fn schema_at<S: Alter>(
     alloc: Global,
-    db: &mut StoreConnection<S>,
+    db: &mut Conn<S>,
     id: u32,
 ) -> Result<(Option<Vec<String>>, Cursor), StoreError>
     ensures { Reads db.old db.new result (λ was found.
         (count : ℕ) → IsCursorAt Listing.Schemas was.registry count (Cursor.Schema id) → IsNextLine Listing.Schemas was.registry count found) }
 {
-    // The last number that there can be is no id, so that nothing is found past it.
+    // `u32::MAX` is no id, so nothing is found after it.
     let next = id.saturating_add(1);
     match text_under(db, next)? {
         None => Ok((None, Cursor::Schema(id))),

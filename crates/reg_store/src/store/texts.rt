@@ -1,39 +1,34 @@
-//! Schemas: the texts of ids, the ids of texts, and how many there are.
+//! Schemas: their texts, their ids, and their number.
 
 ghost use Rattle.std.specs.Prelude.{◌≡◌, None, OnOk, All, IsTrue, length, option_map, option_and_then, option_copied, string_bytes};
 ghost use Rattle.reg_core.specs.Rows.{id_of, text_at};
 ghost use Rattle.reg_store.specs.Inside.Viewing.{HasText, AreTrueTexts, AddsText, PutsText};
 ghost use Rattle.reg_store.specs.Inside.Reads.{MayRead, Reads};
 
+use crate::conn::Conn;
 use crate::error::StoreError;
-use crate::idle::StoreConnection;
 use reg_core::OutOfMemory;
 use reg_tables::{id_of, last_id, text_of};
 use sqlite::Alter;
 use std::alloc::Global;
 use std::collections::BTreeMap;
 
-/// The identity text of the id's schema, if there is one.
-pub(crate) fn text_under<S: Alter>(
-    db: &mut StoreConnection<S>,
-    id: u32,
-) -> Result<Option<String>, StoreError>
+/// The identity text of the id's schema, or `None`.
+pub(crate) fn text_under<S: Alter>(db: &mut Conn<S>, id: u32) -> Result<Option<String>, StoreError>
     ensures { Reads db.old db.new result (λ was found.
         option_map string_bytes found ≡ text_at was.registry.schemas id) }
 {
     Ok(text_of(&mut db.idle, id)?)
 }
 
-/// The id of the schema with this identity text, if there is one.
-fn id_under<S: Alter>(db: &mut StoreConnection<S>, text: &str) -> Result<Option<u32>, StoreError>
-    ensures { Reads db.old db.new result (λ was found.
-        found ≡ id_of was.registry.schemas text.now) }
+/// The id of the schema with this identity text, or `None`.
+fn id_under<S: Alter>(db: &mut Conn<S>, text: &str) -> Result<Option<u32>, StoreError>
+    ensures { Reads db.old db.new result (λ was found. found ≡ id_of was.registry.schemas text.now) }
 {
     Ok(id_of(&mut db.idle, text)?)
 }
 
-/// The number of schemas.
-pub(crate) fn count<S: Alter>(db: &mut StoreConnection<S>) -> Result<u32, StoreError>
+pub(crate) fn count<S: Alter>(db: &mut Conn<S>) -> Result<u32, StoreError>
     ensures { Reads db.old db.new result (λ was count. count ≡ length was.registry.schemas) }
 {
     match last_id(&mut db.idle)? {
@@ -42,9 +37,9 @@ pub(crate) fn count<S: Alter>(db: &mut StoreConnection<S>) -> Result<u32, StoreE
     }
 }
 
-/// The id of the schema with the identity text that is given, if one is and there is one.
+/// The id of the schema with this identity text; `None` without a text or a schema.
 pub(crate) fn known_for<S: Alter>(
-    db: &mut StoreConnection<S>,
+    db: &mut Conn<S>,
     identity: Option<&str>,
 ) -> Result<Option<u32>, StoreError>
     ensures { MayRead db.old db.new result (λ was known.
@@ -56,21 +51,17 @@ pub(crate) fn known_for<S: Alter>(
     }
 }
 
-/// The number of schemas, if it is needed.
-pub(crate) fn count_for<S: Alter>(
-    db: &mut StoreConnection<S>,
-    needed: bool,
-) -> Result<u32, StoreError>
+pub(crate) fn count_for<S: Alter>(db: &mut Conn<S>, needed: bool) -> Result<u32, StoreError>
     ensures { MayRead db.old db.new result (λ was count.
         IsTrue needed → count ≡ length was.registry.schemas) }
 {
     if needed { count(db) } else { Ok(0) }
 }
 
-/// The identity texts of the ids that have one.
+/// The identity texts of these ids, without ids that have none.
 pub(crate) fn texts_of<S: Alter>(
     alloc: Global,
-    db: &mut StoreConnection<S>,
+    db: &mut Conn<S>,
     ids: &[u32],
 ) -> Result<BTreeMap<u32, String>, StoreError>
     ensures { MayRead db.old db.new result (λ was texts.
@@ -83,14 +74,13 @@ pub(crate) fn texts_of<S: Alter>(
     Ok(texts)
 }
 
-/// Adds the identity text of the id, if the id has one and it isn't there.
+/// Adds the identity text of the id, if the id has one and the map lacks it.
 fn add_text<S: Alter>(
-    db: &mut StoreConnection<S>,
+    db: &mut Conn<S>,
     texts: &mut BTreeMap<u32, String>,
     id: u32,
 ) -> Result<(), StoreError>
-    ensures { MayRead db.old db.new result (λ was _.
-        AddsText texts.old texts.new was.registry.schemas id) }
+    ensures { MayRead db.old db.new result (λ was _. AddsText texts.old texts.new was.registry.schemas id) }
 {
     if texts.contains_key(&id) {
         return Ok(());
@@ -99,7 +89,6 @@ fn add_text<S: Alter>(
     Ok(put_text(texts, id, found)?)
 }
 
-/// Puts the text under the id, if there is one.
 fn put_text(
     texts: &mut BTreeMap<u32, String>,
     id: u32,

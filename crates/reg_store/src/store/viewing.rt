@@ -1,4 +1,4 @@
-//! What a command needs to know of the registry.
+//! The parts of the registry that a command needs.
 
 ghost use Rattle.std.specs.Prelude.{◌≡◌, IsTrue, length, option_and_then, option_copied};
 ghost use Rattle.reg_core.specs.Rows.{id_of};
@@ -7,8 +7,8 @@ ghost use Rattle.reg_store.specs.Stores.{ReadsStore};
 ghost use Rattle.reg_store.specs.Inside.Viewing.{IsViewButTexts};
 ghost use Rattle.reg_store.specs.Inside.Reads.{MayRead, Reads};
 
+use crate::conn::Conn;
 use crate::error::StoreError;
-use crate::idle::StoreConnection;
 use crate::store::Store;
 use crate::store::rows::rows_for;
 use crate::store::settings::settings_for;
@@ -19,7 +19,7 @@ use std::alloc::Global;
 use std::collections::BTreeMap;
 
 impl<S: Alter> Store<S> {
-    /// The view of the registry that the command needs. If the command sends a schema, the caller
+    /// The view of the registry that the command needs. If the command has a schema, the caller
     /// passes its identity text; for other commands any text will do.
     ///
     /// # Errors
@@ -40,10 +40,9 @@ impl<S: Alter> Store<S> {
     }
 }
 
-/// The view that the command needs.
 fn view_for<S: Alter>(
     alloc: Global,
-    db: &mut StoreConnection<S>,
+    db: &mut Conn<S>,
     command: &Command,
     identity: Option<&str>,
 ) -> Result<View, StoreError>
@@ -58,10 +57,10 @@ fn view_for<S: Alter>(
     Ok(view)
 }
 
-/// The view that the command needs, but with no texts.
+/// The view that the command needs, without texts.
 fn view_but_texts<S: Alter>(
     alloc: Global,
-    db: &mut StoreConnection<S>,
+    db: &mut Conn<S>,
     command: &Command,
     identity: Option<&str>,
 ) -> Result<View, StoreError>
@@ -87,10 +86,10 @@ fn view_but_texts<S: Alter>(
     })
 }
 
-/// The id of the schema with the identity text that is given, if one is and there is one, and the
-/// number of schemas, if it is needed.
+/// The id of the schema with this identity text, or `None`, and the number of schemas if it is
+/// needed.
 fn ids_for<S: Alter>(
-    db: &mut StoreConnection<S>,
+    db: &mut Conn<S>,
     identity: Option<&str>,
     needs_count: bool,
 ) -> Result<(Option<u32>, u32), StoreError>

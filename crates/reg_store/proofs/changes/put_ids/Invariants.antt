@@ -5,7 +5,7 @@ use Rattle.sqlite.specs.State.{HasCleanDisk, Survives, KeepsCommit}
 use Rattle.reg_tables.specs.Layout.{IsLayoutTwo}
 use Rattle.reg_tables.specs.Contents.{Contents, HoldsContents}
 use Rattle.reg_store.specs.Changes.{TransactionContinues}
-use Rattle.reg_store.specs.Inside.Making.{HasNoPositions, with_ids}
+use Rattle.reg_store.specs.Inside.Applying.{HasNoPositions, with_ids}
 use Rattle.reg_store.proofs.changes.put_ids.Given as goal
 
 abbrev pub invariant-loop-id : goal.invariant-loop-id

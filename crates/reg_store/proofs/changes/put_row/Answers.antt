@@ -4,7 +4,7 @@ use Rattle.sqlite.specs.State.{HasCleanDisk}
 use Rattle.reg_core.specs.declared.decision.Change.TheVariants.{AddRow}
 use Rattle.reg_tables.proofs.Transactions.{on_ok, if_err}
 use Rattle.reg_tables.proofs.WriteFaults.{erred_with, insert_fault_later}
-use Rattle.reg_store.specs.Inside.Making.{IsFaultOfChange}
+use Rattle.reg_store.specs.Inside.Applying.{IsFaultOfChange}
 use Rattle.reg_store.proofs.Additions.{number_is_free, id_has_text}
 use Rattle.reg_store.proofs.NewVersions.{spells_row, row_fails}
 use Rattle.reg_store.proofs.Writing.{fault_of_change}

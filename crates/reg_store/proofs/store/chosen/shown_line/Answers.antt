@@ -6,7 +6,6 @@ use Rattle.reg_store.proofs.ChosenLemmas.{entry_told, none_told}
 use Rattle.reg_store.proofs.ReadLemmas.{read, not_read}
 use Rattle.reg_store.proofs.store.chosen.shown_line.Goals as goal
 
--- what is found twice is deleted on both sides or on neither
 same_deleted : (found : Option Version) (one other : Version) → found ≡ Some one → found ≡ Some other → one.deleted ≡ other.deleted
 same_deleted found one other here there = let same : one ≡ other = cc in ap (λ (v : Version). v.deleted) same
 

@@ -19,18 +19,18 @@ returns-in-None g c =
     let none = rw (c.in-None.is, c.as_str.ensures.text) at (c.in_ok-kept_reply.ensures.found clean it.schema it.first it.contents it.holds) in
     none_written stored_reply (was.replies c.args.key.now) (sym (it.spelled.kept c.args.key.now) ∙ none))
 
-pub returns-in_err-told_in-in-Some : goal.returns-in_err-told_in-in-Some
-returns-in_err-told_in-in-Some g c =
+pub returns-in_err-reply_in-in-Some : goal.returns-in_err-reply_in-in-Some
+returns-in_err-reply_in-in-Some g c =
     read c.in_ok-kept_reply.ensures.frame (λ clean was over.
     let it = base_of over.spells in
     let found = rw c.in-Some.is at (c.in_ok-kept_reply.ensures.found clean it.schema it.first it.contents it.holds) in
     let entry = was_written stored_reply (was.replies c.as_str.result.now) (kept_reply_view c.in-Some.row) (sym (it.spelled.kept c.as_str.result.now) ∙ found) in
     let status = (it.spelled.keys c.as_str.result.now entry.0 entry.1).status in
-    absurd (c.in_err-told_in-in-Some.ensures.err (subst IsKeptStatus (sym (ap (λ (r : KeptReplyView). r.status) entry.2)) status)))
+    absurd (c.in_err-reply_in-in-Some.ensures.err (subst IsKeptStatus (sym (ap (λ (r : KeptReplyView). r.status) entry.2)) status)))
 
-pub returns-in_ok-told_in-in-Some : goal.returns-in_ok-told_in-in-Some
-returns-in_ok-told_in-in-Some g c =
+pub returns-in_ok-reply_in-in-Some : goal.returns-in_ok-reply_in-in-Some
+returns-in_ok-reply_in-in-Some g c =
     read c.in_ok-kept_reply.ensures.frame (λ clean was over.
     let it = base_of over.spells in
     let found = rw (c.in-Some.is, c.as_str.ensures.text) at (c.in_ok-kept_reply.ensures.found clean it.schema it.first it.contents it.holds) in
-    kept_is (was.replies c.args.key.now) _ (sym (it.spelled.kept c.args.key.now) ∙ found ∙ ap Some c.in_ok-told_in-in-Some.ensures.ok))
+    kept_is (was.replies c.args.key.now) _ (sym (it.spelled.kept c.args.key.now) ∙ found ∙ ap Some c.in_ok-reply_in-in-Some.ensures.ok))

@@ -12,7 +12,7 @@ pub returns-in-OneOfId : goal.returns-in-OneOfId
 returns-in-OneOfId g c = may_retell c.one_row_of.ensures (λ was rows is. rw c.in-OneOfId.is is)
 
 pub returns-in-Some : goal.returns-in-Some
-returns-in-Some g c = may_retell c.asked_rows.ensures (λ was rows told. rw (c.in-OfSubject.is, c.in-Some.is) told)
+returns-in-Some g c = may_retell c.purpose_rows.ensures (λ was rows told. rw (c.in-OfSubject.is, c.in-Some.is) told)
 
 pub returns-in-None : goal.returns-in-None
 returns-in-None g c = unread c.args.db.now (λ was. rw (c.in-OfSubject.is, c.in-None.is) (all_tell c.args.level c.args.known c.in-OfSubject.asked _ _ c.new-in-None.ensures.items))

@@ -5,7 +5,6 @@ use Rattle.reg_tables.specs.Entries.{listed_version_view}
 use Rattle.reg_store.specs.Inside.Viewing.{row_spelled, HasSubject}
 use Rattle.reg_store.proofs.store.rows.rows_in.Goals as goal
 
--- one more line is read
 more : {A B : Type 0} (f : A → B) (rows new : List B) (row : B) (line : A) (rest left : List A) (all : List B) → new ≡ rows ++ row ∷ [] → row ≡ f line → left ≡ line ∷ rest → rows ++ map f left ≡ all → new ++ map f rest ≡ all
 more f rows new row line rest left all pushed is next before =
     ap (λ r. r ++ map f rest) pushed ∙ append_assoc rows (row ∷ []) (map f rest) ∙ ap (λ r. rows ++ (r ∷ map f rest)) is ∙ sym (ap (λ l. rows ++ map f l) next) ∙ before

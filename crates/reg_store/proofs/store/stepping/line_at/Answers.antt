@@ -1,7 +1,7 @@
 use Rattle.std.proofs.Common.{rules, sym, subst}
 use Rattle.reg_store.specs.NextLines.{IsCursorAt, IsNextLine}
 use Rattle.reg_store.specs.declared.store.cursor.Cursor.TheVariants.{Version, Schema}
-use Rattle.reg_store.proofs.HandingLemmas.{of_versions, of_schemas}
+use Rattle.reg_store.proofs.NextLineLemmas.{of_versions, of_schemas}
 use Rattle.reg_store.proofs.ReadLemmas.{retell}
 use Rattle.reg_store.proofs.store.stepping.line_at.Goals as goal
 

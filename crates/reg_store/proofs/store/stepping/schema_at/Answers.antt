@@ -2,7 +2,7 @@ use Rattle.std.proofs.Common.{◌∙◌, ◌≡◌, ◌+◌, None, Some, refl, a
 use Rattle.std.specs.Prelude.{string_bytes}
 use Rattle.reg_store.specs.declared.listing.Listing.TheVariants.{Schemas}
 use Rattle.reg_store.specs.Listings.{listing_lines, schema_line}
-use Rattle.reg_store.proofs.HandingLemmas.{schema_next}
+use Rattle.reg_store.proofs.NextLineLemmas.{schema_next}
 use Rattle.reg_store.proofs.ReadLemmas.{fail, tell, refuse}
 use Rattle.reg_store.proofs.Bases.{base_of}
 use Rattle.reg_store.proofs.store.stepping.schema_at.Goals as goal

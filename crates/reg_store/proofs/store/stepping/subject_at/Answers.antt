@@ -1,8 +1,8 @@
 use Rattle.std.proofs.Common.{◌∙◌, None, Some, sym, ap}
 use Rattle.std.specs.FinMap.{entries}
 use Rattle.reg_store.specs.Listings.{subject_listed, subjects_of}
-use Rattle.reg_store.proofs.Behind.{last_taken}
-use Rattle.reg_store.proofs.HandingLemmas.{next_subject_is, subject_leads}
+use Rattle.reg_store.proofs.NextRowLemmas.{last_taken}
+use Rattle.reg_store.proofs.NextLineLemmas.{next_subject_is, subject_leads}
 use Rattle.reg_store.proofs.ReadLemmas.{fail, tell, go_on, stop}
 use Rattle.reg_store.proofs.store.stepping.subject_at.Goals as goal
 

@@ -1,7 +1,7 @@
 use Rattle.std.proofs.Common.{◌∙◌, None, Some, sym, ap}
 use Rattle.std.specs.FinMap.{entries}
-use Rattle.reg_store.proofs.Behind.{last_taken}
-use Rattle.reg_store.proofs.HandingLemmas.{next_row, version_leads}
+use Rattle.reg_store.proofs.NextRowLemmas.{last_taken}
+use Rattle.reg_store.proofs.NextLineLemmas.{next_row, version_leads}
 use Rattle.reg_store.proofs.ReadLemmas.{fail, tell, refuse}
 use Rattle.reg_store.proofs.store.stepping.version_at.Goals as goal
 

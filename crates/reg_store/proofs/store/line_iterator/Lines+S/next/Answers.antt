@@ -1,7 +1,7 @@
 use Rattle.std.proofs.Common.{Some, sym, subst, ◌∙◌}
 use Rattle.std.specs.Prelude.{◌≡◌, None}
 use Rattle.reg_store.specs.NextLines.{IsCursorAt, failure_in}
-use Rattle.reg_store.proofs.HandingLemmas.{hands_on}
+use Rattle.reg_store.proofs.NextLineLemmas.{hands_on}
 use Rattle.reg_store.proofs.ReadLemmas.{tells_stored}
 use Rattle.reg_store.proofs.store.line_iterator.Lines+S.next.Goals as goal
 

@@ -1,5 +1,0 @@
-use Rattle.reg_rows.proofs.EachRow.{Left}
-use Rattle.reg_store.proofs.testing.all_fit.Given as goal
-
-abbrev pub invariant-loop-line : goal.invariant-loop-line
-invariant-loop-line g l = Left g.L.Tested.fits_table l.lines l.line-index

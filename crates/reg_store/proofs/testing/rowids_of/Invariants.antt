@@ -1,5 +1,0 @@
-use Rattle.std.proofs.Common.{◌≡◌, map, take}
-use Rattle.reg_store.proofs.testing.rowids_of.Given as goal
-
-abbrev pub invariant-loop-line : goal.invariant-loop-line
-invariant-loop-line g l = l.rowids.items ≡ map g.L.Tested.rowid_of (take l.line-index l.lines)

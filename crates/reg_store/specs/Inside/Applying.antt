@@ -1,0 +1,104 @@
+-- The clauses of functions that apply changes, one after the other.
+use Rattle.std.specs.Prelude.{◌≡◌, ◌<◌, ◌+◌, ◌^◌, ℕ, List, [], ◌∷◌, length, All, Option, None, IsSome}
+use Rattle.std.specs.FinMap.{get}
+use Rattle.sqlite.specs.Tree.{Trees}
+use Rattle.sqlite.specs.Schema.{Schema}
+use Rattle.sqlite.specs.Effect.{Database}
+use Rattle.sqlite.specs.State.{State}
+use Rattle.sqlite.specs.declared.error.Error.{Error}
+use Rattle.reg_core.specs.declared.decision.Change.{Change}
+use Rattle.reg_core.specs.Evidence.{Evidence}
+use Rattle.reg_core.specs.Levels.{level_text}
+use Rattle.reg_core.specs.Registry.{RowKey}
+use Rattle.reg_core.specs.Stored.{Stored, new_stored}
+use Rattle.reg_core.specs.Views.{ChangeFits, ChangesFit}
+use Rattle.reg_tables.specs.Layout.{IsLayoutTwo, layout_two_unindexed, layout_two_indexed_last}
+use Rattle.reg_tables.specs.Contents.{Contents, HoldsContents}
+use Rattle.reg_tables.specs.Changes.{with_evidence, with_against}
+use Rattle.reg_tables.specs.FailedCalls.{IsInsertFault}
+use Rattle.reg_store.specs.declared.keep.Keep.{Keep}
+use Rattle.reg_store.specs.declared.layout.Layout.{Layout}
+use Rattle.reg_store.specs.declared.layout.Layout.TheVariants.{One, Two}
+use Rattle.reg_store.specs.Spells.{SpellsLayoutOne, RecoversToLayoutOne, IsOpenOverLayoutOne, Spells, RecoversTo, IsOpenOver}
+use Rattle.reg_store.specs.Changes.{IsNewTo, stored_after_changes, stored_after_apply, SpellsInTransaction}
+
+-- if the tables spelled a registry that the change fits, they now spell the state after it
+abbrev pub StoresChange : State → State → Change → Type 0
+StoresChange old new change = (was : Stored) → Spells old.now was → ChangeFits change was.registry → Spells new.now (stored_after_changes (change ∷ []) was)
+
+-- the same for several changes, each of which fits after those before it
+abbrev pub StoresChanges : State → State → List Change → Type 0
+StoresChanges old new changes = (was : Stored) → Spells old.now was → ChangesFit changes was.registry → Spells new.now (stored_after_changes changes was)
+
+-- the same for a reply, if any
+abbrev pub StoresReply : State → State → Option Keep → Type 0
+StoresReply old new keep = (was : Stored) → Spells old.now was → IsNewTo was.replies keep → Spells new.now (stored_after_apply [] keep was)
+
+-- a change that fits the registry fails only for a reason that every write has
+abbrev pub IsFaultOfChange : State → State → Change → Error → Type 0
+IsFaultOfChange old new change e = (was : Stored) → SpellsInTransaction old was → ChangeFits change was.registry → IsInsertFault old new e
+
+abbrev pub IsFaultOfChanges : State → State → List Change → Error → Type 0
+IsFaultOfChanges old new changes e = (was : Stored) → SpellsInTransaction old was → ChangesFit changes was.registry → IsInsertFault old new e
+
+-- the same for a reply with a new key
+abbrev pub IsFaultOfReply : State → State → Option Keep → Error → Type 0
+IsFaultOfReply old new keep e = (was : Stored) → SpellsInTransaction old was → IsNewTo was.replies keep → IsInsertFault old new e
+
+-- ---- the evidence of a new version
+
+-- the contents with the ids at the version's positions from this one on
+abbrev pub with_ids : RowKey → ℕ → List ℕ → Contents → Contents
+with_ids key n [] contents = contents
+with_ids key n (id ∷ ids) contents = with_ids key (n + 1) ids (with_against (key, n) id contents)
+
+-- the contents with this evidence of the version
+abbrev pub with_own : RowKey → Evidence → Contents → Contents
+with_own key own contents = with_ids key 1 own.against (with_evidence key (level_text own.level) contents)
+
+-- the version has no ids
+abbrev pub HasNoPositions : Contents → RowKey → Type 0
+HasNoPositions contents key = (position : ℕ) → get contents.against (key, position) ≡ None
+
+-- the version exists, and so do texts with these ids
+pub record HasTexts (contents : Contents) (key : RowKey) (ids : List ℕ) : Type 0 where
+  pub version : IsSome (get contents.versions key)
+  pub texts : All (λ id. IsSome (get contents.texts id)) ids
+
+-- if the version had no ids, these ids are now at its positions from 1 on
+pub record PutsIds (old new : State) (key : RowKey) (ids : List ℕ) : Type 0 where
+  pub few : length ids < 2 ^ 32
+  pub puts : (schema : Schema) → IsLayoutTwo schema → (contents : Contents) → HoldsContents schema old.now contents → HasNoPositions contents key → HoldsContents schema new.now (with_ids key 1 ids contents)
+
+-- adding the ids fails only for a reason that every write has
+abbrev pub IsFaultOfIds : State → State → RowKey → List ℕ → Error → Type 0
+IsFaultOfIds old new key ids e = (schema : Schema) → IsLayoutTwo schema → (contents : Contents) → HoldsContents schema old.now contents → HasNoPositions contents key → HasTexts contents key ids → IsInsertFault old new e
+
+-- if the version had no evidence, it now has this
+pub record PutsOwn (old new : State) (key : RowKey) (own : Evidence) : Type 0 where
+  pub few : length own.against < 2 ^ 32
+  pub puts : (schema : Schema) → IsLayoutTwo schema → (contents : Contents) → HoldsContents schema old.now contents → get contents.evidence key ≡ None → HasNoPositions contents key → HoldsContents schema new.now (with_own key own contents)
+
+-- adding the evidence fails only for a reason that every write has
+abbrev pub IsFaultOfOwn : State → State → RowKey → Evidence → Error → Type 0
+IsFaultOfOwn old new key own e = (schema : Schema) → IsLayoutTwo schema → (contents : Contents) → HoldsContents schema old.now contents → get contents.evidence key ≡ None → HasNoPositions contents key → HasTexts contents key own.against → IsInsertFault old new e
+
+-- ---- adding the index
+
+-- the trees hold the same contents as the tables without the index, for any contents
+abbrev pub HoldsWithIndex : Database → Trees → Type 0
+HoldsWithIndex before db = (held : Contents) → HoldsContents layout_two_unindexed before held → HoldsContents layout_two_indexed_last (record { schema = layout_two_indexed_last; trees = db }) held
+
+-- ---- a new registry, in either layout
+
+abbrev pub SpellsNew : Layout → Database → Type 0
+SpellsNew One db = SpellsLayoutOne db new_stored
+SpellsNew Two db = Spells db new_stored
+
+abbrev pub IsNew : Layout → State → Type 0
+IsNew One s = IsOpenOverLayoutOne s new_stored
+IsNew Two s = IsOpenOver s new_stored
+
+abbrev pub RecoversToNew : Layout → Trees → Type 0
+RecoversToNew One db = RecoversToLayoutOne db new_stored
+RecoversToNew Two db = RecoversTo db new_stored

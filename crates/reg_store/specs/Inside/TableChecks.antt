@@ -1,0 +1,244 @@
+-- What the tables are checked for before a store is opened over them.
+use Rattle.std.specs.Prelude.{◌≡◌, ◌<◌, ◌≤◌, ◌↔◌, ◌^◌, ℕ, ℤ, List, map, flat_map, length, string_bytes, Bool, false, Option, Some, Result, Ok, Err, IfOk, IfErr, IsTrue}
+use Rattle.std.specs.List.{IsDistinct, AllByRecursion, AllZip}
+use Rattle.std.specs.Ordering.{int_cmp, eq_by_cmp}
+use Rattle.sqlite.specs.Schema.{Schema}
+use Rattle.sqlite.specs.Effect.{Database}
+use Rattle.sqlite.specs.Held.{Held, state}
+use Rattle.sqlite.specs.State.{HasCleanDisk}
+use Rattle.sqlite_trees.specs.declared.store.Store.{Ghosts}
+use Rattle.reg_tables.specs.declared.raw_texts.RawText.{RawText}
+use Rattle.reg_tables.specs.declared.versions.RawVersion.{RawVersion}
+use Rattle.reg_tables.specs.declared.levels.RawLevel.{RawLevel}
+use Rattle.reg_tables.specs.declared.kept.RawKept.{RawKept}
+use Rattle.reg_tables.specs.declared.meta.RawMeta.{RawMeta}
+use Rattle.reg_tables.specs.declared.modes.RawMode.{RawMode}
+use Rattle.reg_tables.specs.declared.evidence.RawEvidence.{RawEvidence}
+use Rattle.reg_tables.specs.declared.evidence.RawAgainst.{RawAgainst}
+use Rattle.reg_tables.specs.Layout.{HasFiveTables, HasEightTables}
+use Rattle.reg_tables.specs.Listings.{ListsIds, ListsTexts, ListsVersions, ListsLevels, ListsKept, ListsMeta, ListsModes, ListsEvidence, ListsAgainst, ListsAgainstOf, HasAgainstRows}
+use Rattle.reg_tables.specs.Frames.{ReadsInAutocommit}
+use Rattle.reg_rows.specs.Spelling.{meta_pair, IsIdentity, AreConsecutive, AreTexts, FitsVersions, FitsLevels, FitsKept, FitsModes, FitsEvidence}
+use Rattle.reg_rows.specs.Meta.{MetaPair, is_layout_one_meta, is_layout_two_meta, layout_in}
+use Rattle.reg_rows.specs.Positions.{VersionPosition, HaveEvidence, AreContiguous}
+use Rattle.reg_core.specs.Registry.{RowKey, max_number}
+use Rattle.reg_core.specs.Stored.{Stored}
+use Rattle.reg_store.specs.declared.error.StoreError.{StoreError}
+use Rattle.reg_store.specs.declared.error.StoreError.TheVariants.{Memory, Disk, NotARegistry, OldLayout, NewerLayout}
+use Rattle.reg_store.specs.declared.layout.Layout.{Layout}
+use Rattle.reg_store.specs.declared.layout.Layout.TheVariants.{One, Two}
+use Rattle.reg_store.specs.Failures.{IsFaultBy, HasDiskCause}
+use Rattle.reg_store.specs.Opening.{text_columns, meta_columns}
+use Rattle.reg_store.specs.Spells.{SpellsLayoutOne, SpellsUnopened}
+use Rattle.reg_store.specs.Inside.Reads.{SpellsBase}
+
+abbrev pub AreDistinct : List ℤ → Type 0
+AreDistinct = IsDistinct (eq_by_cmp int_cmp)
+
+-- ---- valid tables
+
+abbrev pub text_fits : RawText → Type 0
+text_fits line = IsIdentity (string_bytes line.text)
+
+abbrev pub version_fits : RawVersion → Type 0
+version_fits line = FitsVersions (string_bytes line.subject) line.version
+
+abbrev pub level_fits : RawLevel → Type 0
+level_fits line = FitsLevels (string_bytes line.subject) (string_bytes line.level)
+
+abbrev pub kept_fits : RawKept → Type 0
+kept_fits line = FitsKept (string_bytes line.key) line.reply.status
+
+pub record LevelsPass (db : Database) : Type 0 where
+  pub lines : List RawLevel
+  pub lists : ListsLevels db lines
+  pub apart : AreDistinct (map (λ (line : RawLevel). line.rowid) lines)
+  pub fit : AllByRecursion level_fits lines
+
+pub record KeptPass (db : Database) : Type 0 where
+  pub lines : List RawKept
+  pub lists : ListsKept db lines
+  pub apart : AreDistinct (map (λ (line : RawKept). line.rowid) lines)
+  pub fit : AllByRecursion kept_fits lines
+
+abbrev pub pairs_of : List RawMeta → List MetaPair
+pairs_of lines = map meta_pair (map meta_columns lines)
+
+abbrev pub number_of : Layout → ℕ
+number_of One = 1
+number_of Two = 2
+
+abbrev pub is_meta_of : Layout → List MetaPair → Bool
+is_meta_of One = is_layout_one_meta
+is_meta_of Two = is_layout_two_meta
+
+pub record MetaPass (layout : Layout) (db : Database) : Type 0 where
+  pub lines : List RawMeta
+  pub lists : ListsMeta db lines
+  pub apart : AreDistinct (map (λ (line : RawMeta). line.rowid) lines)
+  pub fit : IsTrue (is_meta_of layout (pairs_of lines))
+
+-- the rows of `texts` in the order of their ids
+pub record TextsPass (db : Database) : Type 0 where
+  pub lines : List RawText
+  pub lists : ListsTexts db lines
+  pub fit : AreTexts (map text_columns lines)
+
+pub record VersionsPass (db : Database) : Type 0 where
+  pub lines : List RawVersion
+  pub lists : ListsVersions db lines
+  pub apart : AreDistinct (map (λ (line : RawVersion). line.rowid) lines)
+  pub fit : AllByRecursion version_fits lines
+
+pub record RestPasses (db : Database) : Type 0 where
+  pub texts : TextsPass db
+  pub versions : VersionsPass db
+  pub levels : LevelsPass db
+  pub kept : KeptPass db
+
+pub record FivePass (layout : Layout) (db : Database) : Type 0 where
+  pub meta : MetaPass layout db
+  pub rest : RestPasses db
+
+-- ---- the tables that layout 2 adds
+
+abbrev pub mode_fits : RawMode → Type 0
+mode_fits line = FitsModes (string_bytes line.subject) (string_bytes line.mode)
+
+abbrev pub evidence_fits : RawEvidence → Type 0
+evidence_fits line = FitsEvidence (string_bytes line.level)
+
+abbrev pub against_fits : RawAgainst → Type 0
+against_fits line = line.position < 2 ^ 32
+
+abbrev pub version_at : RawEvidence → RowKey
+version_at line = (string_bytes line.subject, line.version)
+
+abbrev pub place_at : RawAgainst → VersionPosition
+place_at line = ((string_bytes line.subject, line.version), line.position)
+
+-- each version with ids has evidence, and its ids are at consecutive positions
+abbrev pub AreInSequence : List RawEvidence → List RawAgainst → Type 0
+AreInSequence evidence against = HaveEvidence (map version_at evidence) (map place_at against) × AreContiguous (map place_at against)
+
+pub record ModesPass (db : Database) : Type 0 where
+  pub lines : List RawMode
+  pub lists : ListsModes db lines
+  pub apart : AreDistinct (map (λ (line : RawMode). line.rowid) lines)
+  pub fit : AllByRecursion mode_fits lines
+
+pub record EvidenceFits (evidence : List RawEvidence) (against : List RawAgainst) : Type 0 where
+  pub apart : AreDistinct (map (λ (line : RawEvidence). line.rowid) evidence)
+  pub fit : AllByRecursion evidence_fits evidence
+  pub places_apart : AreDistinct (map (λ (line : RawAgainst). line.rowid) against)
+  pub places_fit : AllByRecursion against_fits against
+  pub placed : AreInSequence evidence against
+
+pub record EvidencePasses (db : Database) : Type 0 where
+  pub evidence : List RawEvidence
+  pub against : List RawAgainst
+  pub lists : ListsEvidence db evidence × ListsAgainst db against
+  pub fits : EvidenceFits evidence against
+
+pub record AddedPass (db : Database) : Type 0 where
+  pub modes : ModesPass db
+  pub evidence : EvidencePasses db
+
+pub record EightPass (db : Database) : Type 0 where
+  pub base : FivePass Two db
+  pub added : AddedPass db
+
+-- ---- texts, some at a time
+
+-- the ids of all rows are the numbers from 1 to `count`
+pub record NumbersTexts (db : Database) (count : ℕ) : Type 0 where
+  pub ids : List ℕ
+  pub lists : ListsIds db ids
+  pub numbered : AreConsecutive 1 ids
+  pub is : length ids ≡ count
+  pub few : count ≤ max_number
+
+-- whether each of the listed rows has the identity text of a schema
+pub record Judges (Lists : List RawText → Type 0) (fit : Bool) : Type 0 where
+  pub lines : List RawText
+  pub lists : Lists lines
+  pub judged : IsTrue fit ↔ AllByRecursion text_fits lines
+
+-- ---- ids, one version at a time
+
+-- rows of a version, with consecutive positions
+abbrev pub ArePositionsInOrder : List RawAgainst → Type 0
+ArePositionsInOrder lines = AllByRecursion against_fits lines × AreContiguous (map place_at lines)
+
+abbrev pub rowids_in : List RawAgainst → List ℤ
+rowids_in = map (λ (line : RawAgainst). line.rowid)
+
+-- the rowids of a version's ids, and whether their positions are consecutive
+pub record JudgesVersion (version : RowKey) (db : Database) (rowids : List ℤ) (fit : Bool) : Type 0 where
+  pub lines : List RawAgainst
+  pub lists : ListsAgainstOf version db lines
+  pub have : rowids_in lines ≡ rowids
+  pub judged : IsTrue fit ↔ ArePositionsInOrder lines
+
+-- the same for several versions
+pub record JudgesVersions (versions : List RowKey) (db : Database) (rowids : List ℤ) (fit : Bool) : Type 0 where
+  pub parts : List (List RawAgainst)
+  pub lists : AllZip (λ version lines. ListsAgainstOf version db lines) versions parts
+  pub have : rowids_in (flat_map (λ lines. lines) parts) ≡ rowids
+  pub judged : IsTrue fit ↔ AllByRecursion ArePositionsInOrder parts
+
+-- the same, with the number of rows of `against`
+pub record JudgesIds (versions : List RowKey) (db : Database) (rowids : List ℤ) (fit : Bool) (count : ℕ) : Type 0 where
+  pub judged : JudgesVersions versions db rowids fit
+  pub counted : HasAgainstRows db count
+
+-- ---- verdicts
+
+abbrev pub PassesMeta : Layout → List RawMeta → Type 0
+PassesMeta layout lines = AreDistinct (map (λ (line : RawMeta). line.rowid) lines) × IsTrue (is_meta_of layout (pairs_of lines))
+
+-- another layout is reported before an invalid row
+abbrev pub Allows : ℕ → Option ℕ → Bool → Result (Unit {0}) StoreError → Type 0
+Allows own named passes (Ok _) = IsTrue passes
+Allows own named passes (Err Memory) = ⊥
+Allows own named passes (Err Disk) = ⊥
+Allows own named passes (Err NotARegistry) = (passes ≡ false) × ((number : ℕ) → named ≡ Some number → number ≡ own)
+Allows own named passes (Err (OldLayout number)) = (named ≡ Some number) × (number < own)
+Allows own named passes (Err (NewerLayout number)) = (named ≡ Some number) × (own < number)
+
+-- the format and the layout are checked before the other rows
+abbrev pub JudgesMeta : Layout → List RawMeta → Result (Unit {0}) StoreError → Type 0
+JudgesMeta layout lines (Ok _) = PassesMeta layout lines
+JudgesMeta layout lines (Err Memory) = Unit {0}
+JudgesMeta layout lines (Err Disk) = ⊥
+JudgesMeta layout lines (Err NotARegistry) = (PassesMeta layout lines → ⊥) × ((number : ℕ) → layout_in (pairs_of lines) ≡ Some number → number ≡ number_of layout)
+JudgesMeta layout lines (Err (OldLayout number)) = (layout_in (pairs_of lines) ≡ Some number) × (number < number_of layout)
+JudgesMeta layout lines (Err (NewerLayout number)) = (layout_in (pairs_of lines) ≡ Some number) × (number_of layout < number)
+
+-- ---- the expected state
+
+pub record SpellsSome (Spells : Database → Stored → Type 0) (db : Database) : Type 0 where
+  pub stored : Stored
+  pub spells : Spells db stored
+
+abbrev pub SpellsAs : Layout → Database → Type 0
+SpellsAs One = SpellsSome SpellsLayoutOne
+SpellsAs Two = SpellsSome SpellsUnopened
+
+-- ---- a check
+
+-- A call that changes nothing. It returns facts about tables declared as expected. If the tables spell the expected state, only a fault makes it fail. `Disk`
+-- has a disk fault as its cause.
+pub record Checks {S X : Type 0} (Declared : Schema → Type 0) (Spelled : Database → Type 0) (g : Ghosts S) (old new : Held S) (result : Result X StoreError) (IsAnswer : X → Database → Type 0) : Type 0 where
+  pub frame : ReadsInAutocommit g old new result
+  pub tells : HasCleanDisk (state g new) → IfOk result (λ x. Declared (state g old).now.schema → IsAnswer x (state g old).now)
+  pub fault : HasCleanDisk (state g new) → IfErr result (λ e. (IsTrue (state g old).is_open → Spelled (state g old).now) → IsFaultBy (state g old) (state g new) e)
+  pub disk_cause : HasCleanDisk (state g new) → IfErr result (λ e. (IsTrue (state g old).is_open → Declared (state g old).now.schema) → HasDiskCause (state g old) (state g new) e)
+
+-- a check of the five tables of both layouts
+abbrev pub ChecksFive : {S X : Type 0} → Ghosts S → Held S → Held S → Result X StoreError → (X → Database → Type 0) → Type 0
+ChecksFive = Checks HasFiveTables (SpellsSome SpellsBase)
+
+-- a check of the eight tables of layout 2
+abbrev pub ChecksEight : {S X : Type 0} → Ghosts S → Held S → Held S → Result X StoreError → (X → Database → Type 0) → Type 0
+ChecksEight = Checks HasEightTables (SpellsAs Two)

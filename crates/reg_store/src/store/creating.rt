@@ -1,0 +1,166 @@
+//! Creating a store, and getting its connection back.
+
+ghost use Rattle.std.specs.Prelude.{◌≡◌, ◌≢◌, ◌⊎◌, IfOk, IfErr, OnOk, OnErr, IsErrAnd, IsTrue, None, false};
+ghost use Rattle.sqlite.specs.Tree.{Trees};
+ghost use Rattle.sqlite.specs.Held.{state};
+ghost use Rattle.sqlite.specs.State.{HasCleanDisk, Survives, KeepsCommit};
+ghost use Rattle.reg_core.specs.Stored.{new_stored};
+ghost use Rattle.reg_tables.specs.Layout.{no_schema};
+ghost use Rattle.reg_tables.specs.FailedCalls.{IsWriteFault};
+ghost use Rattle.reg_tables.specs.Writing.{Transforms, IsEmpty};
+ghost use Rattle.reg_store.specs.Spells.{RecoversToLayoutOne, IsOpenOverLayoutOne, RecoversTo, IsOpenOver};
+ghost use Rattle.reg_store.specs.Failures.{failure_of, IsFaultBy};
+ghost use Rattle.reg_store.specs.Stores.{connection_of, state_of, has_failed, KeepsCrashStates, IsCreateFailure};
+ghost use Rattle.reg_store.specs.Inside.Applying.{SpellsNew, IsNew, RecoversToNew};
+ghost use Rattle.reg_store.specs.Inside.Reads.{shown};
+
+use crate::conn::Conn;
+use crate::error::StoreError;
+use crate::layout::Layout;
+use crate::store::Store;
+use reg_tables::has_no_tables;
+use sqlite::{Alter, Connection, Error, Transaction};
+use std::alloc::Global;
+
+impl<S: Alter> Store<S> {
+    /// Creates a new registry, without replies or evidence, in an empty database. The connection is
+    /// outside a transaction; a failed call returns it.
+    ///
+    /// # Errors
+    ///
+    /// `NotARegistry` if and only if the database isn't empty; `Memory` or `Disk`. The database
+    /// stays as it was; but after `Disk` a crash may leave the new registry.
+    pub fn create(
+        alloc: Global,
+        mut connection: Connection<S>,
+    ) -> Result<Store<S>, (StoreError, Connection<S>)>
+        requires { connection.in_transaction ≡ false }
+        ensures done { IfOk result (λ store. HasCleanDisk (state_of store)
+            → IsOpenOver (state_of store) new_stored) }
+        ensures unfailed { IfOk result (λ store. has_failed store ≡ false) }
+        ensures full { (state S.Store connection).now.schema ≢ no_schema
+            → IsErrAnd result (λ e. e.0 ≡ StoreError.NotARegistry) }
+        ensures idle { IfErr result (λ e. e.1.in_transaction ≡ false) }
+
+        ensures fails { IfErr result (λ e. IsCreateFailure (λ db. RecoversTo db new_stored)
+            (state S.Store connection) (state S.Store e.1) e.0) }
+
+        // A crash leaves the new registry.
+        ensures crash_after { IfOk result (λ store. HasCleanDisk (state_of store) → (db : Trees)
+            → (state_of store).may_leave db → RecoversTo db new_stored) }
+    {
+        connection.set_step_limit(None);
+        if !has_no_tables(&connection) {
+            let _idle = connection.is_autocommit();
+            return Err((StoreError::NotARegistry, connection));
+        }
+        let mut db = Conn {
+            idle: reg_tables::AutocommitConnection { conn: connection },
+        };
+        let made = create_in(&mut db, Layout::Two);
+        let _idle = db.idle.conn.is_autocommit();
+        match made {
+            Ok(()) => Ok(Store {
+                alloc,
+                db,
+                failed: false,
+            }),
+            Err(error) => {
+                let Conn { idle } = db;
+                let reg_tables::AutocommitConnection { conn } = idle;
+                Err((StoreError::from(error), conn))
+            }
+        }
+    }
+
+    /// Whether the store has returned `Disk`. From then on every call returns it.
+    pub fn failed(&self) -> bool
+        ensures { result ≡ has_failed self.now }
+    {
+        self.failed
+    }
+
+    /// The connection, outside a transaction.
+    pub fn into_connection(self) -> Connection<S>
+        ensures same { result ≡ connection_of self }
+        ensures idle { result.in_transaction ≡ false }
+    {
+        let Store {
+            alloc: _,
+            db,
+            failed: _,
+        } = self;
+        let Conn { idle } = db;
+        let reg_tables::AutocommitConnection { conn } = idle;
+        conn
+    }
+}
+
+/// Creates a new registry in layout 1, as programs before layout 2 did, in an empty database. The
+/// connection is outside a transaction, and the call returns it.
+///
+/// # Errors
+///
+/// `NotARegistry` if and only if the database isn't empty; `Memory` or `Disk`. The database stays
+/// as it was; but after `Disk` a crash may leave the new registry.
+pub fn create_first<S: Alter>(
+    mut connection: Connection<S>,
+) -> (Result<(), StoreError>, Connection<S>)
+    requires { connection.in_transaction ≡ false }
+    ensures idle { result.1.in_transaction ≡ false }
+    ensures done { HasCleanDisk (state S.Store result.1)
+        → OnOk result.0 (IsOpenOverLayoutOne (state S.Store result.1) new_stored) }
+    ensures full { (state S.Store connection).now.schema ≢ no_schema
+        → IsErrAnd result.0 (λ e. e ≡ StoreError.NotARegistry) }
+
+    ensures fails { IfErr result.0 (IsCreateFailure (λ db. RecoversToLayoutOne db new_stored)
+        (state S.Store connection) (state S.Store result.1)) }
+
+    // A crash leaves the new registry.
+    ensures crash_after { HasCleanDisk (state S.Store result.1) → OnOk result.0 ((db : Trees)
+        → (state S.Store result.1).may_leave db → RecoversToLayoutOne db new_stored) }
+{
+    connection.set_step_limit(None);
+    if !has_no_tables(&connection) {
+        let _idle = connection.is_autocommit();
+        return (Err(StoreError::NotARegistry), connection);
+    }
+    let mut db = Conn {
+        idle: reg_tables::AutocommitConnection { conn: connection },
+    };
+    let made = create_in(&mut db, Layout::One);
+    let _idle = db.idle.conn.is_autocommit();
+    let Conn { idle } = db;
+    let reg_tables::AutocommitConnection { conn } = idle;
+    match made {
+        Ok(()) => (Ok(()), conn),
+        Err(error) => (Err(StoreError::from(error)), conn),
+    }
+}
+
+/// Creates the tables of a new registry in one transaction.
+fn create_in<S: Alter>(db: &mut Conn<S>, layout: Layout) -> Result<(), Error>
+    ensures done { HasCleanDisk (shown db.new) → OnOk result ((shown db.old).now.schema ≡ no_schema
+        → IsNew layout (shown db.new)) }
+    ensures fault { HasCleanDisk (shown db.new) → IfErr result (λ e.
+        (shown db.old).now.schema ≡ no_schema
+        → IsFaultBy (shown db.old) (shown db.new) (failure_of e)) }
+    ensures nothing { HasCleanDisk (shown db.new) → OnErr result (KeepsCommit (shown db.old) (shown db.new)) }
+    ensures before { HasCleanDisk (shown db.new) → IfErr result (λ e. IsTrue (shown db.old).is_open
+        → KeepsCrashStates (shown db.old) (shown db.new) (failure_of e)) }
+    ensures survives { Survives (shown db.old) (shown db.new) (λ left.
+        (shown db.old).now.schema ≡ no_schema → RecoversToNew layout left) }
+{
+    let mut tx = db.idle.conn.transaction();
+    create_tables(&mut tx, layout)?;
+    tx.commit()
+}
+
+fn create_tables<S: Alter>(tx: &mut Transaction<'_, S>, layout: Layout) -> Result<(), Error>
+    ensures { Transforms IsWriteFault S.Store tx.old tx.new result IsEmpty (λ _. SpellsNew layout) }
+{
+    match layout {
+        Layout::One => reg_tables::create_layout_one(tx),
+        Layout::Two => reg_tables::create_layout_two(tx),
+    }
+}

@@ -1,0 +1,90 @@
+//! The next versions in the order of subjects and numbers.
+
+ghost use Rattle.std.specs.Prelude.{◌≡◌, ◌&&◌, None, find, bytes_eq, slice_get, option_map, option_copied};
+ghost use Rattle.std.specs.FinMap.{entries};
+ghost use Rattle.std.specs.Ordering.{is_gt, nat_cmp};
+ghost use Rattle.reg_core.specs.Registry.{row_cmp};
+ghost use Rattle.reg_tables.specs.Contents.{text_cmp};
+ghost use Rattle.reg_store.specs.NextLines.{is_after, subject_in, key_in};
+ghost use Rattle.reg_store.specs.Inside.Reads.{Reads};
+
+use crate::conn::Conn;
+use crate::error::StoreError;
+use crate::store::rows::row_in;
+use reg_core::{Row, Subject};
+use reg_tables::{first_version_after, next_version_of};
+use sqlite::Alter;
+
+/// The first version of the next subject after that of `last`, or the first version of all.
+pub(crate) fn next_subject<S: Alter>(
+    db: &mut Conn<S>,
+    last: Option<&Row>,
+) -> Result<Option<Row>, StoreError>
+    ensures { Reads db.old db.new result (λ was found.
+        found ≡ find (λ row. is_after text_cmp (option_map subject_in (option_copied last.entry)) row.0.0) (entries was.registry.rows)) }
+{
+    match last {
+        None => first_of_all(db),
+        Some(last) => first_after(db, last.subject().as_str()),
+    }
+}
+
+/// The next version after `last`, or the first of all.
+pub(crate) fn next_version<S: Alter>(
+    db: &mut Conn<S>,
+    last: Option<&Row>,
+) -> Result<Option<Row>, StoreError>
+    ensures { Reads db.old db.new result (λ was found.
+        found ≡ find (λ row. is_after row_cmp (option_map key_in (option_copied last.entry)) row.0) (entries was.registry.rows)) }
+{
+    match last {
+        None => first_of_all(db),
+        Some(last) => version_after(db, last),
+    }
+}
+
+fn first_of_all<S: Alter>(db: &mut Conn<S>) -> Result<Option<Row>, StoreError>
+    ensures { Reads db.old db.new result (λ was found. found ≡ slice_get (entries was.registry.rows) 0) }
+{
+    // No subject is the empty text.
+    first_after(db, "")
+}
+
+fn version_after<S: Alter>(db: &mut Conn<S>, last: &Row) -> Result<Option<Row>, StoreError>
+    ensures { Reads db.old db.new result (λ was found.
+        found ≡ find (λ row. is_gt (row_cmp row.0 last.now.0)) (entries was.registry.rows)) }
+{
+    match number_after(db, last.subject(), last.version())? {
+        Some(row) => Ok(Some(row)),
+        None => first_after(db, last.subject().as_str()),
+    }
+}
+
+/// The version of the subject with the least number above this one.
+fn number_after<S: Alter>(
+    db: &mut Conn<S>,
+    subject: &Subject,
+    number: u32,
+) -> Result<Option<Row>, StoreError>
+    ensures { Reads db.old db.new result (λ was found.
+        found ≡ find (λ row. bytes_eq row.0.0 subject.now && is_gt (nat_cmp row.0.1 number)) (entries was.registry.rows)) }
+{
+    match next_version_of(&mut db.idle, subject.as_str(), number)? {
+        None => Ok(None),
+        Some(line) => {
+            let owner = subject.try_clone()?;
+            Ok(Some(Row::new(owner, line.number, line.id, line.deleted)))
+        }
+    }
+}
+
+/// The first version of the next subject after this one.
+fn first_after<S: Alter>(db: &mut Conn<S>, subject: &str) -> Result<Option<Row>, StoreError>
+    ensures { Reads db.old db.new result (λ was found.
+        found ≡ find (λ row. is_gt (text_cmp row.0.0 subject.now)) (entries was.registry.rows)) }
+{
+    match first_version_after(&mut db.idle, subject)? {
+        None => Ok(None),
+        Some(line) => Ok(Some(row_in(line)?)),
+    }
+}

@@ -1,0 +1,208 @@
+//! Reads only those versions of a subject that determine a command's reply and changes.
+
+ghost use Rattle.std.specs.Prelude.{◌≡◌, ◌++◌, ◌∷◌, [], ℕ, Option, Some, IfOk, false, if◌then◌else◌};
+ghost use Rattle.reg_core.specs.declared.level.Level.{Level};
+ghost use Rattle.reg_core.specs.declared.number.VersionChoice.TheVariants.{Latest};
+ghost use Rattle.reg_core.specs.Compatibility.{is_transitive, named_versions};
+ghost use Rattle.reg_core.specs.DeletionCommands.{row_to_delete};
+ghost use Rattle.reg_core.specs.ReadCommands.{lookup_row};
+ghost use Rattle.reg_core.specs.RegisterCommands.{is_among};
+ghost use Rattle.reg_core.specs.Rows.{live_rows, rows_of, shown_rows};
+ghost use Rattle.reg_core.specs.Needs.{SufficeToRegister};
+ghost use Rattle.reg_tables.specs.Entries.{subject_version_view};
+ghost use Rattle.reg_store.specs.Inside.Reads.{MayRead, Reads};
+ghost use Rattle.reg_store.specs.Inside.Viewing.{row_numbered};
+
+use crate::conn::Conn;
+use crate::error::StoreError;
+use crate::store::chosen::{chosen_rows, last_line, last_rows, numbered_rows, row_list};
+use crate::store::last_with_id::line_with_id;
+use crate::store::rows::{push_row, subject_rows};
+use reg_core::{Level, OutOfMemory, Row, Subject, VersionChoice};
+use reg_tables::SubjectVersion;
+use sqlite::Alter;
+use std::alloc::Global;
+
+/// The version to delete, if any; otherwise one that shows why there is none, if the subject has
+/// versions.
+pub(crate) fn deleted_rows<S: Alter>(
+    alloc: Global,
+    db: &mut Conn<S>,
+    subject: &Subject,
+    choice: Option<VersionChoice>,
+    permanent: bool,
+) -> Result<Vec<Row>, StoreError>
+    ensures { MayRead db.old db.new result (λ was rows.
+        row_to_delete permanent choice rows.items
+        ≡ row_to_delete permanent choice (rows_of was.registry subject.now)) }
+{
+    if permanent {
+        return chosen_rows(alloc, db, subject, choice, true);
+    }
+    let Some(choice) = choice else {
+        return Ok(Vec::new(alloc));
+    };
+    match choice {
+        VersionChoice::Latest => soft_deletion_rows(alloc, db, subject),
+        VersionChoice::Numbered(number) => numbered_rows(alloc, db, subject, number, true),
+    }
+}
+
+/// The last live version; the last version if none is live.
+fn soft_deletion_rows<S: Alter>(
+    alloc: Global,
+    db: &mut Conn<S>,
+    subject: &Subject,
+) -> Result<Vec<Row>, StoreError>
+    ensures { Reads db.old db.new result (λ was rows.
+        row_to_delete false (Some Latest) rows.items
+        ≡ row_to_delete false (Some Latest) (rows_of was.registry subject.now)) }
+{
+    let live = last_rows(alloc, db, subject, false)?;
+    if live.is_empty() {
+        return last_rows(alloc, db, subject, true);
+    }
+    Ok(live)
+}
+
+/// The versions that the level compares with: the last live one, or all.
+pub(crate) fn compared_rows<S: Alter>(
+    alloc: Global,
+    db: &mut Conn<S>,
+    subject: &Subject,
+    level: Level,
+) -> Result<Vec<Row>, StoreError>
+    ensures { Reads db.old db.new result (λ was rows.
+        named_versions level (live_rows rows.items)
+        ≡ named_versions level (live_rows (rows_of was.registry subject.now))) }
+{
+    if level.is_transitive() {
+        return subject_rows(alloc, db, subject);
+    }
+    last_rows(alloc, db, subject, false)
+}
+
+/// The versions that suffice to register a schema: a live one with its id, else those that the new
+/// version may follow.
+pub(crate) fn registered_rows<S: Alter>(
+    alloc: Global,
+    db: &mut Conn<S>,
+    subject: &Subject,
+    level: Level,
+    known: Option<u32>,
+) -> Result<Vec<Row>, StoreError>
+    ensures { Reads db.old db.new result (λ was rows.
+        SufficeToRegister level known rows.items (rows_of was.registry subject.now)) }
+{
+    match known {
+        Some(id) => known_schema_rows(alloc, db, subject, level, id),
+        None => new_schema_rows(alloc, db, subject, level),
+    }
+}
+
+/// The same if the schema has this id.
+fn known_schema_rows<S: Alter>(
+    alloc: Global,
+    db: &mut Conn<S>,
+    subject: &Subject,
+    level: Level,
+    id: u32,
+) -> Result<Vec<Row>, StoreError>
+    ensures { Reads db.old db.new result (λ was rows.
+        SufficeToRegister level (Some id) rows.items (rows_of was.registry subject.now)) }
+{
+    match line_with_id(alloc, db, subject, false, id)? {
+        Some(line) => Ok(row_list(alloc, subject, Some(line))?),
+        None => new_schema_rows(alloc, db, subject, level),
+    }
+}
+
+/// The versions that suffice to look up a schema.
+pub(crate) fn looked_up_rows<S: Alter>(
+    alloc: Global,
+    db: &mut Conn<S>,
+    subject: &Subject,
+    deleted: bool,
+    known: Option<u32>,
+) -> Result<Vec<Row>, StoreError>
+    ensures { Reads db.old db.new result (λ was rows.
+        lookup_row known (shown_rows deleted rows.items)
+        ≡ lookup_row known (shown_rows deleted (rows_of was.registry subject.now))) }
+{
+    match known {
+        Some(id) => found_rows(alloc, db, subject, deleted, id),
+        None => last_rows(alloc, db, subject, deleted),
+    }
+}
+
+/// The last shown version of the subject with the id; else the last shown version.
+fn found_rows<S: Alter>(
+    alloc: Global,
+    db: &mut Conn<S>,
+    subject: &Subject,
+    deleted: bool,
+    id: u32,
+) -> Result<Vec<Row>, StoreError>
+    ensures { Reads db.old db.new result (λ was rows.
+        lookup_row (Some id) (shown_rows deleted rows.items)
+        ≡ lookup_row (Some id) (shown_rows deleted (rows_of was.registry subject.now))) }
+{
+    match line_with_id(alloc, db, subject, deleted, id)? {
+        Some(line) => Ok(row_list(alloc, subject, Some(line))?),
+        None => last_rows(alloc, db, subject, deleted),
+    }
+}
+
+/// The versions that suffice to register a schema that no live version has: the last one and the
+/// last live one, or all if the level is transitive.
+fn new_schema_rows<S: Alter>(
+    alloc: Global,
+    db: &mut Conn<S>,
+    subject: &Subject,
+    level: Level,
+) -> Result<Vec<Row>, StoreError>
+    ensures { Reads db.old db.new result (λ was rows. (known : Option ℕ)
+        → is_among known (live_rows (rows_of was.registry subject.now)) ≡ false
+        → SufficeToRegister level known rows.items (rows_of was.registry subject.now)) }
+{
+    if level.is_transitive() {
+        return subject_rows(alloc, db, subject);
+    }
+    newest_rows(alloc, db, subject)
+}
+
+/// The last live version, and after it the last version if that is soft-deleted.
+fn newest_rows<S: Alter>(
+    alloc: Global,
+    db: &mut Conn<S>,
+    subject: &Subject,
+) -> Result<Vec<Row>, StoreError>
+    ensures { Reads db.old db.new result (λ was rows. (level : Level) (known : Option ℕ)
+        → is_transitive level ≡ false → is_among known (live_rows (rows_of was.registry subject.now)) ≡ false
+        → SufficeToRegister level known rows.items (rows_of was.registry subject.now)) }
+{
+    let live = last_rows(alloc, db, subject, false)?;
+    match last_line(db, subject, true)? {
+        None => Ok(live),
+        Some(line) => Ok(with_deleted(live, subject, line)?),
+    }
+}
+
+/// The versions, and after them the row's version if that is soft-deleted.
+fn with_deleted(
+    mut rows: Vec<Row>,
+    subject: &Subject,
+    line: SubjectVersion,
+) -> Result<Vec<Row>, OutOfMemory>
+    ensures { IfOk result (λ new. new.items
+        ≡ (if line.deleted then rows.items ++ row_numbered subject.now (subject_version_view line) ∷ [] else rows.items)) }
+{
+    if line.deleted {
+        let owner = subject.try_clone()?;
+        push_row(
+            &mut rows,
+            Row::new(owner, line.number, line.id, line.deleted),
+        )?;
+    }
+    Ok(rows)
+}

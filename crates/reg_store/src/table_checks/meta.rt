@@ -1,0 +1,108 @@
+//! The check of `meta`, which names the format and the layout.
+
+ghost use Rattle.std.specs.Prelude.{◌≡◌, ◌↔◌, map, IfOk, IfErr, OnOk, IsTrue};
+ghost use Rattle.sqlite.specs.State.{HasCleanDisk};
+ghost use Rattle.reg_tables.specs.Layout.{HasFiveTables};
+ghost use Rattle.reg_store.specs.Failures.{HasDiskCause};
+ghost use Rattle.reg_store.specs.Opening.{meta_columns, HasMetaNumberOf, ReportsOther};
+ghost use Rattle.reg_rows.specs.Spelling.{meta_pair};
+ghost use Rattle.reg_store.specs.Inside.TableChecks.{Allows, AreDistinct, number_of, is_meta_of, JudgesMeta, SpellsAs, Checks, MetaPass};
+ghost use Rattle.reg_store.specs.Inside.Reads.{shown};
+
+use crate::conn::Conn;
+use crate::error::StoreError;
+use crate::layout::Layout;
+use crate::rowids::are_distinct;
+use crate::table_checks::{CheckedRow, allow, rowids_of};
+use reg_rows::{is_layout_one_meta, is_layout_two_meta, layout_of};
+use reg_tables::{RawMeta, raw_meta};
+use sqlite::Alter;
+use std::alloc::{AllocError, Global};
+
+impl CheckedRow for RawMeta {
+    ghost rowid_of = { λ line. line.rowid };
+
+    // `is_meta_of` checks the rows of `meta` together.
+    ghost fits_table = { λ _. Unit {0} };
+
+    fn rowid(&self) -> i64 {
+        self.rowid
+    }
+
+    fn fits(&self) -> bool {
+        true
+    }
+}
+
+fn number_of(layout: Layout) -> u32
+    ensures { result ≡ number_of layout }
+{
+    match layout {
+        Layout::One => 1,
+        Layout::Two => 2,
+    }
+}
+
+fn is_meta_of(rows: &[(String, String)], layout: Layout) -> bool
+    ensures { result ≡ is_meta_of layout (map meta_pair rows.now) }
+{
+    match layout {
+        Layout::One => is_layout_one_meta(rows),
+        Layout::Two => is_layout_two_meta(rows),
+    }
+}
+
+fn meta_rows(alloc: Global, lines: Vec<RawMeta>) -> Result<Vec<(String, String)>, AllocError>
+    ensures { IfOk result (λ rows. rows.items ≡ map meta_columns lines.items) }
+{
+    let mut rows = Vec::new(alloc);
+    for line in lines {
+        rows.push((line.name, line.value))?;
+    }
+    Ok(rows)
+}
+
+/// Whether these are the rows of `meta` of a registry, with distinct rowids.
+fn pass_meta(rows: &[(String, String)], rowids: &mut [i64], layout: Layout) -> bool
+    ensures { IsTrue result ↔ (AreDistinct rowids.old × IsTrue (is_meta_of layout (map meta_pair rows.now))) }
+{
+    is_meta_of(rows, layout) && are_distinct(rowids)
+}
+
+/// An error if `meta` names a layout with another number, or if the rows don't pass.
+fn allow_layout(own: u32, named: Option<u32>, passes: bool) -> Result<(), StoreError>
+    ensures { Allows own named passes result }
+{
+    match named {
+        Some(number) if number < own => Err(StoreError::OldLayout(number)),
+        Some(number) if number > own => Err(StoreError::NewerLayout(number)),
+        _ => allow(passes),
+    }
+}
+
+fn judge_meta(alloc: Global, lines: Vec<RawMeta>, layout: Layout) -> Result<(), StoreError>
+    ensures { JudgesMeta layout lines.items result }
+{
+    let mut rowids = rowids_of(alloc, &lines)?;
+    let rows = meta_rows(alloc, lines)?;
+    let passes = pass_meta(&rows, &mut rowids, layout);
+    allow_layout(number_of(layout), layout_of(&rows), passes)
+}
+
+/// Reads and checks `meta`: first the format, then the layout, then the other rows.
+pub(crate) fn check_meta<S: Alter>(
+    alloc: Global,
+    db: &mut Conn<S>,
+    layout: Layout,
+) -> Result<(), StoreError>
+    ensures tests { Checks HasFiveTables (SpellsAs layout)
+        S.Store db.old.idle.conn db.new.idle.conn result (λ _. MetaPass layout) }
+    ensures disk_cause { HasCleanDisk (shown db.new) → IfErr result (HasDiskCause (shown db.old) (shown db.new)) }
+    ensures meta_number { HasCleanDisk (shown db.new)
+        → IfErr result (HasMetaNumberOf (number_of layout) (shown db.old).now) }
+    ensures other { HasCleanDisk (shown db.new)
+        → IfErr result (ReportsOther (number_of layout) (shown db.old)) }
+{
+    let lines = raw_meta(alloc, &mut db.idle)?;
+    judge_meta(alloc, lines, layout)
+}
