@@ -1,4 +1,4 @@
--- Whether the evidence of all versions is true, checked one version after the other.
+-- Whether the evidence of all versions is true, checked one version after another.
 use Rattle.std.proofs.Common.{◌≡◌, ◌∙◌, ℕ, ◌+◌, List, take, find, refl, sym, ap, subst, add-one}
 use Rattle.std.specs.Prelude.{◌↔◌, All, Bool, true, false, IsSome, IsTrue, Option, None, Some, slice_get, option_map, option_and_then}
 use Rattle.std.specs.FinMap.{entries, get}

@@ -29,7 +29,7 @@ both_parts : (a b : Bool) → (a && b) ≡ true → (a ≡ true) × (b ≡ true)
 both_parts true b e = (refl, e)
 both_parts false b e = absurd (true≢false (sym e))
 
--- ---- one version after the other
+-- ---- one version after another
 
 module _ (deleted : Bool) (subject : List ℕ) (rows : List Row) (row : Row) where
   abbrev Shown : Row → Type 0

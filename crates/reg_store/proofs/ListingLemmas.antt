@@ -1,4 +1,4 @@
--- Lines of listings, added one after the other.
+-- Lines of listings, added one after another.
 use Rattle.std.proofs.Common.{◌≡◌, ℕ, zero, suc, ◌+◌, ◌<◌, List, [], ◌∷◌, ◌++◌, Bool, true, false, map, length, take, get_or, Option, None, Some, refl, sym, ap, subst, ◌∙◌, arith, add-one}
 use Rattle.std.specs.Prelude.{option_map, slice_get, IsSome, if◌then◌else◌}
 use Rattle.std.specs.List.{dedup, dedup_from, enumerate_from}

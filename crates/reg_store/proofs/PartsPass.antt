@@ -1,4 +1,4 @@
--- The ids that a registry's tables hold are valid, read one version after the other; and valid ids are evidence.
+-- The ids that a registry's tables hold are valid, read one version after another; and valid ids are evidence.
 use Rattle.std.proofs.Common.{◌≡◌, ◌||◌, inl, inr, ℕ, ℤ, List, [], ◌∷◌, map, filter, length, Bool, true, false, IsTrue, refl, sym, ap, subst, ◌∙◌}
 use Rattle.std.specs.Prelude.{Contains, IsSome}
 use Rattle.std.specs.FinMap.{get}

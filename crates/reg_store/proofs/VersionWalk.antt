@@ -1,4 +1,4 @@
--- Reading the ids of versions one version after the other, and the verdict.
+-- Reading the ids of versions one version after another, and the verdict.
 use Rattle.std.proofs.Common.{◌≡◌, ◌↔◌, ◌&&◌, ℕ, ℤ, ◌+◌, ◌<◌, List, [], ◌∷◌, ◌++◌, map, flat_map, take, length, get_or, Bool, true, IsTrue, refl, sym, ap, subst, ◌∙◌, append_assoc, append-nil, arith}
 use Rattle.std.specs.List.{AllByRecursion, AllZip}
 use Rattle.std.proofs.lemmas.Bool.{and_from, and_parts}

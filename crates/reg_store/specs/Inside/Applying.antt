@@ -1,4 +1,4 @@
--- The clauses of functions that apply changes, one after the other.
+-- The clauses of functions that apply changes, one after another.
 use Rattle.std.specs.Prelude.{◌≡◌, ◌<◌, ◌+◌, ◌^◌, ℕ, List, [], ◌∷◌, length, All, Option, None, IsSome}
 use Rattle.std.specs.FinMap.{get}
 use Rattle.sqlite.specs.Tree.{Trees}

@@ -1,4 +1,4 @@
--- The evidence that an audit checks, one version after the other.
+-- The evidence that an audit checks, one version after another.
 use Rattle.std.specs.Prelude.{◌≡◌, ℕ, List, Some}
 use Rattle.std.specs.FinMap.{get}
 use Rattle.avro_nodes.specs.Nodes.{NodeView}
