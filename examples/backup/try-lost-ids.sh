@@ -115,6 +115,7 @@ nothing_registered
 entry() { printf '{"time":"%s","client":"::1","method":"%s","path":"%s","status":%s,"bytes":8}\n' "$@"; }
 {
   entry 2026-11-28T00:00:00+00:00 POST /subjects/early/versions 200
+  entry 2026-11-28T04:10:00+02:00 POST /subjects/early/versions 200
   entry 2026-11-28T04:29:59+02:00 POST /subjects/early/versions 200
   entry 2026-11-27T21:30:00-05:00 POST /subjects/counts/versions 200
 } >first.log
@@ -138,8 +139,11 @@ ends 2 "The log begins at 2026-11-28T03:00:00" --log second.log --since 20261128
 ends 0 "ids used up: 5, from 9 to 13" --log second.log --since 20261128T023000Z --count 2
 ends 3 "0 lost ids" --log first.log.gz second.log --since 2026-11-28T04:00+00:00
 ends 2 "is one of the JSON log" --log old.csv --since 2026-11-28T02:30+00:00
+ends 2 "/backup/now is no time" --log second.log --since /backup/now
 ends 2 "no-file.log" --log no-file.log --since 2026-11-28T02:30+00:00
 printf '{"time":"2026-11-28T03:00:07+00:00","cli' >>second.log
+ends 0 "the log runs from 2026-11-28T00:00:00+00:00 to 2026-11-28T03:00:06+00:00" --log first.log.gz second.log \
+  --since 20261128T023000Z --dry-run
 ends 0 "would register 5 schemas" --log first.log.gz second.log --since 20261128T023000Z --dry-run
 has_id other 14
 
