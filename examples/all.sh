@@ -16,6 +16,7 @@ python="curl python3-confluent-kafka python3-requests python3-avro"
 go="golang-go golang-github-lensesio-schema-registry-dev"
 try first-hour "curl sqlite3" ./first-hour.sh
 try backup "curl python3" backup/try.sh
+try lost-ids "curl python3" backup/try-lost-ids.sh
 try watch "curl python3" watch/try.sh
 try check-schemas "curl jq python3-avro" check-schemas/try.sh
 try clients "$python $go" clients/run.sh

@@ -76,6 +76,7 @@ try_deb() {
   check "the program is the one that its record names" inside debian sha256sum --quiet -c /usr/share/avroreg/program
   check "the record doesn't call this program proved" grep -q '^# proved: not known' "$scratch/debian/usr/share/avroreg/program"
   check "the program runs" grep -qx '"int"' <(inside debian avroreg text /tmp/schema)
+  check "lost-ids runs" grep -q -- '--old FILE' <(inside debian /usr/share/avroreg/lost-ids --help)
   check "the units are valid" inside debian systemd-analyze verify --man=no avroreg.service avroreg@orders.service avroreg-backup.timer avroreg-watch.timer \
     avroreg-backup@orders.timer avroreg-watch@orders.timer
   mkdir -p "$scratch/debian/var/lib/avroreg"
