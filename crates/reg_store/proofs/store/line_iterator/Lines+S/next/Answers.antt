@@ -7,7 +7,7 @@ use Rattle.reg_store.proofs.store.line_iterator.Lines+S.next.Goals as goal
 
 pub returns-in-Ok-clause-tells : goal.returns-in-Ok-clause-tells
 returns-in-Ok-clause-tells g c clean =
-    let it = tells_stored {Goes = failure_in c.args.self.now ≡ None} c.in-Ok.ensures.reads clean in
+    let it = tells_stored {WasUsable = failure_in c.args.self.now ≡ None} c.in-Ok.ensures.reads clean in
     record {
       answers = λ was over kind done h.
           hands_on c.args.self.now _ kind was.registry done h c.in-Ok.line (it.answers was over kind h.count (subst (IsCursorAt kind was.registry h.count) (sym c.replace-cursor.ensures.value) h.cursor));
@@ -17,7 +17,7 @@ returns-in-Ok-clause-tells g c clean =
 
 pub returns-in-Err-clause-tells : goal.returns-in-Err-clause-tells
 returns-in-Err-clause-tells g c clean =
-    let it = tells_stored {Goes = failure_in c.args.self.now ≡ None} c.in-Err.ensures.reads clean in
+    let it = tells_stored {WasUsable = failure_in c.args.self.now ≡ None} c.in-Err.ensures.reads clean in
     record { answers = it.answers; same = it.same; crash = it.crash }
 
 pub returns-in-Some-clause-tells : goal.returns-in-Some-clause-tells
