@@ -11,4 +11,4 @@ returns-then-not-is_autocommit-clause-fault g c =
 pub returns-in-Err-clause-fault : goal.returns-in-Err-clause-fault
 returns-in-Err-clause-fault g c =
     let e = c.in-Err.ensures in
-    record { connection = c.in-Err.connection; given = refl; holds = λ clean. inr (record { fails = e.fails clean; leaves = e.leaves; found = e.found clean; crash = e.crash clean }) }
+    record { connection = c.in-Err.connection; given = refl; holds = λ clean. inr (record { fails = e.fails clean; leaves = e.leaves; found = e.found_failed clean; crash = e.crash_failed clean }) }
