@@ -6,7 +6,7 @@ ghost use Rattle.serde_json.specs.Find.{get_member};
 ghost use Rattle.serde_json.specs.View.{view, items_view, members_view};
 ghost use Rattle.avro_nodes.specs.Nodes.{field_view, node_view, nodes_view};
 ghost use Rattle.avro_schema.specs.Inside.Fitting.{items_fit, members_fit, field_fits_by, fields_fit, node_fits, fits, node_defaults_fit};
-ghost use Rattle.avro_schema.specs.Inside.FieldTables.{IsFieldTable, IsFieldTableOf, AreFieldTables, fits_if_any, index_fits, named_fit, named_in};
+ghost use Rattle.avro_schema.specs.Inside.FieldTables.{IsFieldTable, IsFieldTableOf, AreFieldTables, fits_if_any, index_fits, named_fit};
 
 use crate::defaults::fields::node_default_fits;
 use crate::defaults::lookups::{default_type, table_at};
@@ -181,7 +181,7 @@ fn required_fit(
     ensures { result ≡ list_all (λ i. fits_if_any (fits depth (nodes_view nodes.now)) (members_view members.now.entries) (slice_get (map field_view fields.now.items) i)) required.now.items }
 {
     for at in required {
-        if !index_fits(members, fields, *at, nodes, tables, depth) {
+        if !index_fits(members, fields, Some(*at), nodes, tables, depth) {
             return false;
         }
     }
@@ -201,46 +201,36 @@ fn named_fit(
     ensures { result ≡ named_fit (fits depth (nodes_view nodes.now)) (members_view members.now.entries) (map field_view fields.now.items) table.now (members_view members.now.entries) }
 {
     for (key, _value) in members.iter() {
-        if !name_fits(key.as_str(), members, fields, table, nodes, tables, depth) {
+        if !index_fits(
+            members,
+            fields,
+            table.index_of(key.as_str()),
+            nodes,
+            tables,
+            depth,
+        ) {
             return false;
         }
     }
     true
 }
 
-/// Whether the field fits that the table has for the name. `true` if the table has none.
-#[cycle(fit)]
-fn name_fits(
-    name: &str,
-    members: &Extra,
-    fields: &Vec<Field>,
-    table: &FieldTable,
-    nodes: &[Node],
-    tables: &[Option<FieldTable>],
-    depth: u32,
-) -> bool
-    requires tables { AreFieldTables (nodes_view nodes.now) tables.now }
-    ensures { result ≡ index_fits (fits depth (nodes_view nodes.now)) (members_view members.now.entries) (map field_view fields.now.items) (named_in table.now name.now) }
-{
-    match table.by_name.get(name) {
-        Some(at) => index_fits(members, fields, *at, nodes, tables, depth),
-        None => true,
-    }
-}
-
-/// Whether the field at the index fits. `true` if the index is out of range.
+/// Whether the field at the index fits. `true` if there is no index, or it is out of range.
 #[cycle(fit)]
 fn index_fits(
     members: &Extra,
     fields: &Vec<Field>,
-    at: usize,
+    at: Option<usize>,
     nodes: &[Node],
     tables: &[Option<FieldTable>],
     depth: u32,
 ) -> bool
     requires tables { AreFieldTables (nodes_view nodes.now) tables.now }
-    ensures { result ≡ fits_if_any (fits depth (nodes_view nodes.now)) (members_view members.now.entries) (slice_get (map field_view fields.now.items) at) }
+    ensures { result ≡ index_fits (fits depth (nodes_view nodes.now)) (members_view members.now.entries) (map field_view fields.now.items) at }
 {
+    let Some(at) = at else {
+        return true;
+    };
     match fields.get(at) {
         Some(field) => field_fits(members, field, nodes, tables, depth),
         None => true,

@@ -26,6 +26,12 @@ mod kinds;
 mod names;
 mod nodes;
 
+/// The object of an array or a map, without `type`.
+struct ContainerObject<'a> {
+    container: Container,
+    attributes: Attributes<'a>,
+}
+
 /// Reads a type that nests at most `depth` levels deep, and returns its place. The namespace
 /// `space` encloses it.
 ///
@@ -83,24 +89,20 @@ fn object_at(
     };
     match type_name_of(name) {
         TypeName::Primitive(kind) => primitive_at(alloc, kind, attributes, nodes, known),
-        TypeName::Array => container_at(
-            alloc,
-            Container::Items,
-            attributes,
-            space,
-            depth,
-            nodes,
-            known,
-        ),
-        TypeName::Map => container_at(
-            alloc,
-            Container::Values,
-            attributes,
-            space,
-            depth,
-            nodes,
-            known,
-        ),
+        TypeName::Array => {
+            let array = ContainerObject {
+                container: Container::Items,
+                attributes,
+            };
+            container_at(alloc, array, space, depth, nodes, known)
+        }
+        TypeName::Map => {
+            let map = ContainerObject {
+                container: Container::Values,
+                attributes,
+            };
+            container_at(alloc, map, space, depth, nodes, known)
+        }
         TypeName::Fixed => fixed_at(alloc, attributes, space.text, nodes, known),
         TypeName::Enum => enum_at(alloc, attributes, space.text, nodes, known),
         TypeName::Record => record_at(alloc, attributes, space, depth, nodes, known),
@@ -114,8 +116,7 @@ fn object_at(
 #[cycle(read)]
 fn container_at(
     alloc: Global,
-    container: Container,
-    attributes: Attributes<'_>,
+    object: ContainerObject<'_>,
     space: &Namespace,
     depth: u32,
     nodes: &mut Vec<Node>,
@@ -123,11 +124,14 @@ fn container_at(
 ) -> Result<u32, SchemaError>
     requires { HasNumber known.old space.now }
     ensures read { ReadsPart (λ p. p) result
-        (container_at container (type_at depth space.now.text.now) (members_data attributes.entry) (known_in known.old) (length nodes.old.items))
+        (container_at object.entry.container (type_at depth space.now.text.now) (members_data object.entry.attributes) (known_in known.old) (length nodes.old.items))
         (nodes_view nodes.old.items) (nodes_view nodes.new.items) (known_in known.new) }
     ensures kept { OnOk result (KeepsNumbers known.old known.new) }
 {
-    let mut rest = attributes;
+    let ContainerObject {
+        container,
+        attributes: mut rest,
+    } = object;
     let place = next_place(nodes)?;
     let Some(inner) = take(&mut rest, member_name(container)) else {
         return Err(SchemaError::BadShape);

@@ -1,9 +1,9 @@
 //! The fields of a record by name. A default value of a large record needs a check only of its own
 //! members and of the required fields.
 
-ghost use Rattle.std.specs.Prelude.{IfOk, IfSome, map};
+ghost use Rattle.std.specs.Prelude.{◌≡◌, IfOk, IfSome, map};
 ghost use Rattle.avro_nodes.specs.Nodes.{field_view, node_view, nodes_view};
-ghost use Rattle.avro_schema.specs.Inside.FieldTables.{IsFieldTable, IsFieldTableOf, AreFieldTables};
+ghost use Rattle.avro_schema.specs.Inside.FieldTables.{named_in, IsFieldTable, IsFieldTableOf, AreFieldTables};
 
 use avro_nodes::{Field, Node};
 use serde_json::Value;
@@ -20,6 +20,15 @@ pub struct FieldTable<'a> {
     pub required: Vec<usize>,
     /// fields with a default, which a default value may omit
     pub by_name: BTreeMap<&'a str, usize>,
+}
+
+impl<'a> FieldTable<'a> {
+    /// The index that the table has for a name.
+    pub fn index_of(&self, name: &str) -> Option<usize>
+        ensures { result ≡ named_in self.now name.now }
+    {
+        self.by_name.get(name).copied()
+    }
 }
 
 /// The table of these fields. A later field with a repeated name counts as required.

@@ -37,9 +37,6 @@ decreases-named_fit l = 8 * l.depth + 5
 abbrev pub decreases-index_fits : goal.decreases-index_fits
 decreases-index_fits l = 8 * l.depth + 3
 
-abbrev pub decreases-name_fits : goal.decreases-name_fits
-decreases-name_fits l = 8 * l.depth + 4
-
 abbrev pub invariant-items_fit-loop-value : goal.invariant-items_fit-loop-value
 invariant-items_fit-loop-value l = items_fit (fits l.depth (nodes_view l.nodes)) (items_view (drop l.value-index l.value-items)) l.place ≡ items_fit (fits l.depth (nodes_view l.nodes)) (items_view l.value-items) l.place
 

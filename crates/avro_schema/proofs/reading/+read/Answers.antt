@@ -127,7 +127,7 @@ container_at-returns-in_err-within-clause-read t c =
     (fails_from _ _ _ (held_fails _ _ _ _ _ _ c.in_ok-place.ensures.room _ holds _ (rw rest at c.in_ok-extra.ensures)) (rw next at c.in_err-within.ensures.read))
 
 pub container_at-take-requires : goal.container_at-take-requires
-container_at-take-requires t c = rw c.member_name.ensures (key_reserved c.args.container)
+container_at-take-requires t c = rw c.member_name.ensures (key_reserved c.args.object.container)
 
 pub container_at-fill_blank-requires : goal.container_at-fill_blank-requires
 container_at-fill_blank-requires t c =
