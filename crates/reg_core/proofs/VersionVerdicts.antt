@@ -1,7 +1,8 @@
 -- The verdict on the versions that a level compares with is the same by the texts of a view and by their schemas.
-use Rattle.std.proofs.Common.{◌≡◌, ℕ, List, [], ◌∷◌, Bool, Option, Some, refl, sym, ◌∙◌, ap, subst, map}
+use Rattle.std.proofs.Common.{◌≡◌, ℕ, List, [], ◌∷◌, Bool, false, Option, Some, None, refl, sym, ◌∙◌, ap, subst, map}
 use Rattle.std.specs.Prelude.{All, bytes_eq, unwrap_or, option_map}
 use Rattle.std.specs.List.{list_all}
+use Rattle.std.specs.Option.{option_map_or}
 use Rattle.std.specs.FinMap.{entries}
 use Rattle.std.proofs.lemmas.List.Folds.{list_all-map}
 use Rattle.std.proofs.lemmas.List.Elements.{All-nil, All-head, All-tail, All-filter}
@@ -13,7 +14,7 @@ use Rattle.reg_core.specs.declared.level.Level.{Level}
 use Rattle.reg_core.specs.declared.level.Level.TheVariants.{Backward, BackwardTransitive, Forward, ForwardTransitive, Full, FullTransitive, Off}
 use Rattle.reg_core.specs.declared.decision.View.{View}
 use Rattle.reg_core.specs.Compatibility.{named_versions}
-use Rattle.reg_core.specs.Inside.Comparisons.{is_compatible_in_view, is_admitted_in_view}
+use Rattle.reg_core.specs.Inside.Comparisons.{view_schema, is_compatible_in_view, is_admitted_in_view}
 use Rattle.reg_core.specs.RegisterCommands.{is_admitted_after}
 use Rattle.reg_core.specs.Registry.{Registry, IsRegistry, Row, Schemas, schema_at}
 use Rattle.reg_core.specs.Rows.{rows_of, live_rows, text_at, schemas_of}
@@ -28,6 +29,14 @@ use Rattle.reg_core.proofs.Versions.{named-map}
 pub read_compatible : (view : View) (level : Level) (new : List NodeView) (row : Row) (text : List ℕ) (earlier : List NodeView) → view_text view row.1.id ≡ Some text → denoted_nodes text ≡ Some earlier
     → is_compatible_in_view view level new row ≡ is_compatible level earlier new
 read_compatible view level new row text earlier there is = rw (there, is) refl
+
+-- the verdict on a version whose schema the view has
+pub schema_compatible : (view : View) (level : Level) (new : List NodeView) (row : Row) (earlier : List NodeView) → view_schema view row ≡ Some earlier → is_compatible_in_view view level new row ≡ is_compatible level earlier new
+schema_compatible view level new row earlier is = ap (λ (found : Option (List NodeView)). option_map_or (λ nodes. is_compatible level nodes new) found false) is
+
+-- the verdict on a version whose schema the view doesn't have
+pub no_schema : (view : View) (level : Level) (new : List NodeView) (row : Row) → view_schema view row ≡ None → is_compatible_in_view view level new row ≡ false
+no_schema view level new row is = ap (λ (found : Option (List NodeView)). option_map_or (λ nodes. is_compatible level nodes new) found false) is
 
 -- the verdict on versions that are given as images of other values
 pub admitted_named : {X : Type 0} (f : X → Row) (view : View) (level : Level) (xs : List X) (new : List NodeView) → is_admitted_in_view view level (map f xs) new ≡ list_all (λ x. is_compatible_in_view view level new (f x)) (named_versions level xs)

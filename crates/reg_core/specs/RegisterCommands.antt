@@ -1,6 +1,6 @@
 -- Commands that register schemas, and that check whether a schema could be registered. Each definition lists its refusals in order.
 -- (This project's choice: that order.)
-use Rattle.std.specs.Prelude.{ℕ, ◌+◌, ◌++◌, nat_lt, nat_le, ◌&&◌, Bool, true, false, is_some, List, [], ◌∷◌, length, unwrap_or, if◌then◌else◌, Option, None, Some, Result, Ok, Err}
+use Rattle.std.specs.Prelude.{ℕ, ◌+◌, ◌++◌, nat_lt, nat_le, ◌&&◌, Bool, false, not, is_some, List, [], ◌∷◌, length, unwrap_or, if◌then◌else◌, Option, None, Some, Result, Ok, Err}
 use Rattle.std.specs.FinMap.{insert}
 use Rattle.avro_nodes.specs.Nodes.{NodeView}
 use Rattle.avro_nodes.specs.Identity.{identity}
@@ -45,13 +45,20 @@ with_version g subject new = record g {
   rows = insert g.rows (subject, next_number (rows_of g subject)) (record { id = id_for g.schemas new; deleted = false });
 }
 
--- Schema Registry API reference, POST /subjects/{subject}/versions: the tests, in their order: a live version has the schema; the level admits it; a
--- number is left
-abbrev pub registered : Registry → List ℕ → List NodeView → Bool → Bool → Bool → Registry × ReplyView
-registered g subject new true admitted left = (g, answer (id_body (id_for g.schemas new)))
-registered g subject new false false left = (g, fault Incompatible)
-registered g subject new false true false = (g, fault NoNumberLeft)
-registered g subject new false true true = (with_version g subject new, answer (id_body (id_for g.schemas new)))
+-- Schema Registry API reference, POST /subjects/{subject}/versions: the results of the tests of a valid schema, in their order: a live version has it;
+-- the level admits it; numbers are left for the version and the schema
+pub record RegisterTests : Type 0 where
+  pub has_live : Bool
+  pub admitted : Bool
+  pub numbers_left : Bool
+
+-- Schema Registry API reference, POST /subjects/{subject}/versions: the registry and the reply, by the first test that decides
+abbrev pub registered : Registry → List ℕ → List NodeView → RegisterTests → Registry × ReplyView
+registered g subject new tests =
+    if tests.has_live then (g, answer (id_body (id_for g.schemas new))) else
+    if not tests.admitted then (g, fault Incompatible) else
+    if not tests.numbers_left then (g, fault NoNumberLeft) else
+    (with_version g subject new, answer (id_body (id_for g.schemas new)))
 
 -- whether one of the versions has the id; no if there is no id
 abbrev pub is_among : Option ℕ → List Row → Bool
@@ -66,7 +73,11 @@ abbrev pub register : Registry → List ℕ → Option (List NodeView) → Regis
 register g subject None = (g, fault InvalidSchema)
 register g subject (Some new) =
     let live = live_rows (rows_of g subject) in
-    registered g subject new (is_among (id_of g.schemas (identity new)) live) (is_admitted_after g.schemas (level_in g subject) live new) (has_numbers_left g subject new)
+    registered g subject new (record {
+      has_live = is_among (id_of g.schemas (identity new)) live;
+      admitted = is_admitted_after g.schemas (level_in g subject) live new;
+      numbers_left = has_numbers_left g subject new;
+    })
 
 -- ---- Check
 

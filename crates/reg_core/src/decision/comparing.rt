@@ -6,7 +6,7 @@ ghost use Rattle.avro_schema.specs.DenotedNodes.{denoted_nodes};
 ghost use Rattle.avro_schema.specs.Inside.ReaderResults.{Gives};
 ghost use Rattle.schema_cache.specs.Answers.{found_schema};
 ghost use Rattle.reg_core.specs.Compatibility.{Compatible};
-ghost use Rattle.reg_core.specs.Inside.Comparisons.{is_admitted_in_view, is_compatible_in_view};
+ghost use Rattle.reg_core.specs.Inside.Comparisons.{is_admitted_in_view, view_schema};
 
 use crate::compatibility::{is_compatible, named};
 use crate::decision::View;
@@ -90,7 +90,8 @@ fn read_earlier<'a>(
 }
 
 /// Whether the level admits the new schema after these versions, in order of number. It parses one
-/// version's text at a time, and stops at the first version that isn't compatible.
+/// version's text at a time, and stops at the first version that isn't compatible. The result is no
+/// if the view has no text of a version that the level names, or the text denotes no schema.
 ///
 /// # Errors
 ///
@@ -109,7 +110,10 @@ pub fn admits_after(
     let versions = named(level, rows);
     let eviction_policy = eviction_policy(view, versions);
     for row in versions {
-        if !is_version_compatible(alloc, view, level, row, new, &mut cache, eviction_policy)? {
+        let Some(earlier) = earlier_schema(alloc, view, row, &mut cache, eviction_policy)? else {
+            return Ok(false);
+        };
+        if !is_compatible(alloc, level, earlier.schema(), new)? {
             return Ok(false);
         }
     }
@@ -127,26 +131,21 @@ fn eviction_policy(view: &View, rows: &[&Row]) -> EvictionPolicy {
     EvictionPolicy::for_scan(rows.len(), bytes)
 }
 
-/// Whether the version's schema and the new one are compatible in the level's directions. The
-/// result is no if the view has no text of the version, or its text denotes no schema.
-fn is_version_compatible(
+/// The version's schema, or `None` if the view has no text of the version or its text denotes none.
+fn earlier_schema<'a>(
     alloc: Global,
     view: &View,
-    level: Level,
     row: &Row,
-    new: &Schema,
-    cache: &mut Option<&mut SchemaCache>,
+    cache: &'a mut Option<&mut SchemaCache>,
     eviction_policy: EvictionPolicy,
-) -> Result<bool, OutOfMemory>
-    ensures { IfOk result (λ yes. yes
-        ≡ is_compatible_in_view view.now level (nodes_view new.now) row.now) }
+) -> Result<Option<CacheLookup<'a>>, OutOfMemory>
+    ensures { IfOk result (λ earlier. option_map (λ found. nodes_view (found_schema found)) earlier
+        ≡ view_schema view.now row.now) }
 {
-    let Some(text) = view.texts.get(&row.id()) else {
-        return Ok(false);
-    };
-    let earlier = read_earlier(alloc, row.id(), text.as_str(), cache, eviction_policy);
-    match if_denoted(earlier)? {
-        Some(earlier) => is_compatible(alloc, level, earlier.schema(), new),
-        None => Ok(false),
+    match view.texts.get(&row.id()) {
+        Some(text) => {
+            if_denoted(read_earlier(alloc, row.id(), text.as_str(), cache, eviction_policy))
+        }
+        None => Ok(None),
     }
 }
