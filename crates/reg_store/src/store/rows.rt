@@ -129,6 +129,14 @@ fn rows_under(
     Ok(rows)
 }
 
+/// The row as a version of the subject.
+pub(crate) fn row_under(subject: &Subject, line: SubjectVersion) -> Result<Row, OutOfMemory>
+    ensures { IfOk result (λ row. row ≡ row_numbered subject.now (subject_version_view line)) }
+{
+    let owner = subject.try_clone()?;
+    Ok(Row::new(owner, line.number, line.id, line.deleted))
+}
+
 fn rows_in(alloc: Global, lines: Vec<ListedVersion>) -> Result<Vec<Row>, StoreError>
     ensures ok { IfOk result (λ rows. rows.items ≡ map (λ line. row_spelled (listed_version_view line)) lines.items) }
     ensures err { IfErr result (λ e. All HasSubject lines.items → e ≡ Memory) }

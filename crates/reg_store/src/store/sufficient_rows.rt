@@ -1,6 +1,6 @@
 //! Reads only those versions of a subject that determine a command's reply and changes.
 
-ghost use Rattle.std.specs.Prelude.{◌≡◌, ◌++◌, ◌∷◌, [], ℕ, Option, Some, IfOk, false, if◌then◌else◌};
+ghost use Rattle.std.specs.Prelude.{◌≡◌, ℕ, Option, Some, false};
 ghost use Rattle.reg_core.specs.declared.level.Level.{Level};
 ghost use Rattle.reg_core.specs.declared.number.VersionChoice.TheVariants.{Latest};
 ghost use Rattle.reg_core.specs.Compatibility.{is_transitive, named_versions};
@@ -9,17 +9,14 @@ ghost use Rattle.reg_core.specs.ReadCommands.{lookup_row};
 ghost use Rattle.reg_core.specs.RegisterCommands.{is_among};
 ghost use Rattle.reg_core.specs.Rows.{live_rows, rows_of, shown_rows};
 ghost use Rattle.reg_core.specs.Needs.{SufficeToRegister};
-ghost use Rattle.reg_tables.specs.Entries.{subject_version_view};
 ghost use Rattle.reg_store.specs.Inside.Reads.{MayRead, Reads};
-ghost use Rattle.reg_store.specs.Inside.Viewing.{row_numbered};
 
 use crate::conn::Conn;
 use crate::error::StoreError;
 use crate::store::chosen::{chosen_rows, last_line, last_rows, numbered_rows, row_list};
 use crate::store::last_with_id::line_with_id;
-use crate::store::rows::{push_row, subject_rows};
-use reg_core::{Level, OutOfMemory, Row, Subject, VersionChoice};
-use reg_tables::SubjectVersion;
+use crate::store::rows::{push_row, row_under, subject_rows};
+use reg_core::{Level, Row, Subject, VersionChoice};
 use sqlite::Alter;
 use std::alloc::Global;
 
@@ -171,7 +168,7 @@ fn new_schema_rows<S: Alter>(
     newest_rows(alloc, db, subject)
 }
 
-/// The last live version, and after it the last version if that is soft-deleted.
+/// The last version, and before it the last live one if the last is soft-deleted.
 fn newest_rows<S: Alter>(
     alloc: Global,
     db: &mut Conn<S>,
@@ -181,28 +178,13 @@ fn newest_rows<S: Alter>(
         → is_transitive level ≡ false → is_among known (live_rows (rows_of was.registry subject.now)) ≡ false
         → SufficeToRegister level known rows.items (rows_of was.registry subject.now)) }
 {
-    let live = last_rows(alloc, db, subject, false)?;
     match last_line(db, subject, true)? {
-        None => Ok(live),
-        Some(line) => Ok(with_deleted(live, subject, line)?),
+        None => Ok(Vec::new(alloc)),
+        Some(line) if line.deleted => {
+            let mut rows = last_rows(alloc, db, subject, false)?;
+            push_row(&mut rows, row_under(subject, line)?)?;
+            Ok(rows)
+        }
+        Some(line) => Ok(row_list(alloc, subject, Some(line))?),
     }
-}
-
-/// The versions, and after them the row's version if that is soft-deleted.
-fn with_deleted(
-    mut rows: Vec<Row>,
-    subject: &Subject,
-    line: SubjectVersion,
-) -> Result<Vec<Row>, OutOfMemory>
-    ensures { IfOk result (λ new. new.items
-        ≡ (if line.deleted then rows.items ++ row_numbered subject.now (subject_version_view line) ∷ [] else rows.items)) }
-{
-    if line.deleted {
-        let owner = subject.try_clone()?;
-        push_row(
-            &mut rows,
-            Row::new(owner, line.number, line.id, line.deleted),
-        )?;
-    }
-    Ok(rows)
 }
