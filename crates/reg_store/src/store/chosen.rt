@@ -15,7 +15,7 @@ ghost use Rattle.reg_store.specs.Inside.Reads.{MayRead, Reads};
 
 use crate::conn::Conn;
 use crate::error::StoreError;
-use crate::store::rows::{push_row, row_in};
+use crate::store::rows::{push_row, row_in, row_under};
 use reg_core::{OutOfMemory, Row, Subject, VersionChoice};
 use reg_tables::{
     ListedVersion, SubjectVersion, any_version_of_id, last_live_version_of, last_version_of,
@@ -131,8 +131,7 @@ pub(crate) fn row_list(
 {
     let mut rows = Vec::new(alloc);
     if let Some(line) = line {
-        let owner = subject.try_clone()?;
-        rows.push(Row::new(owner, line.number, line.id, line.deleted))?;
+        rows.push(row_under(subject, line)?)?;
     }
     Ok(rows)
 }

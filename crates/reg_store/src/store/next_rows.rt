@@ -10,7 +10,7 @@ ghost use Rattle.reg_store.specs.Inside.Reads.{Reads};
 
 use crate::conn::Conn;
 use crate::error::StoreError;
-use crate::store::rows::row_in;
+use crate::store::rows::{row_in, row_under};
 use reg_core::{Row, Subject};
 use reg_tables::{first_version_after, next_version_of};
 use sqlite::Alter;
@@ -71,10 +71,7 @@ fn number_after<S: Alter>(
 {
     match next_version_of(&mut db.idle, subject.as_str(), number)? {
         None => Ok(None),
-        Some(line) => {
-            let owner = subject.try_clone()?;
-            Ok(Some(Row::new(owner, line.number, line.id, line.deleted)))
-        }
+        Some(line) => Ok(Some(row_under(subject, line)?)),
     }
 }
 

@@ -123,8 +123,7 @@ fn rows_under(
 {
     let mut rows = Vec::new(alloc);
     for line in lines {
-        let owner = subject.try_clone()?;
-        rows.push(Row::new(owner, line.number, line.id, line.deleted))?;
+        rows.push(row_under(subject, line)?)?;
     }
     Ok(rows)
 }
