@@ -47,7 +47,7 @@ pub(crate) fn chosen_rows<S: Alter>(
 }
 
 /// The version of the subject with the number, if it is shown; otherwise the last shown version.
-pub(crate) fn numbered_rows<S: Alter>(
+fn numbered_rows<S: Alter>(
     alloc: Global,
     db: &mut Conn<S>,
     subject: &Subject,

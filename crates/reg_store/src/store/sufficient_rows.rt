@@ -13,7 +13,7 @@ ghost use Rattle.reg_store.specs.Inside.Reads.{MayRead, Reads};
 
 use crate::conn::Conn;
 use crate::error::StoreError;
-use crate::store::chosen::{chosen_rows, last_line, last_rows, numbered_rows, row_list};
+use crate::store::chosen::{chosen_rows, last_line, last_rows, row_list};
 use crate::store::last_with_id::line_with_id;
 use crate::store::rows::{push_row, row_under, subject_rows};
 use reg_core::{Level, Row, Subject, VersionChoice};
@@ -33,15 +33,9 @@ pub(crate) fn deleted_rows<S: Alter>(
         row_to_delete permanent choice rows.items
         ≡ row_to_delete permanent choice (rows_of was.registry subject.now)) }
 {
-    if permanent {
-        return chosen_rows(alloc, db, subject, choice, true);
-    }
-    let Some(choice) = choice else {
-        return Ok(Vec::new(alloc));
-    };
     match choice {
-        VersionChoice::Latest => soft_deletion_rows(alloc, db, subject),
-        VersionChoice::Numbered(number) => numbered_rows(alloc, db, subject, number, true),
+        Some(VersionChoice::Latest) if !permanent => soft_deletion_rows(alloc, db, subject),
+        _ => chosen_rows(alloc, db, subject, choice, true),
     }
 }
 
