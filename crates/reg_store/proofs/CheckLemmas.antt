@@ -1,6 +1,8 @@
 -- What the checks of the tables prove: valid tables spell a registry, and the converse.
 use Rattle.std.proofs.Common.{◌⊎◌, ◌≡◌, ℕ, List, [], ◌∷◌, map, length, Bool, false, None, Ok, Err, Result, IsTrue, refl, sym, ap, subst, ◌∙◌, arith, slice_get}
-use Rattle.std.specs.Prelude.{IfOk, IfErr, OnOk, IsErrAnd}
+use Rattle.std.specs.Prelude.{IfOk, IfErr, OnOk, IsErrAnd, ◌↔◌, ℤ, Vec}
+use Rattle.std.specs.declared.alloc.Global.{Global}
+use Rattle.std.proofs.lemmas.Bool.{both_ways}
 use Rattle.std.specs.List.{AllByRecursion}
 use Rattle.std.specs.List.Sorted.{IsPermutation}
 use Rattle.std.proofs.lemmas.List.{length-map}
@@ -44,7 +46,7 @@ use Rattle.reg_core.specs.KeptReplies.{Kept}
 use Rattle.reg_core.specs.Stored.{Stored}
 use Rattle.reg_store.specs.Spells.{IsSpelled}
 use Rattle.reg_store.specs.Inside.Reads.{SpellsBase}
-use Rattle.reg_store.specs.Inside.TableChecks.{AreDistinct, version_fits, level_fits, kept_fits, SpellsSome, Checks, RestPasses}
+use Rattle.reg_store.specs.Inside.TableChecks.{AreDistinct, Passes, version_fits, level_fits, kept_fits, SpellsSome, Checks, RestPasses}
 use Rattle.reg_store.proofs.Bridge.{levels_fit, kept_fit, spelled_if_rows}
 use Rattle.reg_store.proofs.Numbering.{Rises, ids_apart}
 use Rattle.reg_store.proofs.Schemas.{texts_fit, versions_fit}
@@ -224,6 +226,17 @@ module _ {S X : Type 0} {Declared : Schema → Type 0} {Spelled : Database → T
     fault = λ clean. if_err r (λ e h over. h (λ is_open. spelled (state g old).now (over is_open))) (t.fault clean);
     disk_cause = λ clean. if_err r (λ e h known. h (λ is_open. declared (state g old).now.schema (known is_open))) (t.disk_cause clean);
   }
+
+-- the rows of a table were read, and are checked one by one
+module _ {S L : Type 0} {Declared : Schema → Type 0} {Spelled : Database → Type 0} {Lists : Database → List L → Type 0} {rowid_of : L → ℤ} {fits : L → Type 0} (g : Ghosts S) (old new : Held S) (lines : Vec L Global) (frame : ReadsInAutocommit {E = Error} g old new (Ok lines))
+    (listed : HasCleanDisk (state g new) → Declared (state g old).now.schema → Lists (state g old).now lines.items) (slice : List L) (is : slice ≡ lines.items) (b : Bool) (judged : IsTrue b ↔ (AreDistinct (map rowid_of slice) × AllByRecursion fits slice)) where
+  pub test_lines : (r : Result (Unit {0}) StoreError) → OnOk r (IsTrue b) → IfErr r (λ e. (e ≡ NotARegistry) × (b ≡ false)) → ((db : Database) → Spelled db → Declared db.schema)
+      → ((db : Database) → Spelled db → Lists db lines.items → AreDistinct (map rowid_of lines.items) × AllByRecursion fits lines.items) → Checks Declared Spelled g old new r (λ _. Passes Lists rowid_of fits)
+  test_lines r ok err declared passes =
+      let Pass : List L → Type 0 = λ l. AreDistinct (map rowid_of l) × AllByRecursion fits l in
+      test_judged g old new {P = λ l d. Lists d l.items} (test_read g old new lines frame listed) r b ok err declared
+      (λ db lists yes. let both = subst Pass is (judged.0 yes) in record { lines = lines.items; lists = lists; apart = both.0; fit = both.1 })
+      (λ db lists no spelled. both_ways _ no (judged.1 (subst Pass (sym is) (passes db spelled lists))))
 
 -- ---- several checks in sequence
 

@@ -30,7 +30,7 @@ use Rattle.reg_tables.proofs.Opening.{listed_in, nothing_listed}
 use Rattle.reg_rows.specs.Spelling.{FitsModes}
 use Rattle.reg_store.specs.declared.layout.Layout.TheVariants.{One}
 use Rattle.reg_store.specs.Spells.{SpellsLayoutOne, SpellsUnopened, SpellsWhileOpen}
-use Rattle.reg_store.specs.Inside.TableChecks.{AreDistinct, mode_fits, EvidenceFits, FivePass, SpellsSome, EightPass}
+use Rattle.reg_store.specs.Inside.TableChecks.{AreDistinct, mode_fits, EvidenceFits, BaseTablesPass, SpellsSome, AllTablesPass}
 use Rattle.reg_store.proofs.EvidenceMaps.{spelled_if_evidence, evidence_if_spelled}
 use Rattle.reg_store.proofs.EvidenceRows.{evidence_if_fits, level_fits, places_fit, in_place}
 use Rattle.reg_store.proofs.MetaRows.{mode_spelt, meta_is, layout_two_meta_is}
@@ -117,26 +117,26 @@ module _ (db : Database) (s : SpellsSome SpellsUnopened db) where
         placed = in_place evidence against levels.apart ids.apart held levels.is ids.is rows;
       }
 
-pub eight_known : (db : Database) → SpellsSome SpellsUnopened db → HasEightTables db.schema
-eight_known db s = known db s
+pub all_tables_known : (db : Database) → SpellsSome SpellsUnopened db → HasEightTables db.schema
+all_tables_known db s = known db s
 
-pub can_read_eight : (s : State) (was : Stored) → SpellsWhileOpen s was → CanBeReadIn HasEightTables s
-can_read_eight s was over is_open =
+pub can_read_all_tables : (s : State) (was : Stored) → SpellsWhileOpen s was → CanBeReadIn HasEightTables s
+can_read_all_tables s was over is_open =
     let it = (over is_open).spells in
     let tables = openable_has_eight it.schema (inl it.known) in
     record { schema = it.schema; known = tables; contents = it.contents; holds = it.holds; readable = all_readable s.now was it tables }
 
-pub some_read_eight : (s : State) → (IsTrue s.is_open → SpellsSome SpellsUnopened s.now) → CanBeReadIn HasEightTables s
-some_read_eight s over is_open =
+pub some_can_read_all : (s : State) → (IsTrue s.is_open → SpellsSome SpellsUnopened s.now) → CanBeReadIn HasEightTables s
+some_can_read_all s over is_open =
     let it = over is_open in
     let tables = openable_has_eight it.spells.schema it.spells.known in
     record { schema = it.spells.schema; known = tables; contents = it.spells.contents; holds = it.spells.holds; readable = all_readable s.now it.stored it.spells tables }
 
 -- ---- valid tables spell a registry
 
-pub spelled_if_five_passed : (db : Database) → IsLayoutOne db.schema → IsDatabase db → FivePass One db → SpellsSome SpellsLayoutOne db
+pub spelled_if_base_passed : (db : Database) → IsLayoutOne db.schema → IsDatabase db → BaseTablesPass One db → SpellsSome SpellsLayoutOne db
 unfolding IsDistinct
-spelled_if_five_passed db known sound p =
+spelled_if_base_passed db known sound p =
     let keys = layout_keys db.schema known in
     let lines = lines_in p.meta.lines p.rest [] [] [] in
     let none = nothing_listed db.schema known db.trees in
@@ -160,7 +160,7 @@ spelled_if_five_passed db known sound p =
       };
     }
 
-pub spelled_if_all_passed : (db : Database) → IsOpenable db.schema → IsDatabase db → EightPass db → SpellsSome SpellsUnopened db
+pub spelled_if_all_passed : (db : Database) → IsOpenable db.schema → IsDatabase db → AllTablesPass db → SpellsSome SpellsUnopened db
 spelled_if_all_passed db known sound p =
     let keys = two_keys db.schema known in
     let tables = openable_has_eight db.schema known in

@@ -20,11 +20,11 @@ use Rattle.reg_store.specs.OpenFailures.{IsFaultOverLayoutOne, IsCheckFailure}
 use Rattle.reg_store.specs.Opening.{HasMetaNumberOf, ReportsOther, OpensOver, LacksIndex, IsIndexed, CrashKeepsStored, HasVersionRows, FindsLayoutOne}
 use Rattle.reg_store.specs.Spells.{IsSpelledLayoutTwo, Spells, SpellsLayoutOne, SpellsUnopened}
 use Rattle.reg_store.specs.Stores.{RecoversLastCommit, KeepsConnection, IsCreateFailure}
-use Rattle.reg_store.specs.Inside.TableChecks.{SpellsSome, FivePass, EightPass}
+use Rattle.reg_store.specs.Inside.TableChecks.{SpellsSome, BaseTablesPass, AllTablesPass}
 use Rattle.reg_store.specs.Inside.Applying.{HoldsWithIndex}
 use Rattle.reg_store.proofs.Committing.{left_if_spelled, leaves_before}
 use Rattle.reg_store.proofs.Rereading.{same_now}
-use Rattle.reg_store.proofs.LayoutTwoChecks.{spelled_if_five_passed, spelled_if_all_passed}
+use Rattle.reg_store.proofs.LayoutTwoChecks.{spelled_if_base_passed, spelled_if_all_passed}
 
 pub record SpellsBare (db : Database) (was : Stored) : Type 0 where
   pub contents : Contents
@@ -34,7 +34,7 @@ pub record SpellsBare (db : Database) (was : Stored) : Type 0 where
 pub spells_bare : (db : Database) (was : Stored) → db.schema ≡ layout_two_unindexed → SpellsUnopened db was → SpellsBare db was
 spells_bare db was is s = record { contents = s.contents; holds = subst (λ x. HoldsContents x db s.contents) (sym s.holds.declared ∙ is) s.holds; spelled = s.spelled }
 
-module _ (old mid : State) (reads : OnlyReads old mid) (settled : IsTrue old.is_open → old.now ≡ old.committed) (known : IsOpenable old.now.schema) (sound : IsDatabase old.now) (passed : EightPass old.now) where
+module _ (old mid : State) (reads : OnlyReads old mid) (settled : IsTrue old.is_open → old.now ≡ old.committed) (known : IsOpenable old.now.schema) (sound : IsDatabase old.now) (passed : AllTablesPass old.now) where
   -- the index exists, and nothing is changed
   pub opens_as_it_is : IsTrue mid.is_open → mid.now.schema ≢ layout_two_unindexed → OpensOver old mid
   opens_as_it_is is_open other =
@@ -100,11 +100,11 @@ module _ (old new : State) (settled : IsTrue old.is_open → old.now ≡ old.com
         record { schema = layout_two_indexed_last; spells = record { schema = layout_two_indexed_last; known = inl (inr refl); contents = bare.contents; holds = made.indexed bare.contents bare.holds; spelled = bare.spelled } }
   ]
 
-pub finds_one : (old new : State) (r : Result ℕ StoreError) → OnOk r (IsLayoutOne old.now.schema) → OnOk r (IsTrue old.is_open) → (IsTrue old.is_open → IsDatabase old.now) → IfOk r (λ count. HasFiveTables old.now.schema → FivePass One old.now × HasVersionRows old.now count)
+pub finds_one : (old new : State) (r : Result ℕ StoreError) → OnOk r (IsLayoutOne old.now.schema) → OnOk r (IsTrue old.is_open) → (IsTrue old.is_open → IsDatabase old.now) → IfOk r (λ count. HasFiveTables old.now.schema → BaseTablesPass One old.now × HasVersionRows old.now count)
     → IfOk r (FindsLayoutOne old.now)
 finds_one old new (Ok count) known is_open sound passes =
     let both = passes (one_has_five old.now.schema known) in
-    let it = spelled_if_five_passed old.now known (sound is_open) both.0 in
+    let it = spelled_if_base_passed old.now known (sound is_open) both.0 in
     record { stored = it.stored; spells = it.spells; counted = both.1 }
 finds_one old new (Err e) known is_open sound passes = tt
 

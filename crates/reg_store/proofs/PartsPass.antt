@@ -29,7 +29,7 @@ use Rattle.reg_store.specs.Spells.{SpellsUnopened}
 use Rattle.reg_store.specs.Inside.TableChecks.{AreDistinct, against_fits, version_at, place_at, evidence_fits, ArePositionsInOrder, JudgesVersions, EvidenceFits, EvidencePasses, SpellsSome}
 use Rattle.reg_store.proofs.EvidenceMaps.{evidence_if_spelled}
 use Rattle.reg_store.proofs.EvidenceRows.{version_listed}
-use Rattle.reg_store.proofs.LayoutTwoChecks.{eight_known, evidence_passes}
+use Rattle.reg_store.proofs.LayoutTwoChecks.{all_tables_known, evidence_passes}
 use Rattle.reg_store.proofs.TextParts.{Splits, split, all_pass, none_passes}
 use Rattle.reg_store.proofs.VersionParts.{key_is, line_row, counted_if, if_counted, many_lines, of_itself, of_one, close, uncounted, rows_of, joined, Parts, all_listed, version_read, against, lists_all, positions_if_fit, fits_if_fit}
 
@@ -123,7 +123,7 @@ module _ (db : Database) (evidence : List RawEvidence) (lists : ListsEvidence db
     holds = subst (λ x. HoldsContents x db held) (sym s.spells.holds.declared) s.spells.holds
 
     shows : ShowsMap against_form (against_rows db) (get held.against)
-    shows = shown_by holds Against (eight_known db s)
+    shows = shown_by holds Against (all_tables_known db s)
 
     keyed : ArePlaced (against_rows db)
     keyed row there = let e = shows.sound row there in (e.0, e.3.0)
@@ -131,7 +131,7 @@ module _ (db : Database) (evidence : List RawEvidence) (lists : ListsEvidence db
     covered : IsPermutation (against_rows db) (rows_of db versions)
     unfolding IsDistinct
     covered =
-        let levels = listed_if_shown evidence_form version_cmp version_order distinct_versions (db.trees (table_at db.schema 6).tree) (map evidence_entry evidence) lists held.evidence distinct_texts (shown_by holds TableName.Evidence (eight_known db s)) in
+        let levels = listed_if_shown evidence_form version_cmp version_order distinct_versions (db.trees (table_at db.schema 6).tree) (map evidence_entry evidence) lists held.evidence distinct_texts (shown_by holds TableName.Evidence (all_tables_known db s)) in
         let rows = evidence_if_spelled held s.stored.evidence s.spells.spelled.evidence in
         let apart = subst (IsDistinct (eq_by_cmp version_cmp)) (map-map (λ (e : ℤ × RowKey × List ℕ). e.1) evidence_entry evidence) levels.apart.keys in
         subst (λ l. IsPermutation l (rows_of db versions)) (all_pass (among versions) (against_rows db) (λ row there.

@@ -21,7 +21,7 @@ use Rattle.reg_store.specs.Failures.{failure_of, IsFaultBy, HasDiskCause}
 use Rattle.reg_store.specs.Inside.Reads.{shown, CommitsNothing, MayRead, Reads}
 use Rattle.reg_store.specs.Stores.{AnswersFromStored}
 use Rattle.reg_store.proofs.Failing.{by_since, fault_by, disk_cause_since}
-use Rattle.reg_store.proofs.LayoutTwoChecks.{can_read_eight}
+use Rattle.reg_store.proofs.LayoutTwoChecks.{can_read_all_tables}
 use Rattle.reg_store.proofs.Committing.{still_spells}
 
 -- ---- results
@@ -125,7 +125,7 @@ module _ {S : Type 0} {g : Ghosts S} where
       may = record {
         rests = rests_read g old.idle.conn new.idle.conn (Err e) frame;
         answers = λ clean was over. passed_on (IsAnswer was) (IsFaultBy (shown old) (shown new)) r (failure_of e) is (fault_by (shown old) (shown new) e old.unlimited (fault clean (λ is_open.
-            let it = can_read_eight (shown old) was over is_open in
+            let it = can_read_all_tables (shown old) was over is_open in
             record { schema = it.schema; known = has it.schema it.known; contents = it.contents; holds = it.holds; readable = it.readable })));
       };
       was_open = λ clean. none_ok (IsTrue (shown old).is_open) r (failure_of e) is;

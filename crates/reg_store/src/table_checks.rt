@@ -4,10 +4,10 @@
 ghost use Rattle.std.specs.Prelude.{◌≡◌, ◌↔◌, ℤ, map, IfOk, IfErr, OnOk, IsTrue, false};
 ghost use Rattle.std.specs.List.{AllByRecursion};
 ghost use Rattle.sqlite.specs.State.{HasCleanDisk};
-ghost use Rattle.reg_tables.specs.Layout.{HasFiveTables, IsOpenable};
+ghost use Rattle.reg_tables.specs.Layout.{IsOpenable};
 ghost use Rattle.reg_store.specs.Failures.{HasNoLayoutNumber, HasDiskCause};
 ghost use Rattle.reg_store.specs.Opening.{HasVersionRows, FindsLayoutOne, HasMetaNumberOf, ReportsOther, HasMetaNumber, ReportsLayout};
-ghost use Rattle.reg_store.specs.Inside.TableChecks.{AreDistinct, version_fits, level_fits, kept_fits, SpellsAs, Checks, ChecksFive, ChecksEight, VersionsPass, LevelsPass, KeptPass, RestPasses, FivePass, AddedPass, EightPass};
+ghost use Rattle.reg_store.specs.Inside.TableChecks.{AreDistinct, version_fits, level_fits, kept_fits, SpellsAs, ChecksBaseTables, ChecksSpelledBase, ChecksAllTables, VersionsPass, LevelsPass, KeptPass, RestPasses, BaseTablesPass, AddedTablesPass, AllTablesPass};
 ghost use Rattle.reg_store.specs.Inside.Reads.{shown};
 
 mod added;
@@ -131,8 +131,7 @@ fn allow(passes: bool) -> Result<(), StoreError>
 
 /// Reads and checks `versions`, and returns its number of rows.
 fn check_versions<S: Alter>(alloc: Global, db: &mut Conn<S>) -> Result<u64, StoreError>
-    ensures tests { ChecksFive S.Store db.old.idle.conn db.new.idle.conn result
-        (λ count db. VersionsPass db × HasVersionRows db count) }
+    ensures tests { ChecksSpelledBase db.old db.new result (λ count db. VersionsPass db × HasVersionRows db count) }
     ensures plain { IfErr result HasNoLayoutNumber }
 {
     let lines = raw_versions(alloc, &mut db.idle)?;
@@ -141,7 +140,7 @@ fn check_versions<S: Alter>(alloc: Global, db: &mut Conn<S>) -> Result<u64, Stor
 }
 
 fn check_levels<S: Alter>(alloc: Global, db: &mut Conn<S>) -> Result<(), StoreError>
-    ensures tests { ChecksFive S.Store db.old.idle.conn db.new.idle.conn result (λ _. LevelsPass) }
+    ensures tests { ChecksSpelledBase db.old db.new result (λ _. LevelsPass) }
     ensures plain { IfErr result HasNoLayoutNumber }
 {
     let lines = raw_levels(alloc, &mut db.idle)?;
@@ -149,7 +148,7 @@ fn check_levels<S: Alter>(alloc: Global, db: &mut Conn<S>) -> Result<(), StoreEr
 }
 
 fn check_kept<S: Alter>(alloc: Global, db: &mut Conn<S>) -> Result<(), StoreError>
-    ensures tests { ChecksFive S.Store db.old.idle.conn db.new.idle.conn result (λ _. KeptPass) }
+    ensures tests { ChecksSpelledBase db.old db.new result (λ _. KeptPass) }
     ensures plain { IfErr result HasNoLayoutNumber }
 {
     let lines = raw_kept(alloc, &mut db.idle)?;
@@ -159,8 +158,7 @@ fn check_kept<S: Alter>(alloc: Global, db: &mut Conn<S>) -> Result<(), StoreErro
 /// Reads and checks the tables of both layouts except `meta`, and returns the number of rows of
 /// `versions`.
 fn check_rest<S: Alter>(alloc: Global, db: &mut Conn<S>) -> Result<u64, StoreError>
-    ensures tests { ChecksFive S.Store db.old.idle.conn db.new.idle.conn result
-        (λ count db. RestPasses db × HasVersionRows db count) }
+    ensures tests { ChecksSpelledBase db.old db.new result (λ count db. RestPasses db × HasVersionRows db count) }
     ensures plain { IfErr result HasNoLayoutNumber }
 {
     let _idle = db.idle.conn.is_autocommit();
@@ -173,9 +171,8 @@ fn check_rest<S: Alter>(alloc: Global, db: &mut Conn<S>) -> Result<u64, StoreErr
 
 /// Checks the tables of layout 1, and returns the number of rows of `versions`.
 pub(crate) fn check_layout_one<S: Alter>(alloc: Global, db: &mut Conn<S>) -> Result<u64, StoreError>
-    ensures tests { Checks HasFiveTables (SpellsAs Layout.One)
-        S.Store db.old.idle.conn db.new.idle.conn result
-        (λ count db. FivePass Layout.One db × HasVersionRows db count) }
+    ensures tests { ChecksBaseTables (SpellsAs Layout.One) db.old db.new result
+        (λ count db. BaseTablesPass Layout.One db × HasVersionRows db count) }
     ensures found { HasCleanDisk (shown db.new) → IfOk result (FindsLayoutOne (shown db.old).now) }
     ensures disk_cause { HasCleanDisk (shown db.new) → IfErr result (HasDiskCause (shown db.old) (shown db.new)) }
     ensures meta_number { HasCleanDisk (shown db.new) → IfErr result (HasMetaNumberOf 1 (shown db.old).now) }
@@ -190,7 +187,7 @@ pub(crate) fn check_layout_one<S: Alter>(alloc: Global, db: &mut Conn<S>) -> Res
 }
 
 pub(crate) fn check_layout_two<S: Alter>(alloc: Global, db: &mut Conn<S>) -> Result<(), StoreError>
-    ensures tests { ChecksEight S.Store db.old.idle.conn db.new.idle.conn result (λ _. EightPass) }
+    ensures tests { ChecksAllTables db.old db.new result (λ _. AllTablesPass) }
     ensures known { OnOk result (IsOpenable (shown db.old).now.schema) }
     ensures disk_cause { HasCleanDisk (shown db.new) → IfErr result (HasDiskCause (shown db.old) (shown db.new)) }
     ensures meta_number { HasCleanDisk (shown db.new) → IfErr result (HasMetaNumber (shown db.old).now) }
@@ -205,8 +202,7 @@ pub(crate) fn check_layout_two<S: Alter>(alloc: Global, db: &mut Conn<S>) -> Res
 
 /// Reads and checks all tables of layout 2 except `meta`.
 fn check_all<S: Alter>(alloc: Global, db: &mut Conn<S>) -> Result<(), StoreError>
-    ensures tests { ChecksEight S.Store db.old.idle.conn db.new.idle.conn result
-        (λ _ db. RestPasses db × AddedPass db) }
+    ensures tests { ChecksAllTables db.old db.new result (λ _ db. RestPasses db × AddedTablesPass db) }
     ensures plain { IfErr result HasNoLayoutNumber }
 {
     let _idle = db.idle.conn.is_autocommit();

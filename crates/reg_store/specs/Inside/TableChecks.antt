@@ -25,6 +25,7 @@ use Rattle.reg_core.specs.Registry.{RowKey, max_number}
 use Rattle.reg_core.specs.Stored.{Stored}
 use Rattle.reg_store.specs.declared.error.StoreError.{StoreError}
 use Rattle.reg_store.specs.declared.error.StoreError.TheVariants.{Memory, Disk, NotARegistry, OldLayout, NewerLayout}
+use Rattle.reg_store.specs.declared.conn.Conn.{Conn}
 use Rattle.reg_store.specs.declared.layout.Layout.{Layout}
 use Rattle.reg_store.specs.declared.layout.Layout.TheVariants.{One, Two}
 use Rattle.reg_store.specs.Failures.{IsFaultBy, HasDiskCause}
@@ -49,17 +50,18 @@ level_fits line = FitsLevels (string_bytes line.subject) (string_bytes line.leve
 abbrev pub kept_fits : RawKept → Type 0
 kept_fits line = FitsKept (string_bytes line.key) line.reply.status
 
-pub record LevelsPass (db : Database) : Type 0 where
-  pub lines : List RawLevel
-  pub lists : ListsLevels db lines
-  pub apart : AreDistinct (map (λ (line : RawLevel). line.rowid) lines)
-  pub fit : AllByRecursion level_fits lines
+-- a table whose rows are checked one by one: the rowids are distinct, and each row is valid
+pub record Passes {L : Type 0} (Lists : Database → List L → Type 0) (rowid_of : L → ℤ) (fits : L → Type 0) (db : Database) : Type 0 where
+  pub lines : List L
+  pub lists : Lists db lines
+  pub apart : AreDistinct (map rowid_of lines)
+  pub fit : AllByRecursion fits lines
 
-pub record KeptPass (db : Database) : Type 0 where
-  pub lines : List RawKept
-  pub lists : ListsKept db lines
-  pub apart : AreDistinct (map (λ (line : RawKept). line.rowid) lines)
-  pub fit : AllByRecursion kept_fits lines
+abbrev pub LevelsPass : Database → Type 0
+LevelsPass = Passes ListsLevels (λ line. line.rowid) level_fits
+
+abbrev pub KeptPass : Database → Type 0
+KeptPass = Passes ListsKept (λ line. line.rowid) kept_fits
 
 abbrev pub pairs_of : List RawMeta → List MetaPair
 pairs_of lines = map meta_pair (map meta_columns lines)
@@ -84,11 +86,8 @@ pub record TextsPass (db : Database) : Type 0 where
   pub lists : ListsTexts db lines
   pub fit : AreTexts (map text_columns lines)
 
-pub record VersionsPass (db : Database) : Type 0 where
-  pub lines : List RawVersion
-  pub lists : ListsVersions db lines
-  pub apart : AreDistinct (map (λ (line : RawVersion). line.rowid) lines)
-  pub fit : AllByRecursion version_fits lines
+abbrev pub VersionsPass : Database → Type 0
+VersionsPass = Passes ListsVersions (λ line. line.rowid) version_fits
 
 pub record RestPasses (db : Database) : Type 0 where
   pub texts : TextsPass db
@@ -96,7 +95,7 @@ pub record RestPasses (db : Database) : Type 0 where
   pub levels : LevelsPass db
   pub kept : KeptPass db
 
-pub record FivePass (layout : Layout) (db : Database) : Type 0 where
+pub record BaseTablesPass (layout : Layout) (db : Database) : Type 0 where
   pub meta : MetaPass layout db
   pub rest : RestPasses db
 
@@ -121,11 +120,8 @@ place_at line = ((string_bytes line.subject, line.version), line.position)
 abbrev pub AreInSequence : List RawEvidence → List RawAgainst → Type 0
 AreInSequence evidence against = HaveEvidence (map version_at evidence) (map place_at against) × AreContiguous (map place_at against)
 
-pub record ModesPass (db : Database) : Type 0 where
-  pub lines : List RawMode
-  pub lists : ListsModes db lines
-  pub apart : AreDistinct (map (λ (line : RawMode). line.rowid) lines)
-  pub fit : AllByRecursion mode_fits lines
+abbrev pub ModesPass : Database → Type 0
+ModesPass = Passes ListsModes (λ line. line.rowid) mode_fits
 
 pub record EvidenceFits (evidence : List RawEvidence) (against : List RawAgainst) : Type 0 where
   pub apart : AreDistinct (map (λ (line : RawEvidence). line.rowid) evidence)
@@ -140,13 +136,13 @@ pub record EvidencePasses (db : Database) : Type 0 where
   pub lists : ListsEvidence db evidence × ListsAgainst db against
   pub fits : EvidenceFits evidence against
 
-pub record AddedPass (db : Database) : Type 0 where
+pub record AddedTablesPass (db : Database) : Type 0 where
   pub modes : ModesPass db
   pub evidence : EvidencePasses db
 
-pub record EightPass (db : Database) : Type 0 where
-  pub base : FivePass Two db
-  pub added : AddedPass db
+pub record AllTablesPass (db : Database) : Type 0 where
+  pub base : BaseTablesPass Two db
+  pub added : AddedTablesPass db
 
 -- ---- texts, some at a time
 
@@ -235,10 +231,14 @@ pub record Checks {S X : Type 0} (Declared : Schema → Type 0) (Spelled : Datab
   pub fault : HasCleanDisk (state g new) → IfErr result (λ e. (IsTrue (state g old).is_open → Spelled (state g old).now) → IsFaultBy (state g old) (state g new) e)
   pub disk_cause : HasCleanDisk (state g new) → IfErr result (λ e. (IsTrue (state g old).is_open → Declared (state g old).now.schema) → HasDiskCause (state g old) (state g new) e)
 
--- a check of the five tables of both layouts
-abbrev pub ChecksFive : {S X : Type 0} → Ghosts S → Held S → Held S → Result X StoreError → (X → Database → Type 0) → Type 0
-ChecksFive = Checks HasFiveTables (SpellsSome SpellsBase)
+-- a check of the five tables of both layouts, which are expected to be as `Spelled` says
+abbrev pub ChecksBaseTables : {S X : Type 0} {g : Ghosts S} → (Database → Type 0) → Conn S g → Conn S g → Result X StoreError → (X → Database → Type 0) → Type 0
+ChecksBaseTables {S} {X} {g} Spelled old new = Checks HasFiveTables Spelled g old.idle.conn new.idle.conn
+
+-- a check of these five tables, which are expected to spell the base of a registry
+abbrev pub ChecksSpelledBase : {S X : Type 0} {g : Ghosts S} → Conn S g → Conn S g → Result X StoreError → (X → Database → Type 0) → Type 0
+ChecksSpelledBase = ChecksBaseTables (SpellsSome SpellsBase)
 
 -- a check of the eight tables of layout 2
-abbrev pub ChecksEight : {S X : Type 0} → Ghosts S → Held S → Held S → Result X StoreError → (X → Database → Type 0) → Type 0
-ChecksEight = Checks HasEightTables (SpellsAs Two)
+abbrev pub ChecksAllTables : {S X : Type 0} {g : Ghosts S} → Conn S g → Conn S g → Result X StoreError → (X → Database → Type 0) → Type 0
+ChecksAllTables {S} {X} {g} old new = Checks HasEightTables (SpellsAs Two) g old.idle.conn new.idle.conn

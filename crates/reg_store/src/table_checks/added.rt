@@ -5,7 +5,7 @@ ghost use Rattle.std.specs.List.{AllByRecursion};
 ghost use Rattle.reg_tables.specs.Listings.{ListsEvidence, HasAgainstRows, greatest_integer};
 ghost use Rattle.reg_rows.specs.Positions.{position_view};
 ghost use Rattle.reg_store.specs.Failures.{HasNoLayoutNumber};
-ghost use Rattle.reg_store.specs.Inside.TableChecks.{AreDistinct, mode_fits, evidence_fits, against_fits, version_at, place_at, ArePositionsInOrder, rowids_in, JudgesVersion, JudgesIds, ModesPass, EvidencePasses, AddedPass, ChecksEight};
+ghost use Rattle.reg_store.specs.Inside.TableChecks.{AreDistinct, mode_fits, evidence_fits, against_fits, version_at, place_at, ArePositionsInOrder, rowids_in, JudgesVersion, JudgesIds, ModesPass, EvidencePasses, AddedTablesPass, ChecksAllTables};
 
 use crate::conn::Conn;
 use crate::error::StoreError;
@@ -66,7 +66,7 @@ impl CheckedRow for RawAgainst {
 }
 
 fn check_modes<S: Alter>(alloc: Global, db: &mut Conn<S>) -> Result<(), StoreError>
-    ensures tests { ChecksEight S.Store db.old.idle.conn db.new.idle.conn result (λ _. ModesPass) }
+    ensures tests { ChecksAllTables db.old db.new result (λ _. ModesPass) }
     ensures plain { IfErr result HasNoLayoutNumber }
 {
     let lines = raw_modes(alloc, &mut db.idle)?;
@@ -74,8 +74,7 @@ fn check_modes<S: Alter>(alloc: Global, db: &mut Conn<S>) -> Result<(), StoreErr
 }
 
 fn read_evidence<S: Alter>(alloc: Global, db: &mut Conn<S>) -> Result<Vec<RawEvidence>, StoreError>
-    ensures tests { ChecksEight S.Store db.old.idle.conn db.new.idle.conn result
-        (λ lines db. ListsEvidence db lines.items) }
+    ensures tests { ChecksAllTables db.old db.new result (λ lines db. ListsEvidence db lines.items) }
     ensures plain { IfErr result HasNoLayoutNumber }
 {
     let lines = raw_evidence(alloc, &mut db.idle)?;
@@ -124,7 +123,7 @@ fn judge_version<S: Alter>(
     version: &RawEvidence,
     rowids: &mut Vec<i64>,
 ) -> Result<bool, StoreError>
-    ensures tests { ChecksEight S.Store db.old.idle.conn db.new.idle.conn result
+    ensures tests { ChecksAllTables db.old db.new result
         (λ fit db. (added : List ℤ) × (rowids.new.items ≡ rowids.old.items ++ added)
         × JudgesVersion (version_at version.now) db added fit) }
     ensures plain { IfErr result HasNoLayoutNumber }
@@ -140,8 +139,7 @@ fn judge_version<S: Alter>(
 }
 
 fn count_against<S: Alter>(db: &mut Conn<S>) -> Result<u64, StoreError>
-    ensures tests { ChecksEight S.Store db.old.idle.conn db.new.idle.conn result
-        (λ count db. HasAgainstRows db count) }
+    ensures tests { ChecksAllTables db.old db.new result (λ count db. HasAgainstRows db count) }
     ensures plain { IfErr result HasNoLayoutNumber }
 {
     let count = against_count(&mut db.idle)?;
@@ -165,7 +163,7 @@ fn read_ids<S: Alter>(
     db: &mut Conn<S>,
     evidence: &[RawEvidence],
 ) -> Result<Ids, StoreError>
-    ensures tests { ChecksEight S.Store db.old.idle.conn db.new.idle.conn result
+    ensures tests { ChecksAllTables db.old db.new result
         (λ ids db. JudgesIds (map version_at evidence.now) db ids.rowids.items ids.fit ids.count) }
     ensures plain { IfErr result HasNoLayoutNumber }
 {
@@ -208,7 +206,7 @@ fn pass_evidence(alloc: Global, evidence: &[RawEvidence], ids: Ids) -> Result<bo
 }
 
 fn check_evidence<S: Alter>(alloc: Global, db: &mut Conn<S>) -> Result<(), StoreError>
-    ensures tests { ChecksEight S.Store db.old.idle.conn db.new.idle.conn result (λ _. EvidencePasses) }
+    ensures tests { ChecksAllTables db.old db.new result (λ _. EvidencePasses) }
     ensures plain { IfErr result HasNoLayoutNumber }
 {
     let _idle = db.idle.conn.is_autocommit();
@@ -218,7 +216,7 @@ fn check_evidence<S: Alter>(alloc: Global, db: &mut Conn<S>) -> Result<(), Store
 }
 
 pub(crate) fn check_added<S: Alter>(alloc: Global, db: &mut Conn<S>) -> Result<(), StoreError>
-    ensures tests { ChecksEight S.Store db.old.idle.conn db.new.idle.conn result (λ _. AddedPass) }
+    ensures tests { ChecksAllTables db.old db.new result (λ _. AddedTablesPass) }
     ensures plain { IfErr result HasNoLayoutNumber }
 {
     let _idle = db.idle.conn.is_autocommit();

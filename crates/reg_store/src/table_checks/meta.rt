@@ -2,11 +2,10 @@
 
 ghost use Rattle.std.specs.Prelude.{◌≡◌, ◌↔◌, map, IfOk, IfErr, OnOk, IsTrue};
 ghost use Rattle.sqlite.specs.State.{HasCleanDisk};
-ghost use Rattle.reg_tables.specs.Layout.{HasFiveTables};
 ghost use Rattle.reg_store.specs.Failures.{HasDiskCause};
 ghost use Rattle.reg_store.specs.Opening.{meta_columns, HasMetaNumberOf, ReportsOther};
 ghost use Rattle.reg_rows.specs.Spelling.{meta_pair};
-ghost use Rattle.reg_store.specs.Inside.TableChecks.{Allows, AreDistinct, number_of, is_meta_of, JudgesMeta, SpellsAs, Checks, MetaPass};
+ghost use Rattle.reg_store.specs.Inside.TableChecks.{Allows, AreDistinct, number_of, is_meta_of, JudgesMeta, SpellsAs, ChecksBaseTables, MetaPass};
 ghost use Rattle.reg_store.specs.Inside.Reads.{shown};
 
 use crate::conn::Conn;
@@ -95,8 +94,7 @@ pub(crate) fn check_meta<S: Alter>(
     db: &mut Conn<S>,
     layout: Layout,
 ) -> Result<(), StoreError>
-    ensures tests { Checks HasFiveTables (SpellsAs layout)
-        S.Store db.old.idle.conn db.new.idle.conn result (λ _. MetaPass layout) }
+    ensures tests { ChecksBaseTables (SpellsAs layout) db.old db.new result (λ _. MetaPass layout) }
     ensures disk_cause { HasCleanDisk (shown db.new) → IfErr result (HasDiskCause (shown db.old) (shown db.new)) }
     ensures meta_number { HasCleanDisk (shown db.new)
         → IfErr result (HasMetaNumberOf (number_of layout) (shown db.old).now) }

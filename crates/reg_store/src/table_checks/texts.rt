@@ -2,12 +2,11 @@
 
 ghost use Rattle.std.specs.Prelude.{◌↔◌, ◌≤◌, IfOk, IfErr, IsTrue};
 ghost use Rattle.std.specs.List.{AllByRecursion};
-ghost use Rattle.reg_tables.specs.Layout.{HasFiveTables};
 ghost use Rattle.reg_tables.specs.Listings.{ListsTexts, ListsTextsBetween};
 ghost use Rattle.reg_tables.specs.Reads.{HoldsReadable};
 ghost use Rattle.reg_core.specs.Registry.{max_number};
 ghost use Rattle.reg_store.specs.Failures.{HasNoLayoutNumber};
-ghost use Rattle.reg_store.specs.Inside.TableChecks.{text_fits, Judges, NumbersTexts, Checks, ChecksFive, TextsPass};
+ghost use Rattle.reg_store.specs.Inside.TableChecks.{text_fits, Judges, NumbersTexts, ChecksBaseTables, ChecksSpelledBase, TextsPass};
 
 use crate::conn::Conn;
 use crate::error::StoreError;
@@ -35,8 +34,7 @@ fn are_identities(alloc: Global, lines: &[RawText]) -> Result<bool, OutOfMemory>
 
 /// The number of texts, if their ids are the numbers from 1 on.
 fn count_texts<S: Alter>(alloc: Global, db: &mut Conn<S>) -> Result<u32, StoreError>
-    ensures tests { ChecksFive S.Store db.old.idle.conn db.new.idle.conn result
-        (λ count db. NumbersTexts db count) }
+    ensures tests { ChecksSpelledBase db.old db.new result (λ count db. NumbersTexts db count) }
     ensures few { IfOk result (λ count. count ≤ max_number) }
     ensures plain { IfErr result HasNoLayoutNumber }
 {
@@ -54,7 +52,7 @@ fn judge_some<S: Alter>(
     first: u32,
     last: u32,
 ) -> Result<bool, StoreError>
-    ensures tests { Checks HasFiveTables HoldsReadable S.Store db.old.idle.conn db.new.idle.conn
+    ensures tests { ChecksBaseTables HoldsReadable db.old db.new
         result (λ fit db. Judges (ListsTextsBetween first last db) fit) }
     ensures plain { IfErr result HasNoLayoutNumber }
 {
@@ -66,7 +64,7 @@ fn judge_some<S: Alter>(
 /// are the numbers from 1 to `count`.
 fn judge_all<S: Alter>(alloc: Global, db: &mut Conn<S>, count: u32) -> Result<bool, StoreError>
     requires few { count ≤ max_number }
-    ensures tests { Checks HasFiveTables HoldsReadable S.Store db.old.idle.conn db.new.idle.conn
+    ensures tests { ChecksBaseTables HoldsReadable db.old db.new
         result (λ fit db. NumbersTexts db count → Judges (ListsTexts db) fit) }
     ensures plain { IfErr result HasNoLayoutNumber }
 {
@@ -81,7 +79,7 @@ fn judge_all<S: Alter>(alloc: Global, db: &mut Conn<S>, count: u32) -> Result<bo
 }
 
 pub(crate) fn check_texts<S: Alter>(alloc: Global, db: &mut Conn<S>) -> Result<(), StoreError>
-    ensures tests { ChecksFive S.Store db.old.idle.conn db.new.idle.conn result (λ _. TextsPass) }
+    ensures tests { ChecksSpelledBase db.old db.new result (λ _. TextsPass) }
     ensures plain { IfErr result HasNoLayoutNumber }
 {
     let _idle = db.idle.conn.is_autocommit();

@@ -1,13 +1,7 @@
-use Rattle.std.proofs.Common.{List, map, sym, subst}
-use Rattle.std.specs.List.{AllByRecursion}
-use Rattle.std.proofs.lemmas.Bool.{both_ways}
 use Rattle.sqlite.specs.Held.{state}
-use Rattle.reg_tables.specs.declared.kept.RawKept.{RawKept}
-use Rattle.reg_tables.specs.Listings.{ListsKept}
-use Rattle.reg_store.specs.Inside.TableChecks.{AreDistinct, kept_fits}
 use Rattle.reg_store.specs.Failures.{HasNoLayoutNumber}
 use Rattle.reg_store.proofs.Failing.{numberless, passed}
-use Rattle.reg_store.proofs.CheckLemmas.{test_unread, test_read, test_judged, some_can_be_read, some_known, kept_pass}
+use Rattle.reg_store.proofs.CheckLemmas.{test_unread, test_lines, some_can_be_read, some_known, kept_pass}
 use Rattle.reg_store.proofs.table_checks.check_kept.Goals as goal
 
 pub returns-in_err-lines-clause-tests : goal.returns-in_err-lines-clause-tests
@@ -19,11 +13,5 @@ returns-in_err-lines-clause-plain g c = passed HasNoLayoutNumber c.from_residual
 
 pub returns-clause-tests : goal.returns-clause-tests
 returns-clause-tests g c =
-    let lines = c.in_ok-lines.lines.items in
-    let Passes : List RawKept → Type 0 = λ l. AreDistinct (map (λ (line : RawKept). line.rowid) l) × AllByRecursion kept_fits l in
-    test_judged g.S.Store c.args.db.now.idle.conn c.raw_kept.new.db.conn {P = λ l d. ListsKept d l.items} (test_read g.S.Store c.args.db.now.idle.conn c.raw_kept.new.db.conn c.in_ok-lines.lines c.in_ok-lines.ensures.frame c.in_ok-lines.ensures.listed)
-    c.allow.result c.in_ok-pass.field-0 c.allow.ensures.ok c.allow.ensures.err some_known
-    (λ db lists yes.
-    let both = subst Passes c.deref.ensures.value (c.in_ok-pass.ensures.0 yes) in
-    record { lines = lines; lists = lists; apart = both.0; fit = both.1 })
-    (λ db lists no s. both_ways _ no (c.in_ok-pass.ensures.1 (subst Passes (sym c.deref.ensures.value) (kept_pass db s.stored s.spells lines lists))))
+    test_lines g.S.Store c.args.db.now.idle.conn c.raw_kept.new.db.conn c.in_ok-lines.lines c.in_ok-lines.ensures.frame c.in_ok-lines.ensures.listed _ c.deref.ensures.value c.in_ok-pass.field-0 c.in_ok-pass.ensures
+    c.allow.result c.allow.ensures.ok c.allow.ensures.err some_known (λ db s lists. kept_pass db s.stored s.spells _ lists)

@@ -1,14 +1,15 @@
 use Rattle.std.proofs.Common.{◌∙◌, List, map, Err, sym, subst}
 use Rattle.std.specs.List.{AllByRecursion}
-use Rattle.std.proofs.lemmas.Bool.{both_ways}
 use Rattle.sqlite.specs.Held.{state}
 use Rattle.reg_tables.specs.declared.versions.RawVersion.{RawVersion}
+use Rattle.reg_tables.specs.Layout.{HasFiveTables}
 use Rattle.reg_tables.specs.Listings.{ListsVersions}
 use Rattle.reg_store.specs.Opening.{HasVersionRows}
-use Rattle.reg_store.specs.Inside.TableChecks.{AreDistinct, version_fits, VersionsPass}
+use Rattle.reg_store.specs.Inside.Reads.{SpellsBase}
+use Rattle.reg_store.specs.Inside.TableChecks.{AreDistinct, SpellsSome, version_fits}
 use Rattle.reg_store.specs.Failures.{HasNoLayoutNumber}
 use Rattle.reg_store.proofs.Failing.{numberless, passed}
-use Rattle.reg_store.proofs.CheckLemmas.{test_unread, test_read, test_judged, test_fails, test_tells, some_can_be_read, some_known, versions_pass, versions_counted}
+use Rattle.reg_store.proofs.CheckLemmas.{test_unread, test_read, test_lines, test_fails, test_tells, some_can_be_read, some_known, versions_pass, versions_counted}
 use Rattle.reg_store.proofs.table_checks.check_versions.Goals as goal
 
 pub returns-in_err-lines-clause-tests : goal.returns-in_err-lines-clause-tests
@@ -22,14 +23,8 @@ pub returns-in_err-allow-clause-tests : goal.returns-in_err-allow-clause-tests
 returns-in_err-allow-clause-tests g c =
     let a = c.args.db.now.idle.conn in
     let b = c.raw_versions.new.db.conn in
-    let lines = c.in_ok-lines.lines.items in
-    let Passes : List RawVersion → Type 0 = λ l. AreDistinct (map (λ (line : RawVersion). line.rowid) l) × AllByRecursion version_fits l in
-    let judged = test_judged g.S.Store a b {P = λ l d. ListsVersions d l.items} (test_read g.S.Store a b c.in_ok-lines.lines c.in_ok-lines.ensures.frame c.in_ok-lines.ensures.listed) {Q = λ _. VersionsPass}
-    (Err c.in_err-allow.field-0.0) c.in_ok-pass.field-0 tt c.in_err-allow.ensures.err some_known
-    (λ db lists yes.
-    let both = subst Passes c.deref.ensures.value (c.in_ok-pass.ensures.0 yes) in
-    record { lines = lines; lists = lists; apart = both.0; fit = both.1 })
-    (λ db lists no s. both_ways _ no (c.in_ok-pass.ensures.1 (subst Passes (sym c.deref.ensures.value) (versions_pass db s.stored s.spells lines lists)))) in
+    let judged = test_lines {Declared = HasFiveTables} {Spelled = SpellsSome SpellsBase} {Lists = ListsVersions} {rowid_of = λ (line : RawVersion). line.rowid} {fits = version_fits} g.S.Store a b c.in_ok-lines.lines c.in_ok-lines.ensures.frame c.in_ok-lines.ensures.listed _ c.deref.ensures.value c.in_ok-pass.field-0 c.in_ok-pass.ensures
+    (Err c.in_err-allow.field-0.0) tt c.in_err-allow.ensures.err some_known (λ db s lists. versions_pass db s.stored s.spells _ lists) in
     test_fails g.S.Store a b c.from_residual-in_err-allow.result _ judged c.from_residual-in_err-allow.ensures.1
 
 pub returns-clause-tests : goal.returns-clause-tests

@@ -3,7 +3,7 @@ use Rattle.std.proofs.lemmas.Bool.{both_ways}
 use Rattle.reg_tables.specs.declared.evidence.RawEvidence.{RawEvidence}
 use Rattle.sqlite.specs.Effect.{Database}
 use Rattle.reg_store.specs.Inside.TableChecks.{version_at, JudgesIds}
-use Rattle.reg_store.proofs.LayoutTwoChecks.{eight_known}
+use Rattle.reg_store.proofs.LayoutTwoChecks.{all_tables_known}
 use Rattle.reg_store.proofs.CheckLemmas.{tests_then, test_fails, test_out_of_memory, test_judged}
 use Rattle.reg_store.proofs.VersionWalk.{AllPass, all_passed, none_refused}
 use Rattle.reg_store.proofs.table_checks.added.check_evidence.Goals as goal
@@ -39,6 +39,6 @@ returns-clause-tests g c =
     let few = c.in_ok-pass_evidence.ensures.few in
     let verdict = subst (λ (l : List RawEvidence). IsTrue b ↔ AllPass l ids.rowids.items ids.fit ids.count) c.deref-2.ensures.value c.in_ok-pass_evidence.ensures.passes in
     let told = λ (db : Database) (it : JudgesIds (map version_at c.deref.result.now) db ids.rowids.items ids.fit ids.count). subst (λ (l : List RawEvidence). JudgesIds (map version_at l) db ids.rowids.items ids.fit ids.count) c.deref.ensures.value it in
-    test_judged g.S.Store a end (tests_then g.S.Store a mid end (c.is_autocommit-idle.ensures.settled idle) _ c.in_ok-evidence.ensures.tests c.in_ok-ids.ensures.tests) c.allow.result b c.allow.ensures.ok c.allow.ensures.err eight_known
+    test_judged g.S.Store a end (tests_then g.S.Store a mid end (c.is_autocommit-idle.ensures.settled idle) _ c.in_ok-evidence.ensures.tests c.in_ok-ids.ensures.tests) c.allow.result b c.allow.ensures.ok c.allow.ensures.err all_tables_known
     (λ db p sure. all_passed db evidence p.0 ids.rowids.items ids.fit ids.count (told db p.1) few (verdict.0 sure))
     (λ db p refused s. both_ways _ refused (verdict.1 (none_refused db evidence p.0 ids.rowids.items ids.fit ids.count (told db p.1) few s)))

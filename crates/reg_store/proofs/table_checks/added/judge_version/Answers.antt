@@ -8,13 +8,13 @@ use Rattle.reg_store.specs.Spells.{SpellsUnopened}
 use Rattle.reg_store.specs.Failures.{HasNoLayoutNumber}
 use Rattle.reg_store.specs.Inside.TableChecks.{SpellsSome, ArePositionsInOrder, rowids_in}
 use Rattle.reg_store.proofs.Failing.{numberless, passed}
-use Rattle.reg_store.proofs.LayoutTwoChecks.{some_read_eight}
+use Rattle.reg_store.proofs.LayoutTwoChecks.{some_can_read_all}
 use Rattle.reg_store.proofs.CheckLemmas.{test_unread, test_read, test_tells}
 use Rattle.reg_store.proofs.table_checks.added.judge_version.Goals as goal
 
 pub returns-in_err-lines-clause-tests : goal.returns-in_err-lines-clause-tests
 returns-in_err-lines-clause-tests g c =
-    test_unread g.S.Store c.args.db.now.idle.conn c.against_of.new.db.conn c.from_residual.result c.in_err-lines.field-0.0 (some_read_eight (state g.S.Store c.args.db.now.idle.conn)) c.args.db.now.unlimited c.in_err-lines.ensures.frame c.in_err-lines.ensures.fault c.in_err-lines.ensures.fault_or_unreadable c.from_residual.ensures.1
+    test_unread g.S.Store c.args.db.now.idle.conn c.against_of.new.db.conn c.from_residual.result c.in_err-lines.field-0.0 (some_can_read_all (state g.S.Store c.args.db.now.idle.conn)) c.args.db.now.unlimited c.in_err-lines.ensures.frame c.in_err-lines.ensures.fault c.in_err-lines.ensures.fault_or_unreadable c.from_residual.ensures.1
 
 pub returns-clause-tests : goal.returns-clause-tests
 returns-clause-tests g c =

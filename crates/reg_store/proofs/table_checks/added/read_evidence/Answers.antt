@@ -1,5 +1,5 @@
 use Rattle.sqlite.specs.Held.{state}
-use Rattle.reg_store.proofs.LayoutTwoChecks.{some_read_eight}
+use Rattle.reg_store.proofs.LayoutTwoChecks.{some_can_read_all}
 use Rattle.reg_tables.specs.Listings.{ListsEvidence}
 use Rattle.reg_store.specs.Failures.{HasNoLayoutNumber}
 use Rattle.reg_store.proofs.Failing.{numberless, passed}
@@ -8,7 +8,7 @@ use Rattle.reg_store.proofs.table_checks.added.read_evidence.Goals as goal
 
 pub returns-in_err-lines-clause-tests : goal.returns-in_err-lines-clause-tests
 returns-in_err-lines-clause-tests g c =
-    test_unread g.S.Store c.args.db.now.idle.conn c.raw_evidence.new.db.conn c.from_residual.result c.in_err-lines.field-0.0 (some_read_eight (state g.S.Store c.args.db.now.idle.conn)) c.args.db.now.unlimited c.in_err-lines.ensures.frame c.in_err-lines.ensures.fault c.in_err-lines.ensures.fault_or_unreadable c.from_residual.ensures.1
+    test_unread g.S.Store c.args.db.now.idle.conn c.raw_evidence.new.db.conn c.from_residual.result c.in_err-lines.field-0.0 (some_can_read_all (state g.S.Store c.args.db.now.idle.conn)) c.args.db.now.unlimited c.in_err-lines.ensures.frame c.in_err-lines.ensures.fault c.in_err-lines.ensures.fault_or_unreadable c.from_residual.ensures.1
 
 pub returns-in_err-lines-clause-plain : goal.returns-in_err-lines-clause-plain
 returns-in_err-lines-clause-plain g c = passed HasNoLayoutNumber c.from_residual.result _ c.from_residual.ensures.1 (numberless c.in_err-lines.field-0.0)
