@@ -21,13 +21,6 @@ pub(crate) fn text_under<S: Alter>(db: &mut Conn<S>, id: u32) -> Result<Option<S
     Ok(text_of(&mut db.idle, id)?)
 }
 
-/// The id of the schema with this identity text, or `None`.
-fn id_under<S: Alter>(db: &mut Conn<S>, text: &str) -> Result<Option<u32>, StoreError>
-    ensures { Reads db.old db.new result (λ was found. found ≡ id_of was.registry.schemas text.now) }
-{
-    Ok(id_of(&mut db.idle, text)?)
-}
-
 pub(crate) fn count<S: Alter>(db: &mut Conn<S>) -> Result<u32, StoreError>
     ensures { Reads db.old db.new result (λ was count. count ≡ length was.registry.schemas) }
 {
@@ -47,7 +40,7 @@ pub(crate) fn known_for<S: Alter>(
 {
     match identity {
         None => Ok(None),
-        Some(text) => id_under(db, text),
+        Some(text) => Ok(id_of(&mut db.idle, text)?),
     }
 }
 
