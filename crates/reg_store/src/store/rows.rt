@@ -2,7 +2,7 @@
 
 ghost use Rattle.std.specs.Prelude.{◌≡◌, ◌++◌, ◌∷◌, [], None, IfOk, IfErr, OnOk, OnErr, All, false, map, option_copied};
 ghost use Rattle.std.specs.FinMap.{entries};
-ghost use Rattle.reg_core.specs.Rows.{rows_of, rows_with};
+ghost use Rattle.reg_core.specs.Rows.{rows_of};
 ghost use Rattle.reg_core.specs.ReadCommands.{rows_with_id};
 ghost use Rattle.reg_core.specs.Needs.{SufficeFor, SufficeForSubject, rows_needed};
 ghost use Rattle.reg_tables.specs.Entries.{subject_version_view, listed_version_view};
@@ -82,7 +82,10 @@ fn rows_of_id<S: Alter>(
 {
     match id {
         None => Ok(Vec::new(alloc)),
-        Some(id) => id_rows(alloc, db, id),
+        Some(id) => {
+            let lines = versions_of_id(alloc, &mut db.idle, id)?;
+            rows_in(alloc, lines)
+        }
     }
 }
 
@@ -96,13 +99,6 @@ pub(crate) fn subject_rows<S: Alter>(
 {
     let lines = versions_of(alloc, &mut db.idle, subject.as_str())?;
     Ok(rows_under(alloc, subject, lines)?)
-}
-
-fn id_rows<S: Alter>(alloc: Global, db: &mut Conn<S>, id: u32) -> Result<Vec<Row>, StoreError>
-    ensures { Reads db.old db.new result (λ was rows. rows.items ≡ rows_with id (entries was.registry.rows)) }
-{
-    let lines = versions_of_id(alloc, &mut db.idle, id)?;
-    rows_in(alloc, lines)
 }
 
 /// The versions of all subjects in the order of subjects and numbers.
