@@ -6,7 +6,6 @@ use Rattle.std.specs.BTreeMap as tree
 use Rattle.std.specs.BTreeMap.{BTreeMap}
 use Rattle.std.specs.Ordering.{nat_cmp}
 use Rattle.std.specs.FinMap.{get}
-use Rattle.std.specs.Map.{lookup}
 use Rattle.reg_core.specs.declared.command.Command.{Command}
 use Rattle.reg_core.specs.declared.command.Command.TheVariants.{SetGlobal, SetLevel, Register, DeleteVersion, DeleteSubject, Global as GlobalLevel, LevelOf, Lookup, Subjects, Versions, Version, Text, ById, VersionsOfId, Types, Check, CheckAll, SetGlobalMode, SetMode, GlobalMode, ModeOf}
 use Rattle.reg_core.specs.declared.decision.View.{View}
@@ -25,18 +24,9 @@ use Rattle.reg_store.specs.Inside.Viewing.{HasText, AreTrueTexts, AddsText, Puts
 abbrev Texts : Type 0
 Texts = BTreeMap ℕ (String Global)
 
-some_there : (o : Option (String Global)) → is_some o ≡ true → (text : List ℕ) × (option_map string_bytes o ≡ Some text)
-some_there None h = absurd (cc)
-some_there (Some text) h = (string_bytes text, refl)
-
 none_there : (o : Option (String Global)) → is_some o ≡ false → option_map string_bytes o ≡ None
 none_there None h = refl
 none_there (Some text) h = absurd (cc)
-
-pub text_stays : (texts : Texts) (schemas : Schemas) (id : ℕ) → is_some (tree.get nat_cmp texts id) ≡ true → AddsText texts texts schemas id
-text_stays texts schemas id there =
-    let it = some_there (tree.get nat_cmp texts id) there in
-    record { here = λ true_texts. it.1 ∙ sym (true_texts id it.0 it.1); kept = λ _ other h. h; true_texts = λ h. h }
 
 pub text_comes : (old new : Texts) (schemas : Schemas) (id : ℕ) (found : Option (String Global)) → is_some (tree.get nat_cmp old id) ≡ false → option_map string_bytes found ≡ text_at schemas id → PutsText old new id found → AddsText old new schemas id
 text_comes old new schemas id found absent is puts =
@@ -52,11 +42,6 @@ text_comes old new schemas id found absent is puts =
         | inr apart ↦ true_texts other text (sym (puts.others other apart) ∙ there)
       ];
     }
-
-pub true_if_empty : (texts : Texts) (schemas : Schemas) → tree.IsEmpty texts → AreTrueTexts texts schemas
-true_if_empty texts schemas empty id text there =
-    let none : None ≡ Some text = sym (ap (λ es. option_map string_bytes (lookup (tree.is_at (nat_cmp id)) es)) empty) ∙ there in
-    absurd (cc)
 
 -- ---- ids
 
