@@ -4,18 +4,16 @@ ghost use Rattle.std.specs.Prelude.{◌≡◌, option_map};
 ghost use Rattle.sqlite.specs.State.{HasCleanDisk};
 ghost use Rattle.reg_service.specs.Crashes.{ServesDurably};
 ghost use Rattle.reg_service.specs.Services.{state_in};
-ghost use Rattle.reg_messages.specs.ParseOutcomes.{IsWholeMessage};
-ghost use Rattle.reg_messages.specs.Messages.{Message};
 ghost use Rattle.reg_routes.specs.Deliveries.{allow_field, requested_by};
 ghost use Rattle.reg_http.specs.Transitions.{StoredTransition};
 ghost use Rattle.reg_http.specs.Inside.Replying.{IsReplyTo};
 ghost use Rattle.reg_http.specs.Inside.SessionSteps.{AnswersAs, FaultAs, IsWithin, NextAs, WaitsAt, next_after};
 
-use crate::buffer::Buffer;
+use crate::buffer::ReadBuffers;
 use crate::writing::{WriteOutcome, send};
 use httparse::spans::HeaderSpan;
 use reg_core::{Code, Reply};
-use reg_messages::{ParseOutcome, Request, Whole, parse_front};
+use reg_messages::{ParseOutcome, Request, parse_front};
 use reg_routes::{Routes, command_of};
 use reg_service::Service;
 use sqlite::Alter;
@@ -76,30 +74,6 @@ fn next_after(sent: WriteOutcome, close: bool, size: usize) -> Next
     }
 }
 
-/// Processes a whole message at the front of the bytes, and writes its response.
-fn answer_message<W: Write, S: Alter>(
-    alloc: Global,
-    routes: &Routes,
-    bytes: &[u8],
-    headers: &[HeaderSpan],
-    whole: Whole,
-    writer: &mut W,
-    service: &mut Service<S>,
-) -> Next
-    requires { (message : Message) × IsWholeMessage bytes.now headers.now whole message }
-    ensures clean { HasCleanDisk (state_in service.new) → HasCleanDisk (state_in service.old) }
-    ensures within { IsWithin bytes.now result }
-    ensures next { HasCleanDisk (state_in service.new) → StoredTransition (state_in service.old) (state_in service.new)
-        (λ was now. NextAs (ServesDurably service.old service.new was now)
-        (W.contents writer.old) (W.contents writer.new) bytes.now result) }
-{
-    let request = Request::of(bytes, headers, whole);
-    let close = request.closes();
-    let (reply, allow) = reply_to(alloc, routes, &request, service);
-    let sent = send(alloc, writer, &reply, allow, close);
-    next_after(sent, close, whole.head.len + whole.body)
-}
-
 /// Writes the response to a fault, which ends the connection.
 fn answer_fault<W: Write>(alloc: Global, code: Code, writer: &mut W) -> Stop
     ensures { FaultAs (W.contents writer.old) (W.contents writer.new) code result }
@@ -129,12 +103,16 @@ fn answer_front<W: Write, S: Alter>(
 {
     match parse_front(bytes, headers) {
         ParseOutcome::Whole(whole) => {
-            answer_message(alloc, routes, bytes, headers, whole, writer, service)
+            let request = Request::of(bytes, headers, whole);
+            let close = request.closes();
+            let (reply, allow) = reply_to(alloc, routes, &request, service);
+            let sent = send(alloc, writer, &reply, allow, close);
+            next_after(sent, close, whole.head.len + whole.body)
         }
         ParseOutcome::Nothing => Next::Stopped(Stop::Waiting(1)),
         ParseOutcome::Part(needs) => Next::Stopped(Stop::Waiting(needs)),
         ParseOutcome::Faulty(code) => Next::Stopped(answer_fault(alloc, code, writer)),
-        // `serve` gives room for more fields than a head within the size limit can have.
+        // `ReadBuffers` has room for more fields than a head within the size limit can have.
         ParseOutcome::TooManyFields => Next::Stopped(Stop::OutOfMemory),
     }
 }
@@ -143,20 +121,21 @@ fn answer_front<W: Write, S: Alter>(
 pub fn answer_buffered<W: Write, S: Alter>(
     alloc: Global,
     routes: &Routes,
-    buffer: &mut Buffer,
-    headers: &mut [HeaderSpan],
+    buffers: &mut ReadBuffers,
     writer: &mut W,
     service: &mut Service<S>,
 ) -> Stop
     ensures clean { HasCleanDisk (state_in service.new) → HasCleanDisk (state_in service.old) }
     ensures responses { HasCleanDisk (state_in service.new) → StoredTransition (state_in service.old) (state_in service.new)
         (λ was now. AnswersAs (ServesDurably service.old service.new was now)
-        (W.contents writer.old) (W.contents writer.new) buffer.old buffer.new result) }
-    ensures waits { WaitsAt buffer.new result }
+        (W.contents writer.old) (W.contents writer.new) buffers.old.bytes buffers.new.bytes result) }
+    ensures waits { WaitsAt buffers.new.bytes result }
 {
     loop {
-        match answer_front(alloc, routes, buffer.held(), headers, writer, service) {
-            Next::Answered(size) => buffer.consume(size),
+        let held = buffers.bytes.held();
+        let headers = buffers.headers.as_mut_slice();
+        match answer_front(alloc, routes, held, headers, writer, service) {
+            Next::Answered(size) => buffers.bytes.consume(size),
             Next::Stopped(stop) => return stop,
         }
     }

@@ -1,9 +1,12 @@
-//! The buffer of a connection: a reader fills it, and messages are removed from its front.
+//! The buffers of a connection. A reader fills the buffer of bytes, and messages are removed from its
+//! front.
 
 ghost use Rattle.std.specs.Prelude.{◌≡◌, ◌≤◌, ◌<◌, ◌+◌, ◌-◌, ◌++◌, [], ℕ, List, length, take, drop, IfOk, OnErr, slice_range, vec_len};
 ghost use Rattle.std.specs.Io.KnownBytes.{Consumes, IsAtEnd, Keeps};
 
+use httparse::spans::{EMPTY_HEADER_SPAN, HeaderSpan};
 use reg_core::OutOfMemory;
+use reg_messages::MAX_HEAD;
 use std::alloc::Global;
 use std::io;
 use std::io::Read;
@@ -125,5 +128,30 @@ impl Buffer {
         let count = read_into(&mut self.bytes, self.last, reader)?;
         self.last += count;
         Ok(count)
+    }
+}
+
+/// The memory for reading a connection, allocated before the first read.
+#[derive(Drop)]
+pub struct ReadBuffers {
+    /// The bytes that were read and not yet processed.
+    pub bytes: Buffer,
+    /// Room for the fields of a head.
+    pub headers: Vec<HeaderSpan>,
+}
+
+impl ReadBuffers {
+    /// An empty buffer, and room for the fields of every head within the size limit.
+    ///
+    /// # Errors
+    ///
+    /// `OutOfMemory` if an allocation fails.
+    pub fn new(alloc: Global) -> Result<ReadBuffers, OutOfMemory>
+        ensures { IfOk result (λ buffers. buffers.bytes ≡ []) }
+    {
+        Ok(ReadBuffers {
+            bytes: Buffer::new(alloc)?,
+            headers: vec![in alloc; EMPTY_HEADER_SPAN; MAX_HEAD]?,
+        })
     }
 }

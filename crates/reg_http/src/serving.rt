@@ -10,9 +10,7 @@ ghost use Rattle.reg_http.specs.Inside.Readings.{ReadsAs, end_of};
 ghost use Rattle.reg_http.specs.Inside.SessionSteps.{AnswersAs, Waits, WaitsAt};
 
 use crate::answering::{Stop, answer_buffered};
-use crate::buffer::Buffer;
-use httparse::spans::{EMPTY_HEADER_SPAN, HeaderSpan};
-use reg_messages::MAX_HEAD;
+use crate::buffer::{Buffer, ReadBuffers};
 use reg_routes::Routes;
 use reg_service::Service;
 use sqlite::Alter;
@@ -72,23 +70,22 @@ fn end_of(held: &[u8]) -> Ended
 fn answer_more<W: Write, S: Alter>(
     alloc: Global,
     routes: &Routes,
-    buffer: &mut Buffer,
+    buffers: &mut ReadBuffers,
     needs: usize,
-    headers: &mut [HeaderSpan],
     writer: &mut W,
     service: &mut Service<S>,
 ) -> Stop
-    requires { length buffer.old < needs → Waits buffer.old needs }
+    requires { length buffers.old.bytes < needs → Waits buffers.old.bytes needs }
     ensures clean { HasCleanDisk (state_in service.new) → HasCleanDisk (state_in service.old) }
     ensures responses { HasCleanDisk (state_in service.new) → StoredTransition (state_in service.old) (state_in service.new)
         (λ was now. AnswersAs (ServesDurably service.old service.new was now)
-        (W.contents writer.old) (W.contents writer.new) buffer.old buffer.new result) }
-    ensures waits { WaitsAt buffer.new result }
+        (W.contents writer.old) (W.contents writer.new) buffers.old.bytes buffers.new.bytes result) }
+    ensures waits { WaitsAt buffers.new.bytes result }
 {
-    if buffer.held().len() < needs {
+    if buffers.bytes.held().len() < needs {
         return Stop::Waiting(needs);
     }
-    answer_buffered(alloc, routes, buffer, headers, writer, service)
+    answer_buffered(alloc, routes, buffers, writer, service)
 }
 
 /// Reads messages and writes responses until the connection ends. While it reads, the buffer has
@@ -96,13 +93,12 @@ fn answer_more<W: Write, S: Alter>(
 fn serve_with<R: Read, W: Write, S: Alter>(
     alloc: Global,
     routes: &Routes,
-    mut buffer: Buffer,
-    headers: &mut [HeaderSpan],
+    mut buffers: ReadBuffers,
     reader: &mut R,
     writer: &mut W,
     service: &mut Service<S>,
 ) -> Ended
-    requires { buffer ≡ [] }
+    requires { buffers.bytes ≡ [] }
     ensures clean { HasCleanDisk (state_in service.new) → HasCleanDisk (state_in service.old) }
     ensures session { HasCleanDisk (state_in service.new) → StoredTransition (state_in service.old) (state_in service.new)
         (λ was now. Session (ServesDurably service.old service.new was now)
@@ -110,12 +106,12 @@ fn serve_with<R: Read, W: Write, S: Alter>(
 {
     let mut needs = 1;
     for _ in 0..u64::MAX {
-        match read_more(&mut buffer, reader) {
+        match read_more(&mut buffers.bytes, reader) {
             ReadOutcome::Bytes => {}
-            ReadOutcome::End => return end_of(buffer.held()),
+            ReadOutcome::End => return end_of(buffers.bytes.held()),
             ReadOutcome::Failed => return Ended::ReadFailed,
         }
-        match answer_more(alloc, routes, &mut buffer, needs, headers, writer, service) {
+        match answer_more(alloc, routes, &mut buffers, needs, writer, service) {
             Stop::Waiting(more) => needs = more,
             Stop::AtClose => return Ended::Closed,
             Stop::AtFault => return Ended::Malformed,
@@ -143,19 +139,8 @@ pub fn serve<R: Read, W: Write, S: Alter>(
     let Ok(routes) = Routes::new(alloc) else {
         return Ended::Memory;
     };
-    let Ok(mut headers) = vec![in alloc; EMPTY_HEADER_SPAN; MAX_HEAD] else {
+    let Ok(buffers) = ReadBuffers::new(alloc) else {
         return Ended::Memory;
     };
-    let Ok(buffer) = Buffer::new(alloc) else {
-        return Ended::Memory;
-    };
-    serve_with(
-        alloc,
-        &routes,
-        buffer,
-        headers.as_mut_slice(),
-        reader,
-        writer,
-        service,
-    )
+    serve_with(alloc, &routes, buffers, reader, writer, service)
 }

@@ -15,7 +15,7 @@ loop-size-init g c = record {
 
 pub loop-size-preserved : goal.loop-size-preserved
 loop-size-preserved g c =
-    let held = c.loop-size.buffer in
+    let held = c.loop-size.buffers.bytes in
     let size = c.in-Answered.size in
     record {
       clean = λ h. c.loop-size.invariant.clean (c.answer_front.ensures.clean h);
@@ -27,7 +27,7 @@ loop-size-preserved g c =
           record {
             stored = after.stored;
             spells = after.spells;
-            holds = rw c.consume.ensures (AnsweredSoFar-one _ _ _ joins _ _ _ _ held size before.holds (subst P c.held.ensures after.holds));
+            holds = rw c.consume.ensures (AnsweredSoFar-one _ _ _ joins _ _ _ _ held size before.holds (subst P c.held-held.ensures after.holds));
           };
     }
 
@@ -41,5 +41,5 @@ returns-in-Stopped-clause-responses g c h was over =
     record {
       stored = after.stored;
       spells = after.spells;
-      holds = AnswersAs-after _ _ _ joins _ _ _ _ _ _ mine.answered c.in-Stopped.stop mine.stay mine.processes (subst P c.held.ensures after.holds);
+      holds = AnswersAs-after _ _ _ joins _ _ _ _ _ _ mine.answered c.in-Stopped.stop mine.stay mine.processes (subst P c.held-held.ensures after.holds);
     }

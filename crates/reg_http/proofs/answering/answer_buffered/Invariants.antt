@@ -10,8 +10,8 @@ abbrev pub invariant-loop-size : goal.invariant-loop-size
 invariant-loop-size g l = record {
   clean : HasCleanDisk (state_in l.service) → HasCleanDisk (state_in l.fn.service);
   served : HasCleanDisk (state_in l.service) → StoredTransition (state_in l.fn.service) (state_in l.service)
-      (λ was now. AnsweredSoFar (ServesDurably l.fn.service l.service was now) (g.W.Write.contents l.fn.writer) (g.W.Write.contents l.writer) l.fn.buffer l.buffer);
+      (λ was now. AnsweredSoFar (ServesDurably l.fn.service l.service was now) (g.W.Write.contents l.fn.writer) (g.W.Write.contents l.writer) l.fn.buffers.bytes l.buffers.bytes);
 }
 
 abbrev pub decreases-loop-size : goal.decreases-loop-size
-decreases-loop-size g l = length l.buffer
+decreases-loop-size g l = length l.buffers.bytes

@@ -12,5 +12,5 @@ returns-then-held-needs-clause-responses g c clean was over =
     record {
       stored = was;
       spells = over;
-      holds = AnswersAs-nil _ _ c.args.buffer.now (Waiting c.args.needs) (durable_none c.args.service.now was [] refl (leaves_open (state_in c.args.service.now) (g.met.S.Store.settled c.args.service.now.store.db.idle.conn.store))) (tt, refl, c.requires few, refl);
+      holds = AnswersAs-nil _ _ c.args.buffers.now.bytes (Waiting c.args.needs) (durable_none c.args.service.now was [] refl (leaves_open (state_in c.args.service.now) (g.met.S.Store.settled c.args.service.now.store.db.idle.conn.store))) (tt, refl, c.requires few, refl);
     }

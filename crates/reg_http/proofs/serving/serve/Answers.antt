@@ -9,10 +9,6 @@ pub returns-in_default-clause-session : goal.returns-in_default-clause-session
 returns-in_default-clause-session g c clean was over =
     record { stored = was; spells = over; holds = Session-unread _ (g.R.Read.remaining c.args.reader.now) (g.W.Write.contents c.args.writer.now) (durable_none c.args.service.now was [] refl (leaves_open (state_in c.args.service.now) (g.met.S.Store.settled c.args.service.now.store.db.idle.conn.store))) }
 
-pub returns-in_default-vec-clause-session : goal.returns-in_default-vec-clause-session
-returns-in_default-vec-clause-session g c clean was over =
-    record { stored = was; spells = over; holds = Session-unread _ (g.R.Read.remaining c.args.reader.now) (g.W.Write.contents c.args.writer.now) (durable_none c.args.service.now was [] refl (leaves_open (state_in c.args.service.now) (g.met.S.Store.settled c.args.service.now.store.db.idle.conn.store))) }
-
 pub returns-in_default-new-clause-session : goal.returns-in_default-new-clause-session
 returns-in_default-new-clause-session g c clean was over =
     record { stored = was; spells = over; holds = Session-unread _ (g.R.Read.remaining c.args.reader.now) (g.W.Write.contents c.args.writer.now) (durable_none c.args.service.now was [] refl (leaves_open (state_in c.args.service.now) (g.met.S.Store.settled c.args.service.now.store.db.idle.conn.store))) }

@@ -1,4 +1,4 @@
-use Rattle.std.proofs.Common.{◌++◌, ℕ, List, [], inl, refl, subst, append-nil}
+use Rattle.std.proofs.Common.{◌<◌, ◌++◌, ℕ, List, [], length, inl, refl, sym, subst, append-nil}
 use Rattle.std.specs.Io.KnownBytes.{Consumes}
 use Rattle.std.proofs.KnownBytes.{Consumes-nil, Consumes-trans}
 use Rattle.reg_service.specs.Services.{state_in}
@@ -6,18 +6,25 @@ use Rattle.reg_service.proofs.CrashLemmas.{leaves_open}
 use Rattle.reg_service.proofs.RecoveredLists.{durable_none, durable_both}
 use Rattle.reg_http.specs.declared.answering.Stop.TheVariants.{Waiting, AtClose, AtFault, NotWritten, OutOfMemory}
 use Rattle.reg_http.specs.declared.serving.Ended.TheVariants.{Closed, WriteFailed, Malformed, Memory}
+use Rattle.reg_http.specs.Inside.SessionSteps.{Waits}
 use Rattle.reg_http.proofs.SessionLemmas.{AnsweredSoFar-none}
-use Rattle.reg_http.proofs.EndLemmas.{AnswersAs-read, Session-ended, Session-failed, Session-stopped, AnsweredSoFar-waiting, Waits-nothing}
+use Rattle.reg_http.proofs.EndLemmas.{AnswersAs-read, Session-ended, Session-failed, Session-stopped, AnsweredSoFar-waiting, Waits-nothing, Waits-more}
 use Rattle.reg_http.proofs.serving.serve_with.Goals as goal
 
 pub loop-init : goal.loop-init
 loop-init g c = record {
-  waits = Waits-nothing c.args.buffer c.requires;
+  waits = Waits-nothing c.args.buffers.bytes c.requires;
   input = [];
   reads = Consumes-nil (g.R.Read.remaining c.args.reader.now);
   clean = λ h. h;
   served = λ h was over. record { stored = was; spells = over; holds = rw c.requires (AnsweredSoFar-none _ _ [] (durable_none c.args.service.now was [] refl (leaves_open (state_in c.args.service.now) (g.met.S.Store.settled c.args.service.now.store.db.idle.conn.store)))) };
 }
+
+pub answer_more-requires : goal.answer_more-requires
+answer_more-requires g c =
+    let (more, is, read) = c.in-Bytes.ensures in
+    let P : List ℕ → Type 0 = λ bytes. length bytes < c.loop.needs → Waits bytes c.loop.needs in
+    subst P (sym is) (Waits-more c.loop.buffers.bytes more c.loop.needs c.loop.invariant.waits)
 
 pub loop-preserved : goal.loop-preserved
 loop-preserved g c =
@@ -49,7 +56,7 @@ returns-in-End-clause-session g c clean was over =
     record {
       stored = before.stored;
       spells = before.spells;
-      holds = rw (c.end_of.ensures, c.held.ensures, same) (Session-ended _ _ _ _ _ inv.input c.loop.buffer reads before.holds c.loop.needs inv.waits end);
+      holds = rw (c.end_of.ensures, c.held.ensures, same) (Session-ended _ _ _ _ _ inv.input c.loop.buffers.bytes reads before.holds c.loop.needs inv.waits end);
     }
 
 pub returns-in-Failed-clause-session : goal.returns-in-Failed-clause-session
@@ -62,7 +69,7 @@ returns-in-Failed-clause-session g c clean was over =
     record {
       stored = before.stored;
       spells = before.spells;
-      holds = Session-failed _ _ _ _ _ inv.input c.loop.buffer reads before.holds c.loop.needs inv.waits;
+      holds = Session-failed _ _ _ _ _ inv.input c.loop.buffers.bytes reads before.holds c.loop.needs inv.waits;
     }
 
 pub returns-in-AtClose-clause-session : goal.returns-in-AtClose-clause-session
@@ -128,5 +135,5 @@ returns-clause-session g c clean was over =
     record {
       stored = before.stored;
       spells = before.spells;
-      holds = Session-failed _ _ _ _ _ inv.input c.loop.buffer inv.reads before.holds c.loop.needs inv.waits;
+      holds = Session-failed _ _ _ _ _ inv.input c.loop.buffers.bytes inv.reads before.holds c.loop.needs inv.waits;
     }
