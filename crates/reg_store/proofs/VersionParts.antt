@@ -39,10 +39,6 @@ has_either [] ys x there = inr there
 has_either (a ∷ xs) ys x (inl is) = inl (inl is)
 has_either (a ∷ xs) ys x (inr there) = elim (has_either xs ys x there) [ inl left ↦ inl (inr left) | inr right ↦ inr right ]
 
-has_back : {X : Type 0} (xs ys : List X) (x : X) → Has ys x → Has (xs ++ ys) x
-has_back [] ys x there = there
-has_back (a ∷ xs) ys x there = inr (has_back xs ys x there)
-
 fit_both : (xs ys : List RawAgainst) → AllByRecursion against_fits xs → AllByRecursion against_fits ys → AllByRecursion against_fits (xs ++ ys)
 fit_both [] ys one two = two
 fit_both (x ∷ xs) ys one two = (one.0, fit_both xs ys one.1 two)

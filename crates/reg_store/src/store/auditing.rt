@@ -1,6 +1,6 @@
 //! Whether the stored evidence is true.
 
-ghost use Rattle.std.specs.Prelude.{◌≡◌, ◌↔◌, ℕ, List, All, None, IsTrue, option_map, option_and_then};
+ghost use Rattle.std.specs.Prelude.{◌≡◌, ◌↔◌, List, All, None, IsTrue, option_map, option_and_then};
 ghost use Rattle.std.specs.FinMap.{get};
 ghost use Rattle.avro_nodes.specs.Nodes.{NodeView, nodes_view};
 ghost use Rattle.reg_core.specs.Evidence.{Evidence, IsCompatibleWith};

@@ -1,6 +1,6 @@
 //! The versions of subjects and of ids.
 
-ghost use Rattle.std.specs.Prelude.{◌≡◌, ◌++◌, ◌∷◌, [], None, IfOk, IfErr, OnOk, OnErr, All, false, map, option_copied};
+ghost use Rattle.std.specs.Prelude.{◌≡◌, ◌++◌, ◌∷◌, [], None, IfOk, IfErr, OnOk, OnErr, All, map, option_copied};
 ghost use Rattle.std.specs.FinMap.{entries};
 ghost use Rattle.reg_core.specs.Rows.{rows_of};
 ghost use Rattle.reg_core.specs.ReadCommands.{rows_with_id};

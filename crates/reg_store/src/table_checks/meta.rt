@@ -1,6 +1,6 @@
 //! The check of `meta`, which names the format and the layout.
 
-ghost use Rattle.std.specs.Prelude.{◌≡◌, ◌↔◌, map, IfOk, IfErr, OnOk, IsTrue};
+ghost use Rattle.std.specs.Prelude.{◌≡◌, ◌↔◌, map, IfOk, IfErr, IsTrue};
 ghost use Rattle.sqlite.specs.State.{HasCleanDisk};
 ghost use Rattle.reg_store.specs.Failures.{HasDiskCause};
 ghost use Rattle.reg_store.specs.Opening.{meta_columns, HasMetaNumberOf, ReportsOther};
