@@ -2,9 +2,9 @@
 """Compares headline.md with the files that it quotes, and definitions.md with the definitions that it describes.
 
 A quote is a block between lines of ```. The line before it has its file's path in backticks. The lines of the block have to
-be in that file, one after another. A table row that begins with the path of a file of definitions has the file's number of
-lines next, and one sentence has their sum ("the N lines of the files beneath"). Prints what differs, with status 1, or one
-line.
+be in that file, one after another, and each bracket that they open has to be closed. A table row that begins with the path
+of a file of definitions has the file's number of lines next, and one sentence has their sum ("the N lines of the files
+beneath"). Prints what differs, with status 1, or one line.
 
     docs/quotes.py            compares headline.md
     docs/quotes.py --names    compares definitions.md too: each name is in its file, and each file of specs/ has a row
@@ -38,6 +38,12 @@ def is_in(quote, lines):
     return any(lines[at : at + count] == quote for at in range(len(lines) - count + 1))
 
 
+def is_whole(quote):
+    """Whether each bracket that the quote opens is closed, comments aside. An open brace at the end may begin a body."""
+    code = "\n".join(line for line in quote if not COMMENT.match(line)).removesuffix("{")
+    return all(code.count(opening) == code.count(closing) for opening, closing in ("()", "[]", "{}"))
+
+
 def quotes_of(lines):
     """Yields of each quote the number of the line before it, its file's path, and its lines."""
     path, begin = None, None
@@ -61,6 +67,8 @@ def faults_of_quotes(lines):
             yield f"docs/headline.md:{number}: no file is named before the quote, or the file is missing"
         elif not quote or not is_in(quote, found):
             yield f"docs/headline.md:{number}: the quote isn't in {path}"
+        elif not is_whole(quote):
+            yield f"docs/headline.md:{number}: the quote from {path} ends inside a bracket"
 
 
 def position_of(name, lines):
