@@ -204,7 +204,7 @@ fn named_fit(
         if !index_fits(
             members,
             fields,
-            table.index_of(key.as_str()),
+            table.field_index(key.as_str()),
             nodes,
             tables,
             depth,

@@ -24,7 +24,7 @@ pub struct FieldTable<'a> {
 
 impl<'a> FieldTable<'a> {
     /// The index that the table has for a name.
-    pub fn index_of(&self, name: &str) -> Option<usize>
+    pub fn field_index(&self, name: &str) -> Option<usize>
         ensures { result ≡ named_in self.now name.now }
     {
         self.by_name.get(name).copied()

@@ -1,5 +1,5 @@
 -- The verdict on the versions that a level compares with is the same by the texts of a view and by their schemas.
-use Rattle.std.proofs.Common.{◌≡◌, ℕ, List, [], ◌∷◌, Bool, false, Option, Some, None, refl, sym, ◌∙◌, ap, subst, map}
+use Rattle.std.proofs.Common.{◌≡◌, ℕ, List, [], ◌∷◌, Bool, false, Option, Some, refl, sym, ◌∙◌, ap, subst, map}
 use Rattle.std.specs.Prelude.{All, bytes_eq, unwrap_or, option_map}
 use Rattle.std.specs.List.{list_all}
 use Rattle.std.specs.Option.{option_map_or}
@@ -26,17 +26,14 @@ use Rattle.reg_core.proofs.RowLemmas.{each-schema, All-live_rows}
 use Rattle.reg_core.proofs.Versions.{named-map}
 
 -- the verdict on a version whose text the view has
-pub read_compatible : (view : View) (level : Level) (new : List NodeView) (row : Row) (text : List ℕ) (earlier : List NodeView) → view_text view row.1.id ≡ Some text → denoted_nodes text ≡ Some earlier
+read_compatible : (view : View) (level : Level) (new : List NodeView) (row : Row) (text : List ℕ) (earlier : List NodeView) → view_text view row.1.id ≡ Some text → denoted_nodes text ≡ Some earlier
     → is_compatible_in_view view level new row ≡ is_compatible level earlier new
 read_compatible view level new row text earlier there is = rw (there, is) refl
 
--- the verdict on a version whose schema the view has
-pub schema_compatible : (view : View) (level : Level) (new : List NodeView) (row : Row) (earlier : List NodeView) → view_schema view row ≡ Some earlier → is_compatible_in_view view level new row ≡ is_compatible level earlier new
-schema_compatible view level new row earlier is = ap (λ (found : Option (List NodeView)). option_map_or (λ nodes. is_compatible level nodes new) found false) is
-
--- the verdict on a version whose schema the view doesn't have
-pub no_schema : (view : View) (level : Level) (new : List NodeView) (row : Row) → view_schema view row ≡ None → is_compatible_in_view view level new row ≡ false
-no_schema view level new row is = ap (λ (found : Option (List NodeView)). option_map_or (λ nodes. is_compatible level nodes new) found false) is
+-- the verdict on a version, by the schema that the view has of it, if any
+pub verdict_found : (view : View) (level : Level) (new : List NodeView) (row : Row) (found : Option (List NodeView)) → view_schema view row ≡ found
+    → is_compatible_in_view view level new row ≡ option_map_or (λ earlier. is_compatible level earlier new) found false
+verdict_found view level new row found is = ap (λ (schema : Option (List NodeView)). option_map_or (λ earlier. is_compatible level earlier new) schema false) is
 
 -- the verdict on versions that are given as images of other values
 pub admitted_named : {X : Type 0} (f : X → Row) (view : View) (level : Level) (xs : List X) (new : List NodeView) → is_admitted_in_view view level (map f xs) new ≡ list_all (λ x. is_compatible_in_view view level new (f x)) (named_versions level xs)

@@ -22,7 +22,8 @@ pub record WasAdmitted (g : Registry) (subject text : List ℕ) : Type 0 where
   pub admits : Admits (level_in g subject) live new
 
 -- Schema Registry API reference, POST /subjects/{subject}/versions: the command added this version: it registered a schema that the level
--- admits. The version has the subject's next number, which no version had. In the registry after the command it has this schema, and isn't soft-deleted.
+-- admits. The version has the subject's next number; the registry had no version with this key. In the registry after the command it has this schema, and
+-- isn't soft-deleted.
 pub record IsAddition (g : Registry) (command : Command) (after : Registry) (key : RowKey) (version : Version) : Type 0 where
   pub subject : List ℕ
   pub text : List ℕ
@@ -45,6 +46,6 @@ pub record IsRetained (rows : Rows) (key : RowKey) (version : Version) : Type 0 
 abbrev pub OnlyAdditions : Registry → Command → Registry → Type 0
 OnlyAdditions g command after = (key : RowKey) (version : Version) → get after.rows key ≡ Some version → IsRetained g.rows key version ⊎ IsAddition g command after key version
 
--- each version after the command was there before, or the command added it
+-- each version after the command was there before with the same id, or the command added it
 abbrev pub AddsAdmitted : Registry → Command → Type 0
 AddsAdmitted g command = OnlyAdditions g command (step g command).0

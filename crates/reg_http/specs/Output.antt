@@ -34,7 +34,7 @@ IsFaultFor (Err rejection) reply = (reply ≡ fault rejection.0) ⊎ (reply ≡ 
 abbrev pub exchanges : List AnsweredMessage → List Exchange
 exchanges xs = flat_map (λ x. exchange_of (delivery_of x.0) x.1) xs
 
--- each message without a delivery got its fault
+-- each message without a delivery got the fault of its code, or 50001
 abbrev pub AreRejected : List AnsweredMessage → Type 0
 AreRejected [] = Unit {0}
 AreRejected (x ∷ xs) = IsFaultFor (delivery_of x.0) x.1 × AreRejected xs
@@ -93,5 +93,6 @@ pub record FaultCutShort (xs : List AnsweredMessage) (rest out : List ℕ) : Typ
   pub front : IsPrefix part (fault_response code)
   pub written : out ≡ responses xs ++ part
 
+-- the output ends in the response to the last message, or in the response to the fault that follows
 abbrev pub IsCutShort : List AnsweredMessage → List ℕ → List ℕ → Type 0
 IsCutShort xs rest out = LastCutShort xs out ⊎ FaultCutShort xs rest out

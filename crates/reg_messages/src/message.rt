@@ -70,7 +70,7 @@ pub fn parse_front(bytes: &[u8], headers: &mut [HeaderSpan]) -> ParseOutcome
 }
 
 /// A law: a stream of bytes has one list of whole messages and one remainder, unless it ends inside
-/// a target. So the bytes determine the responses.
+/// a target. So the bytes alone determine which messages are answered.
 pub fn parse_is_unique()
     ensures { (bytes : List ℕ) (ms ks : List Message) (t u : Tail)
         → (one : Messages bytes ms t) → Messages bytes ks u → (ms ≡ ks) × Agree one.rest t u }

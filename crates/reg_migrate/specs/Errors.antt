@@ -49,14 +49,14 @@ IsErrorForLayout number _ = ⊥
 abbrev pub ReportsNewer : State → MigrateError → Type 0
 ReportsNewer s e = (number : ℕ) → IsTrue s.is_open → 1 < number → HoldsMeta s.now → NamesLayout s.now number → IsErrorForLayout number e ⊎ IsTrue (is_fault e)
 
--- After an error other than `Disk`, a crash leaves only what it left before. If an allocation fails, the disk may fail too.
+-- After an error other than `Disk`, a crash leaves only what it left before. If an allocation fails, the disk may fail too; then this says nothing.
 abbrev pub KeepsCrashStates : State → State → MigrateError → Type 0
 KeepsCrashStates old new Disk = Unit {0}
 KeepsCrashStates old new Memory = AddsNoCrashState old new ⊎ MoreFaults old.faults new.faults
 KeepsCrashStates old new _ = AddsNoCrashState old new
 
--- What `migrate` keeps of the connection, for every result. After an error, nothing has changed. After an error other than `Disk`, a crash changes
--- nothing either; if an allocation fails, the disk may fail too. Only a disk fault closes the connection.
+-- What `migrate` keeps of the connection, for every result. On a clean disk, nothing has changed after an error, a crash leaves what
+-- `KeepsCrashStates` allows, and only a disk fault closes the connection.
 pub record KeepsConnection {T : Type 0} (old new : State) (result : Result T MigrateError) : Type 0 where
   pub nothing : HasCleanDisk new → OnErr result (OnlyReads old new)
   pub before : HasCleanDisk new → IfErr result (λ e. IsTrue old.is_open → KeepsCrashStates old new e)

@@ -20,11 +20,11 @@ pub record RecoversExchanges (was : Stored) (xs : List Exchange) (db : Trees) : 
   pub stays_true : HasTrueEvidence was → HasTrueEvidence now
   pub leaves : RecoversTo db now
 
--- This project's choice: one first delivery and every later one got 50001. Each database that a crash may leave has all acknowledged
--- exchanges, or these and that delivery with the abstract machine's reply.
+-- This project's choice: the connection closed, and one first delivery and every later one got 50001. Each database that a crash may leave has all
+-- acknowledged exchanges, or these and that delivery with the abstract machine's reply.
 pub record RecoversInFlight {S : Type 0} {g : Ghosts S} (old new : Service S g) (was : Stored) (xs : List Exchange) : Type 0 where
   pub at : SplitAt old new xs
-  -- only a disk fault closes a connection
+  -- the connection was open before, and is closed after
   pub was_open : IsTrue (state_in at.reached).is_open
   pub closed : IsTrue (state_in at.left).is_open → ⊥
   pub first : IsTrue (is_first was.replies (served at.before) at.exchange.0)

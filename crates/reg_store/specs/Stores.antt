@@ -34,27 +34,29 @@ RecoversLastCommit s = IsTrue s.is_open → (db : Trees) → s.may_leave db → 
 abbrev pub AddsNoCrashState : State → State → Type 0
 AddsNoCrashState old new = (db : Trees) → new.may_leave db → old.may_leave db
 
--- This project's choice: after an error other than `Disk`, a crash leaves only what it left before. If allocation fails, the disk may fail too.
+-- This project's choice: after an error other than `Disk`, a crash leaves only what it left before. If allocation fails, the disk may fail too;
+-- then this says nothing.
 abbrev pub KeepsCrashStates : State → State → StoreError → Type 0
 KeepsCrashStates old new Disk = Unit {0}
 KeepsCrashStates old new Memory = AddsNoCrashState old new ⊎ MoreFaults old.faults new.faults
 KeepsCrashStates old new _ = AddsNoCrashState old new
 
--- SQLite, connections: the count of faults never falls, a closed connection stays closed, and only a disk fault closes one
+-- SQLite, connections: the count of faults never falls; on a clean disk, a closed connection stays closed, and only a disk fault closes one
 pub record KeepsOpen (old new : State) : Type 0 where
   pub counts : old.faults ≤ new.faults
   pub stays_closed : HasCleanDisk new → IsTrue new.is_open → IsTrue old.is_open
   pub closes : HasCleanDisk new → IsTrue old.is_open → IsTrue new.is_open ⊎ MoreFaults old.faults new.faults
 
--- This project's choice: what a failed call leaves of the connection that it returns. Nothing has changed; after an error other than `Disk`, a crash changes
--- nothing either.
+-- This project's choice: what a failed call leaves of the connection that it returns. On a clean disk, nothing has changed, a crash leaves what
+-- `KeepsCrashStates` allows, and only a disk fault closes the connection.
 pub record KeepsConnection (old new : State) (e : StoreError) : Type 0 where
   pub nothing : HasCleanDisk new → OnlyReads old new
   pub before : HasCleanDisk new → IsTrue old.is_open → KeepsCrashStates old new e
   pub closes : HasCleanDisk new → IsTrue old.is_open → IsTrue new.is_open ⊎ MoreFaults old.faults new.faults
   pub settled : RecoversLastCommit new
 
--- This project's choice: why `create` fails, and what it leaves. In an empty database, memory or a disk fault is the cause. A crash may leave the new registry.
+-- This project's choice: why `create` fails, and what it leaves. In an empty database on a clean disk, memory or a disk fault is the cause. A crash may leave
+-- the new registry.
 pub record IsCreateFailure (RecoversToNew : Trees → Type 0) (old new : State) (e : StoreError) : Type 0 where
   pub fault : HasCleanDisk new → old.now.schema ≡ no_schema → IsFaultBy old new e
   pub leaves : KeepsConnection old new e
@@ -81,7 +83,7 @@ pub record KeepsBorrowed {S T : Type 0} {g : Ghosts S} (old new : Store S g) (re
   pub connection : KeepsOpen (state_of old) (state_of new)
   pub settled : RecoversLastCommit (state_of new)
 
--- this project's choice: the tables still spell what they spelled
+-- this project's choice: while the connection is open, the tables still spell what they spelled
 abbrev pub StillSpells : State → State → Type 0
 StillSpells old new = (was : Stored) → SpellsWhileOpen old was → SpellsWhileOpen new was
 

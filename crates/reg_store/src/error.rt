@@ -9,10 +9,11 @@ use sqlite::{Constraint, ErrorCode};
 use std::alloc::AllocError;
 use thiserror::Error;
 
-/// Why a call of a store fails. A failed call changes nothing.
+/// Why a call of a store fails. A failed call changes nothing; but after `Disk`, a crash may leave
+/// the whole change.
 #[derive(Clone, Copy, Debug, PartialEq, Eq, Error)]
 pub enum StoreError {
-    /// Allocation failed. The store stays usable.
+    /// Allocation failed. The store stays usable, unless the disk failed too.
     #[error("out of memory")]
     Memory,
     /// The disk failed, or a limit of the file was reached. Every later call of the store returns

@@ -65,7 +65,8 @@ impl<S: Alter> Store<S> {
         ensures nothing { HasCleanDisk (state_of self.new)
             → OnErr result (StillSpells (state_of self.old) (state_of self.new)) }
 
-        // After an error other than `Disk`, a crash leaves the database as it was.
+        // After an error other than `Disk`, a crash leaves what it left before, unless the disk failed
+        // together with an allocation.
         ensures before { HasCleanDisk (state_of self.new) → IfErr result (λ e.
             IsTrue (state_of self.old).is_open → KeepsCrashStates (state_of self.old) (state_of self.new) e) }
 

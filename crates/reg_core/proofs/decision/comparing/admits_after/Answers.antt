@@ -1,4 +1,4 @@
-use Rattle.std.proofs.Common.{◌≡◌, ◌<◌, ℕ, List, Bool, true, false, sym, ap, subst, map, length, ◌∙◌, get_or}
+use Rattle.std.proofs.Common.{◌≡◌, ◌<◌, ℕ, List, Bool, true, false, None, Some, sym, ap, subst, map, length, ◌∙◌, get_or}
 use Rattle.std.specs.List.{list_all}
 use Rattle.std.specs.Prelude.{◌&&◌, option_map}
 use Rattle.std.specs.Borrow.{Bor}
@@ -15,7 +15,7 @@ use Rattle.reg_core.specs.Registry.{Row}
 use Rattle.reg_core.specs.Inside.Comparisons.{is_admitted_in_view, is_compatible_in_view}
 use Rattle.reg_core.specs.Verdicts.{is_compatible}
 use Rattle.reg_core.proofs.VerdictLemmas.{compatible_decides}
-use Rattle.reg_core.proofs.VersionVerdicts.{admitted_named, no_schema, schema_compatible}
+use Rattle.reg_core.proofs.VersionVerdicts.{admitted_named, verdict_found}
 use Rattle.reg_core.proofs.decision.comparing.admits_after.Goals as goal
 
 -- the level doesn't admit the new schema if one of the versions isn't compatible with it
@@ -32,7 +32,7 @@ returns-in_default c =
     let shown = λ (found : CacheLookup). nodes_view (found_schema found) in
     let none = sym c.in_ok-earlier.ensures ∙ ap (option_map shown) c.in_default.is in
     refused c.args.view.now c.args.level c.args.rows.now c.named-versions.result.now (nodes_view c.args.new.now) c.named-versions.ensures c.loop-row.row-index c.row-item.result c.loop-row-test.true c.row-item.is
-    (no_schema c.args.view.now c.args.level (nodes_view c.args.new.now) c.row-item.result.now none)
+    (verdict_found c.args.view.now c.args.level (nodes_view c.args.new.now) c.row-item.result.now None none)
 
 pub returns-then-not-branch : goal.returns-then-not-branch
 returns-then-not-branch c =
@@ -42,7 +42,7 @@ returns-then-not-branch c =
     let has = sym c.in_ok-earlier.ensures ∙ ap (option_map shown) c.in-Some.is in
     let verdict = same_from_decides _ (is_compatible c.args.level earlier new) (rw c.schema.ensures at c.in_ok-is_compatible.ensures) (compatible_decides c.args.level earlier new) in
     refused c.args.view.now c.args.level c.args.rows.now c.named-versions.result.now new c.named-versions.ensures c.loop-row.row-index c.row-item.result c.loop-row-test.true c.row-item.is
-    (schema_compatible c.args.view.now c.args.level new c.row-item.result.now earlier has ∙ sym verdict ∙ c.if-not-branch.true)
+    (verdict_found c.args.view.now c.args.level new c.row-item.result.now (Some earlier) has ∙ sym verdict ∙ c.if-not-branch.true)
 
 pub loop-row-preserved : goal.loop-row-preserved
 loop-row-preserved c =
@@ -53,7 +53,7 @@ loop-row-preserved c =
     let xs = c.named-versions.result.now in
     let has = sym c.in_ok-earlier.ensures ∙ ap (option_map shown) c.in-Some.is in
     let verdict = same_from_decides _ (is_compatible c.args.level earlier new) (rw c.schema.ensures at c.in_ok-is_compatible.ensures) (compatible_decides c.args.level earlier new) in
-    let here : P c.row-item.result ≡ true = schema_compatible c.args.view.now c.args.level new c.row-item.result.now earlier has ∙ sym verdict ∙ c.if-not-branch.false in
+    let here : P c.row-item.result ≡ true = verdict_found c.args.view.now c.args.level new c.row-item.result.now (Some earlier) has ∙ sym verdict ∙ c.if-not-branch.false in
     let at : P (get_or xs c.loop-row.row-index c.row-item.result) ≡ true = subst (λ (r : Bor Row). P r ≡ true) c.row-item.is here in
     list_all_more P xs c.loop-row.row-index c.row-item.result c.loop-row-test.true
     ∙ ap (λ (b : Bool). b && P (get_or xs c.loop-row.row-index c.row-item.result)) c.loop-row.invariant
