@@ -61,4 +61,16 @@ mkdir "$scratch/nights" "$scratch/bad"
 [ -s "$scratch/nights/last-good.json" ] || fail "the nightly backup isn't noted"
 "$here/nightly" --program false "$scratch/registry.db" "$scratch/bad" 2>"$scratch/error" && fail "a failed audit wasn't noticed"
 [ -z "$(ls "$scratch/bad")" ] || fail "a backup that failed its audit was left"
+
+fullest=$(ls "$scratch/nights"/registry-*.db)
+stop_server
+start_server "$scratch/new.db"
+stop_server
+for night in first second; do
+  sleep 1
+  "$here/nightly" --keep 1 "$scratch/new.db" "$scratch/nights" 2>"$scratch/error" || fail "no backup of a new registry, $night night"
+  grep -q "so that one is kept" "$scratch/error" || fail "fewer schemas weren't noticed, $night night"
+done
+[ -s "$fullest" ] || fail "the backup with the most schemas was removed"
+[ "$(ls "$scratch/nights"/registry-*.db | wc -l)" = 2 ] || fail "an old backup with fewer schemas was left"
 echo "backup: passed"
