@@ -93,6 +93,6 @@ pub record FaultCutShort (xs : List AnsweredMessage) (rest out : List ℕ) : Typ
   pub front : IsPrefix part (fault_response code)
   pub written : out ≡ responses xs ++ part
 
--- the output ends in the response to the last message, or in the response to the fault that follows
+-- every response was written in full but the last, or the one to the fault that follows; of that one a beginning, which may be empty or whole
 abbrev pub IsCutShort : List AnsweredMessage → List ℕ → List ℕ → Type 0
 IsCutShort xs rest out = LastCutShort xs out ⊎ FaultCutShort xs rest out

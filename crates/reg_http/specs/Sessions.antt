@@ -29,13 +29,13 @@ EndsFaulty xs rest out = (code : Code) × StayOpen xs × Follows rest (Faulty co
 
 -- The facts at each end of a session. `reader` is what the reader has left.
 abbrev pub EndsAs : Option (List ℕ) → List AnsweredMessage → List ℕ → List ℕ → Ended → Type 0
--- the last message ends the connection, or the input ended after a whole message
+-- the last message ends the connection, or the input ended, and no part of a message followed
 EndsAs reader xs rest out Closed = (LastCloses xs × (out ≡ responses xs)) ⊎ EndsBetween reader xs rest out
 -- a fault ended the session, or the input ended inside a message
 EndsAs reader xs rest out Malformed = EndsFaulty xs rest out ⊎ EndsInside reader xs rest out
 -- each whole message that was read got its response
 EndsAs reader xs rest out ReadFailed = StayOpen xs × (Follows rest End ⊎ Follows rest Part) × (out ≡ responses xs)
--- a beginning of the last response, or of the response to a fault, was written
+-- only a beginning of the last response, or of the response to a fault, was written; it may be empty or whole
 EndsAs reader xs rest out WriteFailed = IsCutShort xs rest out
 EndsAs reader xs rest out Memory = (StayOpen xs × (out ≡ responses xs)) ⊎ IsCutShort xs rest out
 

@@ -3,12 +3,12 @@ use Rattle.sqlite.specs.State.{State}
 use Rattle.reg_core.specs.Stored.{Stored}
 use Rattle.reg_store.specs.Spells.{SpellsWhileOpen}
 
--- the tables spell a state with the property P
+-- while the connection is open, the tables spell a state with the property P
 pub record StoredSatisfies (new : State) (P : Stored → Type 0) : Type 0 where
   pub stored : Stored
   pub spells : SpellsWhileOpen new stored
   pub holds : P stored
 
--- from any state that the tables spelled, the call leads to a state that they spell, and P is true of the two
+-- from any state that the tables spelled, the call leads to a state that they spell, each while the connection is open; P is true of the two
 abbrev pub StoredTransition : State → State → (Stored → Stored → Type 0) → Type 0
 StoredTransition old new P = (was : Stored) → SpellsWhileOpen old was → StoredSatisfies new (P was)

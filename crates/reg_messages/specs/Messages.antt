@@ -39,7 +39,7 @@ ParsesInto bytes (m ∷ ms) rest = (mid : List ℕ) × StartsWithMessage bytes m
 abbrev pub HasNoHead : List ℕ → Type 0
 HasNoHead bytes = (head : RequestHead) (rest : List ℕ) → ¬ (HasHead bytes head rest)
 
--- less than a whole head, which more bytes may complete
+-- less than a whole head: more bytes may complete it, or the bytes end inside its target
 pub record IsPartOfHead (bytes : List ℕ) : Type 0 where
   pub some : 0 < length bytes
   pub size : length bytes < max_head

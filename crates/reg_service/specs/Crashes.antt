@@ -42,7 +42,7 @@ pub record ServesDurably {S : Type 0} {g : Ghosts S} (old new : Service S g) (wa
   pub serves : Serves was (served xs) now
   -- if all evidence was true, it still is
   pub stays_true : HasTrueEvidence was → HasTrueEvidence now
-  -- if the store had failed, or the connection was closed, nothing is acknowledged
+  -- if the store had failed, or on a clean disk the connection was closed, nothing is acknowledged
   pub keeps : PreservesService old new (served xs ≡ [])
   pub crash : IsOpenOver (state_in old) was → RecoversAcknowledged old new was xs
 

@@ -15,7 +15,7 @@ use Rattle.reg_service.specs.Crashes.{RecoversAcknowledged, RecoversSpelled}
 
 -- This project's choice: the service processed this delivery and returned this reply.
 pub record Processes {S : Type 0} {g : Ghosts S} (old new : Service S g) (x : Exchange) : Type 0 where
-  -- if the store had failed, or the connection was closed, the reply is 50001
+  -- if the store had failed, or on a clean disk the connection was closed, the reply is 50001
   pub frame : PreservesService old new (x.1 ≡ fault BackendFault)
   -- if the store has failed now, the reply is 50001
   pub fails : IsTrue (has_failed (store_in new)) → x.1 ≡ fault BackendFault

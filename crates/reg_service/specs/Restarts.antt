@@ -10,8 +10,8 @@ use Rattle.reg_service.specs.Deliveries.{Exchange, RepeatsAgree, Serves, is_firs
 abbrev pub IsInProgress : Stored → List Exchange → List Exchange → Type 0
 IsInProgress was before xs = (xs ≡ []) ⊎ ((d : Delivery) × IsTrue (is_first was.replies before d) × (xs ≡ (d, reply_after was before d.command) ∷ []))
 
--- This project's choice: two lists of exchanges with a crash in between are one list, with at most one delivery between them. So each first
--- delivery is applied exactly once, and a retry after the crash gets the reply from before it.
+-- This project's choice: two lists of exchanges with a crash in between are one list, with at most one delivery between them. So each
+-- acknowledged first delivery is applied exactly once. A retry after the crash gets its reply, and a retry of that one delivery the machine's reply.
 pub record ServesAcross (was : Stored) (xs ys : List Exchange) (now : Stored) : Type 0 where
   pub between : List Exchange
   pub in_progress : IsInProgress was (served xs) between

@@ -20,7 +20,7 @@ store_in service = service.store
 abbrev pub state_in : {S : Type 0} {g : Ghosts S} → Service S g → State
 state_in service = state_of (store_in service)
 
--- this project's choice: the exchanges lead from `was` to what the tables spell
+-- this project's choice: the exchanges lead from `was` to what the tables spell while the connection is open
 pub record ServesTo (was : Stored) (xs : List Exchange) (new : State) : Type 0 where
   pub now : Stored
   pub serves : Serves was xs now
@@ -28,7 +28,7 @@ pub record ServesTo (was : Stored) (xs : List Exchange) (new : State) : Type 0 w
   pub stays_true : HasTrueEvidence was → HasTrueEvidence now
   pub spells : SpellsWhileOpen new now
 
--- this project's choice: the exchanges lead from what the tables spelled to what they spell now
+-- this project's choice: the exchanges lead from what the tables spelled to what they spell now, each while the connection is open
 abbrev pub ServesOver : State → State → List Exchange → Type 0
 ServesOver old new xs = (was : Stored) → SpellsWhileOpen old was → ServesTo was xs new
 
@@ -40,7 +40,7 @@ AreBackendFaults replies = All (λ reply. reply ≡ fault BackendFault) replies
 pub record PreservesStore {S : Type 0} {g : Ghosts S} (old new : Store S g) (OnlyFaultReplies : Type 0) : Type 0 where
   -- if the store had failed
   pub failed : IsTrue (has_failed old) → OnlyFaultReplies × IsTrue (has_failed new)
-  -- if the connection was closed
+  -- on a clean disk, if the connection was closed
   pub closed : HasCleanDisk (state_of new) → (IsTrue (state_of old).is_open → ⊥) → OnlyFaultReplies × AddsNoCrashState (state_of old) (state_of new)
   -- an unclean disk stays unclean
   pub clean : HasCleanDisk (state_of new) → HasCleanDisk (state_of old)

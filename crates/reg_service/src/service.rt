@@ -90,7 +90,8 @@ impl<S: Alter> Service<S> {
         // Each delivery is processed as by `answer`, in the state that the previous one left.
         ensures each { IfOk result (λ replies. ProcessesEach self.old self.new (zip list.now replies.items)) }
 
-        // If the store had failed, or the connection was closed, every reply is 50001.
+        // If the store had failed, every reply is 50001. So it is if the connection was closed, on a
+        // clean disk.
         ensures frame { PreservesService self.old self.new (IfOk result (λ replies. AreBackendFaults replies.items)) }
 
         // If the store failed during this call, every reply from some delivery on is 50001. The

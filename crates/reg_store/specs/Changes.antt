@@ -45,7 +45,7 @@ stored_after_changes changes was = record was { registry = after_changes changes
 abbrev pub stored_after_apply : List Change → Option Keep → Stored → Stored
 stored_after_apply changes keep was = record (stored_after_changes changes was) { replies = with_reply keep was.replies }
 
--- this project's choice: `P` is true of the stored state, if the connection is open over it and the changes and the reply fit
+-- this project's choice: `P` is true of each stored state that the tables spell while the connection is open, and that the changes and the reply fit
 abbrev pub WhenApplicable : State → List Change → Option Keep → (Stored → Type 0) → Type 0
 WhenApplicable s changes keep P = (was : Stored) → SpellsWhileOpen s was → CanApply changes keep was → P was
 

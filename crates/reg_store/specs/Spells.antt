@@ -38,8 +38,7 @@ pub record CanBeKept (key : List ℕ) (entry : KeptEntry) : Type 0 where
   pub text : IsUtf8 entry.command
   pub body : IsUtf8 entry.reply.body
 
--- This project's choice: the contents of the five tables of both layouts spell these schemas, versions, levels and kept replies. Modes and the rows of `meta`
--- are left to the two layouts.
+-- This project's choice: the five tables of both layouts spell these schemas, versions, levels and kept replies. Modes and `meta` are left to each layout.
 pub record IsSpelled (contents : Contents) (g : Registry) (k : Kept) : Type 0 where
   pub registry : IsRegistry g
   -- the text of an id is the identity text of its schema

@@ -34,8 +34,7 @@ RecoversLastCommit s = IsTrue s.is_open → (db : Trees) → s.may_leave db → 
 abbrev pub AddsNoCrashState : State → State → Type 0
 AddsNoCrashState old new = (db : Trees) → new.may_leave db → old.may_leave db
 
--- This project's choice: after an error other than `Disk`, a crash leaves only what it left before. If allocation fails, the disk may fail too;
--- then this says nothing.
+-- This project's choice: after an error other than `Disk`, a crash leaves only what it left before, unless the disk failed together with an allocation.
 abbrev pub KeepsCrashStates : State → State → StoreError → Type 0
 KeepsCrashStates old new Disk = Unit {0}
 KeepsCrashStates old new Memory = AddsNoCrashState old new ⊎ MoreFaults old.faults new.faults
@@ -55,8 +54,7 @@ pub record KeepsConnection (old new : State) (e : StoreError) : Type 0 where
   pub closes : HasCleanDisk new → IsTrue old.is_open → IsTrue new.is_open ⊎ MoreFaults old.faults new.faults
   pub settled : RecoversLastCommit new
 
--- This project's choice: why `create` fails, and what it leaves. In an empty database on a clean disk, memory or a disk fault is the cause. A crash may leave
--- the new registry.
+-- This project's choice: why `create` fails: in an empty database on a clean disk, memory or a disk fault is the cause. A crash may leave the new registry.
 pub record IsCreateFailure (RecoversToNew : Trees → Type 0) (old new : State) (e : StoreError) : Type 0 where
   pub fault : HasCleanDisk new → old.now.schema ≡ no_schema → IsFaultBy old new e
   pub leaves : KeepsConnection old new e
@@ -68,7 +66,7 @@ pub record KeepsStore {S T : Type 0} {g : Ghosts S} (old new : Store S g) (resul
   pub failed_before : IsTrue (has_failed old) → (result ≡ Err Disk) × (new ≡ old)
   pub failed_now : (result ≡ Err Disk) ↔ IsTrue (has_failed new)
   pub clean : HasCleanDisk (state_of new) → HasCleanDisk (state_of old)
-  -- a call succeeds only over an open connection
+  -- on a clean disk, a call succeeds only over an open connection
   pub was_open : HasCleanDisk (state_of new) → OnOk result (IsTrue (state_of old).is_open)
   pub connection : KeepsOpen (state_of old) (state_of new)
   pub settled : RecoversLastCommit (state_of new)
@@ -78,7 +76,7 @@ pub record KeepsBorrowed {S T : Type 0} {g : Ghosts S} (old new : Store S g) (re
   -- only the lines remember a disk fault
   pub failed : has_failed new ≡ has_failed old
   pub clean : HasCleanDisk (state_of new) → HasCleanDisk (state_of old)
-  -- a call succeeds only over an open connection
+  -- on a clean disk, a call succeeds only over an open connection
   pub was_open : HasCleanDisk (state_of new) → OnOk result (IsTrue (state_of old).is_open)
   pub connection : KeepsOpen (state_of old) (state_of new)
   pub settled : RecoversLastCommit (state_of new)
@@ -87,8 +85,7 @@ pub record KeepsBorrowed {S T : Type 0} {g : Ghosts S} (old new : Store S g) (re
 abbrev pub StillSpells : State → State → Type 0
 StillSpells old new = (was : Stored) → SpellsWhileOpen old was → SpellsWhileOpen new was
 
--- This project's choice: what a call that only reads returns and leaves. `Ok` has facts about the stored state. `Err` is a fault, unless the store had failed
--- before (`WasUsable`).
+-- This project's choice: what a call that only reads returns and leaves. `Ok` has facts about the stored state. `Err` is a fault, if the store `WasUsable`.
 pub record AnswersFromStored {T : Type 0} (old new : State) (WasUsable : Type 0) (result : Result T StoreError) (IsAnswer : Stored → T → Type 0) : Type 0 where
   pub answers : (was : Stored) → SpellsWhileOpen old was → MatchResult result (IsAnswer was) (λ e. WasUsable → IsFaultBy old new e)
   pub same : StillSpells old new
