@@ -73,4 +73,8 @@ for night in first second; do
 done
 [ -s "$fullest" ] || fail "the backup with the most schemas was removed"
 [ "$(ls "$scratch/nights"/registry-*.db | wc -l)" = 2 ] || fail "an old backup with fewer schemas was left"
+rm "$fullest"
+sleep 1
+"$here/nightly" --keep 1 "$scratch/new.db" "$scratch/nights" 2>"$scratch/error" || fail "no backup after the one with the most schemas was removed"
+! grep -q "so that one is kept" "$scratch/error" || fail "a backup that was removed is named as kept"
 echo "backup: passed"
