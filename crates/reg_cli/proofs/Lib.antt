@@ -1,4 +1,3 @@
 pub mod Parses
-pub mod Joining
 pub mod Taking
 pub mod Examples

@@ -1,9 +1,9 @@
 //! The program's subcommands, their arguments and their help texts, for `clap`.
 
 ghost use Rattle.std.specs.Prelude.{◌≡◌, IfOk, false};
-ghost use Rattle.clap.specs.Words.{new_rule, rule_of};
+ghost use Rattle.clap.specs.Words.{App, new_app, new_rule, rule_of, with_subcommand};
 ghost use Rattle.reg_cli.specs.Commands.{IsApp, audit_command, root_command, check_command};
-ghost use Rattle.reg_cli.specs.Commands.{connections_rule, list_command, migrate_command, needed};
+ghost use Rattle.reg_cli.specs.Commands.{connections_rule, database_rule, list_command, migrate_command, needed};
 ghost use Rattle.reg_cli.specs.Commands.{option_rule, port_rule, program, run_command, serve_command};
 ghost use Rattle.reg_cli.specs.Commands.{text_command};
 
@@ -54,74 +54,95 @@ fn connections<'a>(alloc: Global) -> Arg<'a>
     .value_parser(value_parser!(u32).range(1..=i64::from(MAX_CONNECTIONS)))
 }
 
+/// `--db F`, which is required.
+fn database<'a>(alloc: Global) -> Arg<'a>
+    ensures rule { rule_of result ≡ needed database_rule }
+    ensures local { result.global ≡ false }
+{
+    option(alloc, "db", "F", "The registry's file").required(true)
+}
+
+/// `--db F`, for a file that may be missing.
+fn new_database<'a>(alloc: Global) -> Arg<'a>
+    ensures rule { rule_of result ≡ database_rule }
+    ensures local { result.global ≡ false }
+{
+    option(
+        alloc,
+        "db",
+        "F",
+        "The registry's file, created if it is missing or empty",
+    )
+}
+
+/// A subcommand with its help texts, and no arguments yet.
+fn subcommand<'a>(alloc: Global, name: &'a str, about: &'a str, after_help: &'a str) -> Command<'a>
+    ensures { IsApp (new_app name.entry.now) result }
+{
+    Command::new(alloc, name)
+        .about(about)
+        .after_help(after_help)
+}
+
 /// `run [--db F]`.
 fn run_command<'a>(alloc: Global) -> Result<Command<'a>, AllocError>
     ensures { IfOk result (IsApp run_command) }
 {
-    Command::new(alloc, "run")
-        .about("Answer the HTTP requests on standard input, on standard output")
-        .after_help(
-            "Without --db, the registry is a new one in memory. Status 0 if the input ended
+    subcommand(
+        alloc,
+        "run",
+        "Answer the HTTP requests on standard input, on standard output",
+        "Without --db, the registry is a new one in memory. Status 0 if the input ended
 after a complete request, or a request ended the connection. Status 2 after an
 error, with one line on standard error.",
-        )
-        .arg(option(
-            alloc,
-            "db",
-            "F",
-            "The registry's file, created if it is missing or empty",
-        ))
+    )
+    .arg(new_database(alloc))
 }
 
 /// `serve --db F --port N [--connections N]`.
 fn serve_command<'a>(alloc: Global) -> Result<Command<'a>, AllocError>
     ensures { IfOk result (IsApp serve_command) }
 {
-    let database = option(
+    subcommand(
         alloc,
-        "db",
-        "F",
-        "The registry's file, created if it is missing or empty",
-    );
-    Command::new(alloc, "serve")
-        .about("Serve a registry over HTTP on 127.0.0.1")
-        .after_help(
-            "Serves one connection after another. F and F-wal belong together while the
+        "serve",
+        "Serve a registry over HTTP on 127.0.0.1",
+        "Serves one connection after another. F and F-wal belong together while the
 program runs and after it was killed. Status 0 after the last connection, 2 after
 an error, with one line on standard error.",
-        )
-        .arg(database.required(true))?
-        .arg(port(alloc))?
-        .arg(connections(alloc))
+    )
+    .arg(new_database(alloc).required(true))?
+    .arg(port(alloc))?
+    .arg(connections(alloc))
 }
 
 /// `check --reader F --writer F`.
 fn check_command<'a>(alloc: Global) -> Result<Command<'a>, AllocError>
     ensures { IfOk result (IsApp check_command) }
 {
-    let reader = option(alloc, "reader", "F", "The file with the reader's schema");
-    let writer = option(alloc, "writer", "F", "The file with the writer's schema");
-    Command::new(alloc, "check")
-        .about("Check whether a reader's schema can read a writer's data")
-        .after_help(
-            "Prints compatible (status 0) or incompatible (status 1).
+    subcommand(
+        alloc,
+        "check",
+        "Check whether a reader's schema can read a writer's data",
+        "Prints compatible (status 0) or incompatible (status 1).
 Status 2 after an error, with one line on standard error.",
-        )
-        .arg(reader.required(true))?
-        .arg(writer.required(true))
+    )
+    .arg(option(alloc, "reader", "F", "The file with the reader's schema").required(true))?
+    .arg(option(alloc, "writer", "F", "The file with the writer's schema").required(true))
 }
 
 /// `text F`.
 fn text_command<'a>(alloc: Global) -> Result<Command<'a>, AllocError>
     ensures { IfOk result (IsApp text_command) }
 {
-    Command::new(alloc, "text")
-        .about("Print the canonical text of a schema")
-        .after_help(
-            "Two schemas are the same if their canonical texts are equal. Status 0, or 2 after
+    subcommand(
+        alloc,
+        "text",
+        "Print the canonical text of a schema",
+        "Two schemas are the same if their canonical texts are equal. Status 0, or 2 after
 an error, with one line on standard error.",
-        )
-        .arg(positional(alloc, "F", "The file with the schema"))
+    )
+    .arg(positional(alloc, "F", "The file with the schema"))
 }
 
 /// `list --db F W`.
@@ -132,50 +153,50 @@ an error, with one line on standard error.",
 pub fn list_command<'a>(alloc: Global) -> Result<Command<'a>, AllocError>
     ensures { IfOk result (IsApp list_command) }
 {
-    let database = option(alloc, "db", "F", "The registry's file");
-    Command::new(alloc, "list")
-        .about("List the subjects, versions or schemas of a registry as CSV")
-        .after_help(
-            "Prints a header, then one line for each subject, version or schema:
+    subcommand(
+        alloc,
+        "list",
+        "List the subjects, versions or schemas of a registry as CSV",
+        "Prints a header, then one line for each subject, version or schema:
   subjects  subject,level,live,deleted: its own level, and its numbers of versions
   versions  subject,version,id,deleted
   schemas   id,text
 Status 0, or 2 after an error, with one line on standard error.",
-        )
-        .arg(database.required(true))?
-        .arg(positional(alloc, "W", "What to list: subjects, versions or schemas"))
+    )
+    .arg(database(alloc))?
+    .arg(positional(alloc, "W", "What to list: subjects, versions or schemas"))
 }
 
 /// `migrate --db F`.
 fn migrate_command<'a>(alloc: Global) -> Result<Command<'a>, AllocError>
     ensures { IfOk result (IsApp migrate_command) }
 {
-    let database = option(alloc, "db", "F", "The registry's file");
-    Command::new(alloc, "migrate")
-        .about("Upgrade a registry's file from layout 1 to layout 2")
-        .after_help(
-            "Prints layout 2: N versions kept, or layout 2: nothing to do. The registry stays as
+    subcommand(
+        alloc,
+        "migrate",
+        "Upgrade a registry's file from layout 1 to layout 2",
+        "Prints layout 2: N versions kept, or layout 2: nothing to do. The registry stays as
 it is, and so do the responses kept for retry keys. Back up F first, because older
 programs can't read layout 2. Status 0, or 2 after an error, with one line on
 standard error.",
-        )
-        .arg(database.required(true))
+    )
+    .arg(database(alloc))
 }
 
 /// `audit --db F`.
 fn audit_command<'a>(alloc: Global) -> Result<Command<'a>, AllocError>
     ensures { IfOk result (IsApp audit_command) }
 {
-    let database = option(alloc, "db", "F", "The registry's file");
-    Command::new(alloc, "audit")
-        .about("Check the stored versions against their evidence again")
-        .after_help(
-            "Compares each version again with those that it was compared with when it was
+    subcommand(
+        alloc,
+        "audit",
+        "Check the stored versions against their evidence again",
+        "Compares each version again with those that it was compared with when it was
 registered. Prints evidence holds (status 0) if all pairs are compatible as the
 level required then, otherwise evidence does not hold (status 1). Status 2 after
 an error, with one line on standard error.",
-        )
-        .arg(database.required(true))
+    )
+    .arg(database(alloc))
 }
 
 /// The program without its subcommands.
@@ -197,6 +218,17 @@ Examples:
         .bin_name("avroreg")
 }
 
+/// A command with one more subcommand, unless that one failed.
+fn with_subcommand<'a>(
+    command: Command<'a>,
+    added: Result<Command<'a>, AllocError>,
+) -> Result<Command<'a>, AllocError>
+    ensures { (a b : App) → IsApp a command.entry → IfOk added.entry (IsApp b)
+        → IfOk result (IsApp (with_subcommand a b.top)) }
+{
+    command.subcommand(added?)
+}
+
 /// The program with its subcommands.
 ///
 /// # Errors
@@ -205,12 +237,11 @@ Examples:
 pub fn program<'a>(alloc: Global) -> Result<Command<'a>, AllocError>
     ensures { IfOk result (IsApp program) }
 {
-    root_command(alloc)?
-        .subcommand(run_command(alloc)?)?
-        .subcommand(serve_command(alloc)?)?
-        .subcommand(check_command(alloc)?)?
-        .subcommand(text_command(alloc)?)?
-        .subcommand(list_command(alloc)?)?
-        .subcommand(migrate_command(alloc)?)?
-        .subcommand(audit_command(alloc)?)
+    let program = with_subcommand(root_command(alloc)?, run_command(alloc))?;
+    let program = with_subcommand(program, serve_command(alloc))?;
+    let program = with_subcommand(program, check_command(alloc))?;
+    let program = with_subcommand(program, text_command(alloc))?;
+    let program = with_subcommand(program, list_command(alloc))?;
+    let program = with_subcommand(program, migrate_command(alloc))?;
+    with_subcommand(program, audit_command(alloc))
 }
