@@ -1,0 +1,166 @@
+#!/usr/bin/env python3
+"""Fills a registry's file, and measures how many requests a second the program answers over it.
+
+The requests come on the standard input of `run`, so they are measured whole, but without a socket. Each figure is without
+the time of a start with one request. AVROREG names the program. `command time -v` shows how long `list`, `migrate` and
+`audit` take, and their memory.
+
+    bench_requests.py fill versions F 100000 10000 700
+    bench_requests.py measure versions F 100000 10000 700 5000
+"""
+
+import argparse
+import contextlib
+import json
+import os
+import shutil
+import sqlite3
+import subprocess
+import sys
+import tempfile
+import time
+from typing import NamedTuple
+
+from known import TRIALS
+
+from harness.messages import request
+from harness.program import PROGRAM
+from harness.reading import cases_of
+
+FIELD = 56  # bytes of a field in a schema
+LEVEL = '{"compatibility":"FULL"}'
+KEPT = ('["set-global","FULL"]', 200, LEVEL)
+
+
+class Size(NamedTuple):
+    """How many versions and subjects a registry has, and about how many bytes a schema takes. Each version has its own schema."""
+
+    versions: int
+    subjects: int
+    bytes: int
+
+
+class Kind(NamedTuple):
+    """A kind of requests. `{subject}`, `{id}` and `{at}` in its texts are filled in: the number of the version's subject, the
+    version's id, and the request's position."""
+
+    which: str  # the version that a request is about: next, same or apart
+    method: str
+    target: str
+    body: str | None = None  # "schema" stands for the version's schema
+    key: str | None = None
+
+
+KINDS = {
+    "types of schemas": Kind("apart", "GET", "/schemas/types"),
+    "global level": Kind("apart", "GET", "/config"),
+    "level of a subject": Kind("apart", "GET", "/config/subject-{subject}"),
+    "set a level, new key": Kind("apart", "PUT", "/config/subject-{subject}", LEVEL, "new-{at}"),
+    "set a level, retry": Kind("apart", "PUT", "/config/subject-{subject}", LEVEL, "key-{subject}"),
+    "set a level, no key": Kind("apart", "PUT", "/config/subject-{subject}", LEVEL),
+    "schema by id": Kind("apart", "GET", "/schemas/ids/{id}"),
+    "versions": Kind("apart", "GET", "/subjects/subject-{subject}/versions"),
+    "latest version": Kind("apart", "GET", "/subjects/subject-{subject}/versions/latest"),
+    "look up": Kind("apart", "POST", "/subjects/subject-{subject}", "schema"),
+    "check": Kind("apart", "POST", "/compatibility/subjects/subject-{subject}/versions", "schema"),
+    "register again": Kind("apart", "POST", "/subjects/subject-{subject}/versions", "schema"),
+    "new subject": Kind("apart", "POST", "/subjects/new-{at}/versions", "schema"),
+    "register": Kind("next", "POST", "/subjects/subject-{subject}/versions", "schema"),
+    "delete": Kind("same", "DELETE", "/subjects/subject-{subject}"),
+    "delete permanently": Kind("same", "DELETE", "/subjects/subject-{subject}?permanent=true"),
+}
+OWN_LEVEL = Kind("next", "PUT", "/config/subject-{subject}", LEVEL, "key-{subject}")
+COMPARE_WITH_ALL = Kind("same", "PUT", "/config", '{"compatibility":"BACKWARD_TRANSITIVE"}')
+
+# What fills a registry, and the kinds that are measured over it in this order.
+SERIES = {
+    "levels": ([OWN_LEVEL], ["global level", "level of a subject", "set a level, retry", "set a level, no key", "set a level, new key"]),
+    "versions": (
+        [KINDS["register"]],
+        ["types of schemas", "global level", "schema by id", "versions", "latest version", "look up", "check", "register again", "new subject", "register"],
+    ),
+    "transitive": ([COMPARE_WITH_ALL, KINDS["register"]], ["register", "delete", "delete permanently"]),
+    "deletions": ([KINDS["register"]], ["delete", "delete permanently"]),
+}
+
+
+def schema(number, size):
+    """A record of fields that may be null. All of these schemas are compatible."""
+    fields = [{"default": None, "name": f"field{at}", "type": ["null", "string"]} for at in range(size.bytes // FIELD)]
+    return json.dumps({"doc": str(number), "fields": fields, "name": "R", "type": "record"}, separators=(",", ":"))
+
+
+def request_at(kind, size, at):
+    number = {"next": size.versions + at, "same": at, "apart": at * 7919 % max(size.versions, 1)}[kind.which]
+    words = {"subject": number % max(size.subjects, 1), "id": number + 1, "at": at}
+    body = json.dumps({"schema": schema(number, size)}) if kind.body == "schema" else kind.body
+    fields = [f"Registry-Retry-Key: {kind.key.format(**words)}"] if kind.key else []
+    return request(kind.method, kind.target.format(**words), body, fields)
+
+
+def seconds(file, kind, size, count):
+    """How long a session with so many requests takes. Each has to succeed."""
+    with tempfile.TemporaryFile() as sent, tempfile.TemporaryFile() as came:
+        sent.writelines(request_at(kind, size, at) for at in range(count))
+        sent.seek(0)
+        start = time.perf_counter()
+        ran = subprocess.run([PROGRAM, "run", "--db", file], stdin=sent, stdout=came)
+        took = time.perf_counter() - start
+        came.seek(0)
+        succeeded = sum(line == b"HTTP/1.1 200 OK\r\n" for line in came)
+    if ran.returncode or succeeded != count:
+        sys.exit(f"{succeeded} of {count} requests succeeded, and the status is {ran.returncode}")
+    return took
+
+
+def fill(series, file, size):
+    made = size._replace(versions=0)
+    for kind in SERIES[series][0]:
+        seconds(file, kind, made, 1 if kind is COMPARE_WITH_ALL else size.versions)
+
+
+def fill_layout_one(file, size):
+    """Makes a registry of layout 1, with as many kept replies as versions."""
+    first = cases_of(f"{TRIALS}/../tests/words/migrate")[0].names["FIRST"]
+    with open(file, "xb") as made:
+        made.write(first())
+    numbers = range(size.versions)
+    with contextlib.closing(sqlite3.connect(file)) as database, database:
+        database.executemany("INSERT INTO texts VALUES (?, ?)", ((it + 1, schema(it, size)) for it in numbers))
+        places = ((f"subject-{it % size.subjects}", it // size.subjects + 1, it + 1) for it in numbers)
+        database.executemany("INSERT INTO versions VALUES (?, ?, ?, 0)", places)
+        database.executemany("INSERT INTO kept VALUES (?, ?, ?, ?)", ((f"key-{it}", *KEPT) for it in numbers))
+
+
+def measure(series, file, size, count):
+    """Prints a line for each kind. Works on a copy of the file, next to it."""
+    with tempfile.TemporaryDirectory(dir=os.path.dirname(os.path.abspath(file))) as folder:
+        copy = shutil.copy(file, folder)
+        start = seconds(copy, KINDS["global level"], size, 1)
+        print(f"a start with one request: {start:.3f} s")
+        for name in SERIES[series][1]:
+            took = seconds(copy, KINDS[name], size, count) - start
+            print(f"{name:<22} {count:>8} in {took:7.3f} s, {count / max(took, 1e-6):>9,.0f} a second")
+
+
+def main():
+    parser = argparse.ArgumentParser(description=__doc__, formatter_class=argparse.RawDescriptionHelpFormatter)
+    parser.add_argument("task", choices=["fill", "fill-layout-1", "measure"])
+    parser.add_argument("series", choices=SERIES)
+    parser.add_argument("file", help="missing or empty for fill")
+    parser.add_argument("versions", type=int, help="for levels, the number of subjects with their own level and a retry key")
+    parser.add_argument("subjects", type=int)
+    parser.add_argument("bytes", type=int, help="of a schema")
+    parser.add_argument("count", type=int, nargs="?", default=1000, help="requests of each kind")
+    given = parser.parse_args()
+    size = Size(given.versions, given.subjects, given.bytes)
+    if given.task == "measure":
+        measure(given.series, given.file, size, given.count)
+    elif given.task == "fill-layout-1":
+        fill_layout_one(given.file, size)
+    else:
+        fill(given.series, given.file, size)
+
+
+if __name__ == "__main__":
+    main()
