@@ -1,13 +1,13 @@
 //! The service over a registry in memory.
 
-use reg_service::{Delivery, Service};
-use reg_testing::bodies::{
+use super::support::bodies::{
     BACKWARD, FAULT, FORWARD, FORWARD_SET, FULL, FULL_SET, INCOMPATIBLE, INVALID, INVALID_MODE,
     NO_OWN, NO_OWN_MODE, NO_SUBJECT, NONE, NONE_SET, NOT_PERMITTED, READONLY, READWRITE, REUSED,
 };
-use reg_testing::{
+use super::support::{
     Cmd, Row, ServiceTask, answer_each, count_answered, deliveries_of, in_memory, run_all,
 };
+use reg_service::{Delivery, Service};
 use sqlite::Alter;
 use std::alloc::Global;
 use std::test::Fail;

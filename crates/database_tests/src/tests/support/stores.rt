@@ -1,8 +1,8 @@
 //! Services over new registries and over those of a database, and why a database can't be opened.
 
-use crate::databases::kept;
-use crate::disks::{DatabaseTask, empty_disk, on_disk};
-use crate::failed::check_stays_failed;
+use super::databases::kept;
+use super::disks::{DatabaseTask, empty_disk, on_disk};
+use super::failed::check_stays_failed;
 use reg_service::Service;
 use reg_store::{Store, StoreError, create_first};
 use sqlite::{Alter, Connection, Files, MemStore};

@@ -1,9 +1,9 @@
 //! The line on standard error and the status, by the outcome of a server or a job.
 
+use super::support::Failing;
 use reg_http::Ended;
 use reg_jobs::{AuditOutcome, Errors, ListOutcome, Outcome, report};
 use reg_store::StoreError;
-use reg_testing::Failing;
 use std::test::Fail;
 
 /// The outcome of a server or a job over the file F, its line, and its status. A success has no

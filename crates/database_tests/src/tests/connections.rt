@@ -2,8 +2,8 @@
 //! send is in the system's buffers until it is served.
 
 use super::accepting::{accept, accept_by};
+use super::support::{FULL_SET, GET, IS_BACKWARD, IS_FULL, SET_FULL, ServiceTask, in_memory};
 use reg_service::Service;
-use reg_testing::{FULL_SET, GET, IS_BACKWARD, IS_FULL, SET_FULL, ServiceTask, in_memory};
 use sqlite::Alter;
 use std::alloc::Global;
 use std::cell::Cell;

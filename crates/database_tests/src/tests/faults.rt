@@ -1,6 +1,6 @@
 //! The call at which a disk fails, and what is left of the files.
 
-use reg_testing::copy;
+use super::support::copy;
 use sqlite::Files;
 use sqlite_disk::{Crash, Fuse, Memory};
 use std::alloc::Global;

@@ -3,8 +3,8 @@
 
 use super::accepting::accept_by;
 use super::sessions::served;
+use super::support::{GET, IS_BACKWARD, ServiceTask, in_memory, joined};
 use reg_service::Service;
-use reg_testing::{GET, IS_BACKWARD, ServiceTask, in_memory, joined};
 use sqlite::Alter;
 use std::alloc::Global;
 use std::cell::Cell;

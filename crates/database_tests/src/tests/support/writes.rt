@@ -1,7 +1,7 @@
 //! A list of deliveries: writes with retry keys, and reads between them.
 
-use crate::bodies::{FULL_SET, INCOMPATIBLE, NOT_SOFT_DELETED};
-use crate::deliveries::{Cmd, Row};
+use super::bodies::{FULL_SET, INCOMPATIBLE, NOT_SOFT_DELETED};
+use super::deliveries::{Cmd, Row};
 
 /// Deliveries to a new registry. They leave eight kept replies, two texts, no version and no
 /// evidence. The read between the writes needs no row, so it always has the same reply when the

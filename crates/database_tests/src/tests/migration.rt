@@ -3,9 +3,9 @@
 //! succeeds.
 
 use super::faults::Fault;
+use super::support::{DatabaseTask, contents, copy, joined, layout1_registry, on_disk, open_error};
 use reg_migrate::{MigrateError, Report, migrate};
 use reg_store::StoreError;
-use reg_testing::{DatabaseTask, contents, copy, joined, layout1_registry, on_disk, open_error};
 use sqlite::{Alter, Connection, Files};
 use sqlite_disk::{Fuse, Memory};
 use std::alloc::Global;

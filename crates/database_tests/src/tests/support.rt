@@ -1,8 +1,6 @@
-//! Shared by the tests of stores, requests and jobs: disks in memory, and registries over them with
-//! their contents. Also deliveries and messages with their responses, and readers and writers that
-//! transfer few bytes at a time. It has no contracts.
-
-#![tactic(auto)]
+//! Shared by the tests: disks in memory, and registries over them with their contents. Also
+//! deliveries and messages with their responses, and readers and writers that transfer few bytes at
+//! a time. It has no contracts.
 
 pub mod bodies;
 mod databases;

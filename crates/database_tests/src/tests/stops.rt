@@ -3,12 +3,12 @@
 //! sent again.
 
 use super::faults::Fault;
-use reg_core::{OutOfMemory, Reply};
-use reg_service::Service;
-use reg_testing::{
+use super::support::{
     DatabaseTask, Row, WRITES, answer_each, connection_of, contents, count_answered, created,
     deliveries_of, empty_disk, on_disk, opened, run_all,
 };
+use reg_core::{OutOfMemory, Reply};
+use reg_service::Service;
 use sqlite::{Alter, Connection, Files};
 use sqlite_disk::{Crash, Fuse, Memory};
 use std::alloc::Global;

@@ -1,6 +1,6 @@
 //! Deliveries and their replies.
 
-use crate::bodies::FAULT;
+use super::bodies::FAULT;
 use reg_core::{Command, Key, OutOfMemory, Reply, Subject, Text};
 use reg_service::{Delivery, Service};
 use sqlite::Alter;

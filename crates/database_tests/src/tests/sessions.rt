@@ -1,10 +1,10 @@
 //! Sessions whose reads and writes fail in turn, and a request whose body is cut.
 
-use reg_http::{Ended, serve};
-use reg_service::Service;
-use reg_testing::{
+use super::support::{
     FULL_KEPT, FULL_SET, Failing, Pieces, SET_FULL, ServiceTask, in_memory, joined, kept_in_memory,
 };
+use reg_http::{Ended, serve};
+use reg_service::Service;
 use sqlite::Alter;
 use std::alloc::Global;
 use std::io::{Read, Write};

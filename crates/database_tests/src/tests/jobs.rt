@@ -2,8 +2,10 @@
 //! when it is flushed. Checks the output, the line on standard error, and the status.
 
 use super::doing::run_job;
+use super::support::{
+    DatabaseTask, FULL_SET, Failing, GET, IS_FULL, SET_FULL, empty_disk, on_disk,
+};
 use reg_jobs::{Job, ListingName, Opened};
-use reg_testing::{DatabaseTask, FULL_SET, Failing, GET, IS_FULL, SET_FULL, empty_disk, on_disk};
 use sqlite::{Alter, Connection};
 use std::alloc::{AllocError, Global};
 use std::io::{self, Write};

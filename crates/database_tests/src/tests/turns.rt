@@ -1,9 +1,9 @@
 //! Whose turn it is on a connection: no byte is read while a whole message has no response.
 
 use super::sessions::{CHUNKED, Due, NOT_SUPPORTED, is_due, served};
+use super::support::{FULL_SET, SET_FULL, ServiceTask, in_memory, joined};
 use reg_http::Ended;
 use reg_service::Service;
-use reg_testing::{FULL_SET, SET_FULL, ServiceTask, in_memory, joined};
 use sqlite::Alter;
 use std::alloc::Global;
 use std::cell::Cell;

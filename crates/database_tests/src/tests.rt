@@ -1,0 +1,17 @@
+//! What no clause says of stores, services, sessions and jobs: what failing disks leave, how many
+//! steps lookups take, how connections take turns, and that calls succeed if memory suffices.
+
+mod accepting;
+mod connections;
+mod doing;
+mod faults;
+mod jobs;
+mod migration;
+mod outcomes;
+mod plans;
+mod reading;
+mod services;
+mod sessions;
+mod stops;
+mod support;
+mod turns;

@@ -1,6 +1,0 @@
-//! Tests of jobs.
-
-#![tactic(auto)]
-
-#[cfg(test)]
-mod tests;

@@ -1,6 +1,0 @@
-//! Tests of services over registries in memory.
-
-#![tactic(auto)]
-
-#[cfg(test)]
-mod tests;

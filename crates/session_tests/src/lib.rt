@@ -1,6 +1,0 @@
-//! Tests of sessions and of connections.
-
-#![tactic(auto)]
-
-#[cfg(test)]
-mod tests;
