@@ -1,9 +1,8 @@
 #!/usr/bin/env python3
 """Fills a registry's file, and measures how many requests a second the program answers over it.
 
-The requests come on the standard input of `run`, so they are measured whole, but without a socket. Each figure is without
-the time of a start with one request. AVROREG names the program. `command time -v` shows how long `list`, `migrate` and
-`audit` take, and their memory.
+The requests come on the standard input of `run`, so they are measured whole, but without a socket, and without the start.
+AVROREG names the program. `command time -v` shows how long `list`, `migrate` and `audit` take, and their memory.
 
     bench_requests.py fill versions F 100000 10000 700
     bench_requests.py measure versions F 100000 10000 700 5000
@@ -11,6 +10,7 @@ the time of a start with one request. AVROREG names the program. `command time -
 
 import argparse
 import contextlib
+import functools
 import json
 import os
 import shutil
@@ -28,6 +28,7 @@ from harness.program import PROGRAM
 from harness.reading import cases_of
 
 FIELD = 56  # bytes of a field in a schema
+READ = 1 << 20  # bytes of output that are read at once
 LEVEL = '{"compatibility":"FULL"}'
 KEPT = ('["set-global","FULL"]', 200, LEVEL)
 
@@ -99,18 +100,17 @@ def request_at(kind, size, at):
 
 
 def seconds(file, kind, size, count):
-    """How long a session with so many requests takes. Each has to succeed."""
-    with tempfile.TemporaryFile() as sent, tempfile.TemporaryFile() as came:
+    """How long so many requests take, from the response to an earlier one to the last response. Each has to succeed."""
+    with tempfile.TemporaryFile() as sent:
+        sent.write(request_at(KINDS["global level"], size, 0))
         sent.writelines(request_at(kind, size, at) for at in range(count))
         sent.seek(0)
-        start = time.perf_counter()
-        ran = subprocess.run([PROGRAM, "run", "--db", file], stdin=sent, stdout=came)
-        took = time.perf_counter() - start
-        came.seek(0)
-        succeeded = sum(line == b"HTTP/1.1 200 OK\r\n" for line in came)
-    if ran.returncode or succeeded != count:
-        sys.exit(f"{succeeded} of {count} requests succeeded, and the status is {ran.returncode}")
-    return took
+        with subprocess.Popen([PROGRAM, "run", "--db", file], stdin=sent, stdout=subprocess.PIPE) as running:
+            read = [(part, time.perf_counter()) for part in iter(functools.partial(running.stdout.read1, READ), b"")]
+    succeeded = b"".join(part for part, _ in read).count(b"HTTP/1.1 200 OK\r\n") - 1
+    if running.returncode or succeeded != count:
+        sys.exit(f"{succeeded} of {count} requests succeeded, and the status is {running.returncode}")
+    return read[-1][1] - read[0][1]
 
 
 def fill(series, file, size):
@@ -136,10 +136,8 @@ def measure(series, file, size, count):
     """Prints a line for each kind. Works on a copy of the file, next to it."""
     with tempfile.TemporaryDirectory(dir=os.path.dirname(os.path.abspath(file))) as folder:
         copy = shutil.copy(file, folder)
-        start = seconds(copy, KINDS["global level"], size, 1)
-        print(f"a start with one request: {start:.3f} s")
         for name in SERIES[series][1]:
-            took = seconds(copy, KINDS[name], size, count) - start
+            took = seconds(copy, KINDS[name], size, count)
             print(f"{name:<22} {count:>8} in {took:7.3f} s, {count / max(took, 1e-6):>9,.0f} a second")
 
 
@@ -153,6 +151,8 @@ def main():
     parser.add_argument("bytes", type=int, help="of a schema")
     parser.add_argument("count", type=int, nargs="?", default=1000, help="requests of each kind")
     given = parser.parse_args()
+    if not os.path.isfile(PROGRAM):
+        sys.exit(f"{PROGRAM} is missing: build it, or name the program by AVROREG")
     size = Size(given.versions, given.subjects, given.bytes)
     if given.task == "measure":
         measure(given.series, given.file, size, given.count)
