@@ -29,6 +29,7 @@ from harness.reading import cases_of
 
 FIELD = 56  # bytes of a field in a schema
 READ = 1 << 20  # bytes of output that are read at once
+SUCCESS = b"HTTP/1.1 200 OK\r\n"
 LEVEL = '{"compatibility":"FULL"}'
 KEPT = ('["set-global","FULL"]', 200, LEVEL)
 
@@ -66,11 +67,11 @@ KINDS = {
     "check": Kind("apart", "POST", "/compatibility/subjects/subject-{subject}/versions", "schema"),
     "register again": Kind("apart", "POST", "/subjects/subject-{subject}/versions", "schema"),
     "new subject": Kind("apart", "POST", "/subjects/new-{at}/versions", "schema"),
-    "register": Kind("next", "POST", "/subjects/subject-{subject}/versions", "schema"),
     "delete": Kind("same", "DELETE", "/subjects/subject-{subject}"),
     "delete permanently": Kind("same", "DELETE", "/subjects/subject-{subject}?permanent=true"),
 }
-OWN_LEVEL = Kind("next", "PUT", "/config/subject-{subject}", LEVEL, "key-{subject}")
+KINDS["register"] = KINDS["register again"]._replace(which="next")
+OWN_LEVEL = KINDS["set a level, retry"]._replace(which="next")
 COMPARE_WITH_ALL = Kind("same", "PUT", "/config", '{"compatibility":"BACKWARD_TRANSITIVE"}')
 
 # What fills a registry, and the kinds that are measured over it in this order.
@@ -93,30 +94,30 @@ def schema(number, size):
 
 def request_at(kind, size, at):
     number = {"next": size.versions + at, "same": at, "apart": at * 7919 % max(size.versions, 1)}[kind.which]
-    words = {"subject": number % max(size.subjects, 1), "id": number + 1, "at": at}
+    words = {"subject": number % size.subjects, "id": number + 1, "at": at}
     body = json.dumps({"schema": schema(number, size)}) if kind.body == "schema" else kind.body
     fields = [f"Registry-Retry-Key: {kind.key.format(**words)}"] if kind.key else []
     return request(kind.method, kind.target.format(**words), body, fields)
 
 
-def seconds(file, kind, size, count):
-    """How long so many requests take, from the response to an earlier one to the last response. Each has to succeed."""
+def rate(file, kind, size, count):
+    """How many requests of a kind the program answers a second. Each has to succeed."""
     with tempfile.TemporaryFile() as sent:
-        sent.write(request_at(KINDS["global level"], size, 0))
         sent.writelines(request_at(kind, size, at) for at in range(count))
         sent.seek(0)
         with subprocess.Popen([PROGRAM, "run", "--db", file], stdin=sent, stdout=subprocess.PIPE) as running:
             read = [(part, time.perf_counter()) for part in iter(functools.partial(running.stdout.read1, READ), b"")]
-    succeeded = b"".join(part for part, _ in read).count(b"HTTP/1.1 200 OK\r\n") - 1
+    succeeded = b"".join(part for part, _ in read).count(SUCCESS)
     if running.returncode or succeeded != count:
         sys.exit(f"{succeeded} of {count} requests succeeded, and the status is {running.returncode}")
-    return read[-1][1] - read[0][1]
+    # (the start comes before the first part, so the time is of the responses behind it)
+    return (succeeded - read[0][0].count(SUCCESS)) / max(read[-1][1] - read[0][1], 1e-6)
 
 
 def fill(series, file, size):
     made = size._replace(versions=0)
     for kind in SERIES[series][0]:
-        seconds(file, kind, made, 1 if kind is COMPARE_WITH_ALL else size.versions)
+        rate(file, kind, made, 1 if kind is COMPARE_WITH_ALL else size.versions)
 
 
 def fill_layout_one(file, size):
@@ -137,8 +138,14 @@ def measure(series, file, size, count):
     with tempfile.TemporaryDirectory(dir=os.path.dirname(os.path.abspath(file))) as folder:
         copy = shutil.copy(file, folder)
         for name in SERIES[series][1]:
-            took = seconds(copy, KINDS[name], size, count)
-            print(f"{name:<22} {count:>8} in {took:7.3f} s, {count / max(took, 1e-6):>9,.0f} a second")
+            print(f"{name:<22} {rate(copy, KINDS[name], size, count):>9,.0f} a second")
+
+
+def positive(text):
+    number = int(text)
+    if number < 1:
+        raise ValueError
+    return number
 
 
 def main():
@@ -146,11 +153,13 @@ def main():
     parser.add_argument("task", choices=["fill", "fill-layout-1", "measure"])
     parser.add_argument("series", choices=SERIES)
     parser.add_argument("file", help="missing or empty for fill")
-    parser.add_argument("versions", type=int, help="for levels, the number of subjects with their own level and a retry key")
-    parser.add_argument("subjects", type=int)
+    parser.add_argument("versions", type=positive, help="for levels, the number of subjects with their own level and a retry key")
+    parser.add_argument("subjects", type=positive)
     parser.add_argument("bytes", type=int, help="of a schema")
-    parser.add_argument("count", type=int, nargs="?", default=1000, help="requests of each kind")
+    parser.add_argument("count", type=positive, nargs="?", default=1000, help="requests of each kind")
     given = parser.parse_args()
+    if given.task == "fill-layout-1" and given.series != "versions":
+        parser.error("only the series versions can be filled in layout 1")
     if not os.path.isfile(PROGRAM):
         sys.exit(f"{PROGRAM} is missing: build it, or name the program by AVROREG")
     size = Size(given.versions, given.subjects, given.bytes)
