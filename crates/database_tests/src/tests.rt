@@ -10,7 +10,6 @@ mod migration;
 mod outcomes;
 mod plans;
 mod reading;
-mod services;
 mod sessions;
 mod stops;
 mod support;

@@ -1,17 +1,10 @@
-//! Texts of schemas, and the results of reading them. The expected texts were derived from the project's profile by hand.
+//! The error of each invalid text, and the nodes of a schema. The expected errors were derived from the project's profile
+//! by hand.
 
 use avro_nodes::Node;
 use avro_schema::{Schema, identity_denotes};
-use std::alloc::{AllocError, Global};
+use std::alloc::Global;
 use std::test::Fail;
-
-/// Texts that denote schemas, each before its identity text.
-const READ: &str = r#""int" => "int"
-["null","boolean","int"] => ["null","boolean","int"]
-{"type":"string","doc":"x","a":[1.0,-0,null]} => {"a":[1,0,null],"doc":"x","type":"string"}
-{"type":"fixed","name":"a.F","size":16.0,"aliases":["F","b.G"]} => {"aliases":["a.F","b.G"],"name":"a.F","size":16,"type":"fixed"}
-{"type":"record","name":"a.User","fields":[{"name":"n","type":{"type":"double"},"default":0.0}]} => {"fields":[{"default":0,"name":"n","type":"double"}],"name":"a.User","type":"record"}
-{"type":"record","name":"N","fields":[{"name":"next","type":["null","N"]},{"name":"v","type":"int"}]} => {"fields":[{"name":"next","type":["null","N"]},{"name":"v","type":"int"}],"name":"N","type":"record"}"#;
 
 /// Texts that denote no schema, each after the name of its error.
 const REJECTED: &str = r#"NotJson|
@@ -122,75 +115,19 @@ BadDefault|{"type":"record","name":"R","fields":[{"name":"x","type":{"type":"rec
 BadDefault|{"type":"record","name":"R","fields":[{"name":"x","type":{"type":"record","name":"S","fields":[]},"default":[]}]}
 BadDefault|{"type":"record","name":"R","fields":[{"name":"x","type":{"type":"array","items":["int","null"]},"default":[null]}]}"#;
 
-/// The identity text of the schema, or the name of the error.
-fn outcome(alloc: Global, text: &str) -> Result<String, Fail> {
+/// The name of the error.
+fn error_name(alloc: Global, text: &str) -> Result<String, Fail> {
     match Schema::read(alloc, text) {
-        Ok(schema) => Ok(schema.text(alloc)?),
+        Ok(_) => Err("the text denotes a schema".into()),
         Err(error) => Ok(format!(in alloc; "{error:?}")?),
     }
-}
-
-/// No contract excludes a `read` that always returns `OutOfMemory`. This test does.
-#[test]
-fn reading_gives_up(rt: HostRuntime) -> Result<(), Fail> {
-    for row in READ.lines() {
-        let (text, want) = row.split_once(" => ").ok_or("a row without a result")?;
-        assert_eq!(rt; outcome(rt.alloc(), text)?.as_str(), want, "{text}");
-        assert_eq!(rt; outcome(rt.alloc(), want)?.as_str(), want, "{want}");
-    }
-    Ok(())
 }
 
 #[test]
 fn rejections(rt: HostRuntime) -> Result<(), Fail> {
     for row in REJECTED.lines() {
-        let (error, text) = row.split_once('|').ok_or("a row without an error")?;
-        assert_eq!(rt; outcome(rt.alloc(), text)?.as_str(), error, "{text}");
-    }
-    Ok(())
-}
-
-/// Texts with parts between bars, and a number of repetitions of each second part. With this number the text denotes a
-/// schema, and with one more it is too large.
-const LIMITS: [(&str, usize); 7] = [
-    (r#"|{"type":"array","items":|"int"|}|"#, 23),
-    (r#"|{"type":"map","values":|[]|}|"#, 23),
-    (r#"{"type":"int","doc":|[||]|}"#, 24),
-    (
-        r#"{"type":"record","name":"R","fields":[{"name":"x","type":{"type":"record","name":"S","fields":[]},"default":{"x":|[||]|}}]}"#,
-        23,
-    ),
-    (
-        r#"[{"type":"fixed","name":"F","size":1},{"type":"array","items":{"type":"F","doc":|[||]|}}]"#,
-        24,
-    ),
-    (r#"| |"int""#, 1_048_571),
-    // a growing namespace, with the same number of aliases in it
-    (
-        r#"{"type":"fixed","name":"F","size":1,"namespace":"|n|","aliases":["a"|,"a"|]}"#,
-        1020,
-    ),
-];
-
-/// The parts between the bars, with each second one repeated `count` times.
-fn repeated(alloc: Global, texts: &str, count: usize) -> Result<String, AllocError> {
-    let mut all = String::new(alloc);
-    for (position, text) in texts.split('|').enumerate() {
-        let times = if position % 2 == 0 { 1 } else { count };
-        all.push_str(text.repeat(alloc, times)?.as_str())?;
-    }
-    Ok(all)
-}
-
-#[test]
-fn limits(rt: HostRuntime) -> Result<(), Fail> {
-    let alloc = rt.alloc();
-    for (texts, most) in LIMITS {
-        let text = repeated(alloc, texts, most)?;
-        assert!(rt; Schema::read(alloc, text.as_str()).is_ok(), "{most}");
-        let text = repeated(alloc, texts, most.saturating_add(1))?;
-        let outcome = outcome(alloc, text.as_str())?;
-        assert_eq!(rt; outcome.as_str(), "TooLarge", "{most} and one");
+        let (name, text) = row.split_once('|').ok_or("a row without an error")?;
+        assert_eq!(rt; error_name(rt.alloc(), text)?.as_str(), name, "{text}");
     }
     Ok(())
 }

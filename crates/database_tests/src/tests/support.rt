@@ -2,7 +2,6 @@
 //! deliveries and messages with their responses, and readers and writers that transfer few bytes at
 //! a time. It has no contracts.
 
-pub mod bodies;
 mod databases;
 mod deliveries;
 mod disks;
@@ -13,9 +12,7 @@ mod streams;
 mod writes;
 
 pub use databases::contents;
-pub use deliveries::{
-    Cmd, Row, answer, answer_each, check_reply, count_answered, deliveries_of, run_all,
-};
+pub use deliveries::{Row, answer_each, count_answered, deliveries_of, run_all};
 pub use disks::{DatabaseTask, copy, empty_disk, on_disk};
 pub use messages::{FULL_KEPT, FULL_SET, GET, IS_BACKWARD, IS_FULL, SET_FULL, joined};
 pub use stores::{

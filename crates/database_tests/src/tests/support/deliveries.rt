@@ -1,46 +1,25 @@
 //! Deliveries and their replies.
 
-use super::bodies::FAULT;
 use reg_core::{Command, Key, OutOfMemory, Reply, Subject, Text};
 use reg_service::{Delivery, Service};
 use sqlite::Alter;
 use std::alloc::Global;
 use std::test::Fail;
 
-/// A command, with texts for its subject, version, schema and so on. A schema has a supported type,
-/// and a version is deleted softly.
+/// A write, or the read that needs no row. A schema has a supported type, and a version is deleted
+/// softly.
 #[derive(Clone, Copy)]
-pub enum Cmd {
+pub enum ListedCommand {
     SetGlobal(&'static str),
-    SetLevel(&'static str, &'static str),
     Register(&'static str, &'static str),
     DeleteVersion(&'static str, &'static str),
     /// whether permanently
     DeleteSubject(&'static str, bool),
-    SetGlobalMode(&'static str),
-    SetMode(&'static str, &'static str),
-    Global,
-    /// whether the global level is its default
-    LevelOf(&'static str, bool),
-    GlobalMode,
-    /// whether the global mode is its default
-    ModeOf(&'static str, bool),
-    Lookup(&'static str, &'static str),
-    Subjects,
-    /// whether deleted versions are included
-    Versions(&'static str, bool),
-    Version(&'static str, &'static str),
-    Text(&'static str, &'static str),
-    ById(&'static str),
-    VersionsOfId(&'static str),
     Types,
-    /// a subject, a version and a schema
-    Check(&'static str, &'static str, &'static str),
-    CheckAll(&'static str, &'static str),
 }
 
 /// A retry key, a command, and the status and the body of the reply.
-pub type Row = (Option<&'static str>, Cmd, u16, &'static str);
+pub type Row = (Option<&'static str>, ListedCommand, u16, &'static str);
 
 fn text_of(alloc: Global, text: &str) -> Result<Text, OutOfMemory> {
     Ok(Text::from(String::from_str(alloc, text)?))
@@ -51,86 +30,26 @@ fn subject_of(alloc: Global, text: &str) -> Result<Subject, OutOfMemory> {
     Subject::new(String::from_str(alloc, text)?).ok_or(OutOfMemory)
 }
 
-fn command_of(alloc: Global, ask: Cmd) -> Result<Command, OutOfMemory> {
-    Ok(match ask {
-        Cmd::SetGlobal(level) => Command::SetGlobal {
+fn command_of(alloc: Global, listed: ListedCommand) -> Result<Command, OutOfMemory> {
+    Ok(match listed {
+        ListedCommand::SetGlobal(level) => Command::SetGlobal {
             level: text_of(alloc, level)?,
         },
-        Cmd::SetLevel(subject, level) => Command::SetLevel {
-            subject: subject_of(alloc, subject)?,
-            level: text_of(alloc, level)?,
-        },
-        Cmd::SetGlobalMode(mode) => Command::SetGlobalMode {
-            mode: text_of(alloc, mode)?,
-        },
-        Cmd::SetMode(subject, mode) => Command::SetMode {
-            subject: subject_of(alloc, subject)?,
-            mode: text_of(alloc, mode)?,
-        },
-        Cmd::Register(subject, text) => Command::Register {
+        ListedCommand::Register(subject, text) => Command::Register {
             subject: subject_of(alloc, subject)?,
             text: text_of(alloc, text)?,
             supported: true,
         },
-        Cmd::DeleteVersion(subject, version) => Command::DeleteVersion {
+        ListedCommand::DeleteVersion(subject, version) => Command::DeleteVersion {
             subject: subject_of(alloc, subject)?,
             version: text_of(alloc, version)?,
             permanent: false,
         },
-        Cmd::DeleteSubject(subject, permanent) => Command::DeleteSubject {
+        ListedCommand::DeleteSubject(subject, permanent) => Command::DeleteSubject {
             subject: subject_of(alloc, subject)?,
             permanent,
         },
-        Cmd::Global => Command::Global,
-        Cmd::LevelOf(subject, default_to_global) => Command::LevelOf {
-            subject: subject_of(alloc, subject)?,
-            default_to_global,
-        },
-        Cmd::GlobalMode => Command::GlobalMode,
-        Cmd::ModeOf(subject, default_to_global) => Command::ModeOf {
-            subject: subject_of(alloc, subject)?,
-            default_to_global,
-        },
-        Cmd::Subjects => Command::Subjects { deleted: false },
-        Cmd::Versions(subject, deleted) => Command::Versions {
-            subject: subject_of(alloc, subject)?,
-            deleted,
-        },
-        Cmd::ById(id) => Command::ById {
-            id: text_of(alloc, id)?,
-        },
-        Cmd::VersionsOfId(id) => Command::VersionsOfId {
-            id: text_of(alloc, id)?,
-            deleted: false,
-        },
-        Cmd::Version(subject, version) => Command::Version {
-            subject: subject_of(alloc, subject)?,
-            version: text_of(alloc, version)?,
-            deleted: false,
-        },
-        Cmd::Text(subject, version) => Command::Text {
-            subject: subject_of(alloc, subject)?,
-            version: text_of(alloc, version)?,
-            deleted: false,
-        },
-        Cmd::Lookup(subject, text) => Command::Lookup {
-            subject: subject_of(alloc, subject)?,
-            text: text_of(alloc, text)?,
-            supported: true,
-            deleted: false,
-        },
-        Cmd::Check(subject, version, text) => Command::Check {
-            subject: subject_of(alloc, subject)?,
-            version: text_of(alloc, version)?,
-            text: text_of(alloc, text)?,
-            supported: true,
-        },
-        Cmd::CheckAll(subject, text) => Command::CheckAll {
-            subject: subject_of(alloc, subject)?,
-            text: text_of(alloc, text)?,
-            supported: true,
-        },
-        Cmd::Types => Command::Types,
+        ListedCommand::Types => Command::Types,
     })
 }
 
@@ -156,7 +75,7 @@ pub fn deliveries_of(alloc: Global, rows: &[Row]) -> Result<Vec<Delivery<'static
 }
 
 /// The reply of a service, without the contract of `Service::answer`.
-pub fn answer<S: Alter + Drop>(service: &mut Service<S>, delivery: &Delivery) -> Reply {
+fn answer<S: Alter + Drop>(service: &mut Service<S>, delivery: &Delivery) -> Reply {
     service.answer(delivery)
 }
 
@@ -190,17 +109,16 @@ pub fn run_all<S: Alter + Drop>(
 }
 
 /// Checks that a reply is the reply of a row.
-///
-/// # Errors
-///
-/// A failed test if it isn't.
-pub fn check_reply(reply: &Reply, row: &Row) -> Result<(), Fail> {
+fn check_reply(reply: &Reply, row: &Row) -> Result<(), Fail> {
     if reply.status() == row.2 && reply.body() == row.3 {
         return Ok(());
     }
     let (status, body) = (reply.status(), reply.body());
     Err(Fail::new(format_args!("{status} {body}, and not {} {}", row.2, row.3)))
 }
+
+/// The body of the reply to a delivery that failed.
+const FAULT: &str = "{\"error_code\":50001,\"message\":\"Error in the backend data store\"}";
 
 /// The number of replies, from the first on, that are the replies of their rows. All later ones
 /// must be 50001.
