@@ -23,9 +23,9 @@ from typing import NamedTuple
 
 from known import TRIALS
 
-from harness.messages import request
+from harness.messages import build_request
 from harness.program import PROGRAM
-from harness.reading import cases_of
+from harness.reading import read_cases
 
 FIELD = 56  # bytes of a field in a schema
 READ = 1 << 20  # bytes of output that are read at once
@@ -97,7 +97,7 @@ def request_at(kind, size, at):
     words = {"subject": number % size.subjects, "id": number + 1, "at": at}
     body = json.dumps({"schema": schema(number, size)}) if kind.body == "schema" else kind.body
     fields = [f"Registry-Retry-Key: {kind.key.format(**words)}"] if kind.key else []
-    return request(kind.method, kind.target.format(**words), body, fields)
+    return build_request(kind.method, kind.target.format(**words), body, fields)
 
 
 def rate(file, kind, size, count):
@@ -122,7 +122,7 @@ def fill(series, file, size):
 
 def fill_layout_one(file, size):
     """Makes a registry of layout 1, with as many kept replies as versions."""
-    first = cases_of(f"{TRIALS}/../tests/words/migrate")[0].names["FIRST"]
+    first = read_cases(f"{TRIALS}/../tests/words/migrate")[0].names["FIRST"]
     with open(file, "xb") as made:
         made.write(first())
     numbers = range(size.versions)

@@ -20,22 +20,22 @@ import time
 
 from known import TRIALS, goes_on, known, parted, side_by_side, status_of
 
-from harness.messages import are_answers, fault, request
-from harness.program import Wrong, contents, differs, run, scratch, started, written
-from harness.reading import cases_of
-from harness.sessions import looked_at, runs_of
+from harness.messages import build_error_response, build_request, check_responses
+from harness.program import CaseError, raise_difference, read_file, run_program, start_program, temporary_folder, write_file
+from harness.reading import read_cases
+from harness.sessions import execute_steps, parse_session
 
 LIBRARY = os.environ["FAULTS"]
 
 # The ways in which a call fails, each with seeds of what is lost, or with nothing lost.
 WAYS = {"error": (None, 0), "once": (None, 0), "full": (None, 0), "kill": range(int(os.environ.get("SEEDS", "30")))}
 LIES = {"FAULT_LIE": "1"} if os.environ.get("LIE") == "1" else {}
-FAILED = fault(50001)
+FAILED = build_error_response(50001)
 UNOPENED = (2, b"avroreg: cannot open F\n")
 KILLED = (-signal.SIGKILL, b"")
 
 # Writes behind which the log is nearly as long as it may become: it is copied into the file while the session goes on.
-MANY = tuple(request("PUT", "/config", f'{{"compatibility":"{it}"}}') for it in ("NONE", "FULL") * 244)
+MANY = tuple(build_request("PUT", "/config", f'{{"compatibility":"{it}"}}') for it in ("NONE", "FULL") * 244)
 
 
 class Tried:
@@ -48,40 +48,40 @@ class Session:
     """The requests of a session and what it leaves, over files that others left behind these requests."""
 
     def __init__(self, it, before=(), files={}):
-        self.it, self.messages, self.ends = it, tuple(it.given), (it.ends[0], it.ends[1].encode())
+        self.it, self.messages, self.ends = it, tuple(it.requests), (it.end[0], it.end[1].encode())
         self.before, self.files, self.seen = before, files, set()
-        are_answers(it.due, known(self.messages).ran, it.ends)
+        check_responses(it.responses, known(self.messages).ran, it.end)
 
     def attempt(self, failure, seed=None):
         """A run with a fault, or with none, held to what is due. Answers how many calls it made, unless it was killed."""
         env = {"LD_PRELOAD": LIBRARY, "FAULT_COUNT": "count", **LIES}
         env |= {"FAULT": failure} if failure else {}
         env |= {"FAULT_SEED": str(seed)} if seed is not None else {}
-        with scratch() as folder:
+        with temporary_folder() as folder:
             for name, content in self.files.items():
-                written(folder, name, content)
-            ran = run(["run", "--db", "F"], b"".join(self.messages), folder, env=env)
-            counted = contents(folder, "count")
+                write_file(folder, name, content)
+            ran = run_program(["run", "--db", "F"], b"".join(self.messages), folder, env=env)
+            counted = read_file(folder, "count")
             served = self.served(ran, failure)
             # What was found of these very bytes before holds of them.
-            left = (*served, *(digest(contents(folder, it)) for it in ("F", "F-wal")))
+            left = (*served, *(digest(read_file(folder, it)) for it in ("F", "F-wal")))
             if left not in self.seen:
                 goes_on(folder, served, self.messages, self.ends)
-                looked_at(self.it, folder)
+                execute_steps(self.it, folder)
                 self.seen.add(left)
         return counted and int(counted)
 
     def served(self, ran, failure):
-        """The requests that were carried out, as one list or two. Raises Wrong where the answers, or the end, aren't due."""
+        """The requests that were carried out, as one list or two. Raises CaseError where the answers, or the end, aren't due."""
         answers, rest = parted(ran.stdout)
         right = known(self.before + self.messages).answers[len(self.before) :]
         count = next((at for at, (due, came) in enumerate(zip(right, answers)) if due != came), len(answers))
         ends = (ran.returncode, ran.stderr)
         due = {KILLED: right[:count], UNOPENED: []}.get(ends, right[:count] + [FAILED] * (len(right) - count))
         if rest or answers != due:
-            differs("the answers", due, answers + [rest])
+            raise_difference("the answers", due, answers + [rest])
         if ends not in ([KILLED] if failure.startswith("kill") else [self.ends, UNOPENED] if failure else [self.ends]):
-            differs("the end", self.ends, ends)
+            raise_difference("the end", self.ends, ends)
         carried_out = self.before + self.messages[:count]
         if ends == UNOPENED or count == len(right):
             return [carried_out]
@@ -98,9 +98,9 @@ def each_call(name, session):
     def attempt(failure, seed):
         try:
             return session.attempt(failure, seed)
-        except Wrong as wrong:
+        except CaseError as wrong:
             at = f"FAULT={failure}" + (f" FAULT_SEED={seed}" if seed is not None else "")
-            raise Wrong(f"{name}, {at}, of {calls} calls: {wrong}") from None
+            raise CaseError(f"{name}, {at}, of {calls} calls: {wrong}") from None
 
     began, calls = time.monotonic(), 0
     calls = attempt("", None)
@@ -113,8 +113,8 @@ def each_call(name, session):
 
 def killed_behind(messages):
     """The file and the log that a run leaves which is killed once it has answered these requests."""
-    with scratch() as folder:
-        process = started(["run", "--db", "F"], folder)
+    with temporary_folder() as folder:
+        process = start_program(["run", "--db", "F"], folder)
         for message, due in zip(messages, known(messages).answers):
             process.stdin.write(message)
             process.stdin.flush()
@@ -122,7 +122,7 @@ def killed_behind(messages):
                 due = due[len(os.read(process.stdout.fileno(), len(due))) :]
         process.kill()
         process.communicate()
-        return {name: contents(folder, name) for name in ("F", "F-wal")}
+        return {name: read_file(folder, name) for name in ("F", "F-wal")}
 
 
 def closed(it, half):
@@ -136,7 +136,7 @@ def with_log(it, half):
 def with_long_log(it, _):
     session = Session(it, MANY, killed_behind(MANY))
     if killed_behind(MANY + session.messages)["F"] == session.files["F"]:
-        raise Wrong("the long log isn't copied into the file while the session goes on")
+        raise CaseError("the long log isn't copied into the file while the session goes on")
     return session
 
 
@@ -150,8 +150,8 @@ STARTS = {
 
 def fail_over(name, start):
     """Has each call fail of the session over what the start makes."""
-    (it, *_), _ = runs_of(*cases_of(f"{TRIALS}/faults/session"))
-    each_call(name, start(it, tuple(it.given[: len(it.given) // 2])))
+    (it, *_), _ = parse_session(*read_cases(f"{TRIALS}/faults/session"))
+    each_call(name, start(it, tuple(it.requests[: len(it.requests) // 2])))
 
 
 if __name__ == "__main__":

@@ -12,8 +12,8 @@ sys.dont_write_bytecode = True
 TRIALS = os.path.dirname(os.path.abspath(__file__))
 sys.path.insert(0, f"{TRIALS}/../tests")
 
-from harness.program import Wrong, contents, differs, run, scratch
-from harness.tables import asked
+from harness.program import CaseError, raise_difference, read_file, run_program, temporary_folder
+from harness.tables import execute_sql
 
 LISTINGS = ("subjects", "versions", "schemas")
 JOBS = int(os.environ.get("JOBS", os.cpu_count()))
@@ -47,32 +47,32 @@ def parted(written):
 
 def tables(folder, name):
     """What a file and its log declare and hold, seen on a copy of both; nothing where they are no database, or have no table."""
-    with scratch() as copied:
+    with temporary_folder() as copied:
         for it in (name, f"{name}-wal"):
-            if contents(folder, it) is not None:
+            if read_file(folder, it) is not None:
                 shutil.copy(f"{folder}/{it}", copied)
         try:
-            found = asked(copied, name, "SELECT name FROM sqlite_schema WHERE type = 'table' ORDER BY name")
+            found = execute_sql(copied, name, "SELECT name FROM sqlite_schema WHERE type = 'table' ORDER BY name")
         except sqlite3.DatabaseError:
             return []
-        declared = [asked(copied, name, "SELECT type, name, sql FROM sqlite_schema ORDER BY name")] if found else []
-        return declared + [sorted(asked(copied, name, f"SELECT * FROM {it}")) for it in found]
+        declared = [execute_sql(copied, name, "SELECT type, name, sql FROM sqlite_schema ORDER BY name")] if found else []
+        return declared + [sorted(execute_sql(copied, name, f"SELECT * FROM {it}")) for it in found]
 
 
 def listings(folder):
-    return [run(["list", "--db", "F", it], folder=folder).stdout for it in LISTINGS]
+    return [run_program(["list", "--db", "F", it], folder=folder).stdout for it in LISTINGS]
 
 
 class Known:
     """What a run in which nothing fails answers to messages over a new file, and what it leaves."""
 
     def __init__(self, messages):
-        with scratch() as folder:
-            self.ran = run(["run", "--db", "F"], b"".join(messages), folder)
+        with temporary_folder() as folder:
+            self.ran = run_program(["run", "--db", "F"], b"".join(messages), folder)
             self.answers, rest = parted(self.ran.stdout)
             if rest:
-                raise Wrong(f"where nothing fails, what was written ends inside an answer: {rest}")
-            self.tables, self.listings, self.file = tables(folder, "F"), listings(folder), contents(folder, "F")
+                raise CaseError(f"where nothing fails, what was written ends inside an answer: {rest}")
+            self.tables, self.listings, self.file = tables(folder, "F"), listings(folder), read_file(folder, "F")
 
 
 @functools.cache
@@ -87,14 +87,14 @@ def goes_on(folder, served, messages, ends):
     found = tables(folder, "F")
     fits = [it for it in served if found == known(it).tables or not it and not found]
     if not fits:
-        differs("the tables afterwards", [known(it).tables for it in served], found)
-    again = run(["run", "--db", "F"], b"".join(messages), folder)
+        raise_difference("the tables afterwards", [known(it).tables for it in served], found)
+    again = run_program(["run", "--db", "F"], b"".join(messages), folder)
     if (again.returncode, again.stderr) != ends:
-        differs("the end of the second run", ends, (again.returncode, again.stderr))
+        raise_difference("the end of the second run", ends, (again.returncode, again.stderr))
     due = [(known(it + messages), len(it)) for it in fits]
     came = (parted(again.stdout)[0], tables(folder, "F"), listings(folder))
     if came not in [(it.answers[count:], it.tables, it.listings) for it, count in due]:
-        differs("the second run: answers, tables and listings", [(it.answers[count:], it.tables) for it, count in due], came)
+        raise_difference("the second run: answers, tables and listings", [(it.answers[count:], it.tables) for it, count in due], came)
 
 
 def status_of(kinds, runs, rest):
@@ -103,9 +103,9 @@ def status_of(kinds, runs, rest):
     try:
         for word in sys.argv[1:] or kinds:
             if word not in kinds:
-                raise Wrong(f"{word} is none of {', '.join(kinds)}")
+                raise CaseError(f"{word} is none of {', '.join(kinds)}")
             kinds[word]()
-    except Wrong as wrong:
+    except CaseError as wrong:
         print(f"WRONG {wrong}\n{runs()} were right before")
         return 1
     print(f"{runs()}, {rest()}, no wrong answer")

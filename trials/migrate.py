@@ -17,10 +17,10 @@ from urllib.parse import quote
 
 from known import TRIALS, LISTINGS, side_by_side, status_of, tables
 
-from harness.messages import answer, request
-from harness.program import Wrong, differs, held, run, scratch, started, written
-from harness.reading import cases_of
-from harness.tables import asked, database
+from harness.messages import build_request, build_response
+from harness.program import CaseError, check_outcome, raise_difference, run_program, start_program, temporary_folder, write_file
+from harness.reading import read_cases
+from harness.tables import database, execute_sql
 
 OLD = ("texts", "versions", "levels", "kept")
 NEW = ("modes", "evidence", "against")
@@ -33,7 +33,7 @@ KILLED = -signal.SIGKILL
 WAYS = {"error": (None,), "once": (None,), "full": (None,), "kill": range(int(os.environ.get("SEEDS", "5")))}
 
 # The tables of layout 1, as tests/names has them.
-NAMES = cases_of(f"{TRIALS}/../tests/words/migrate")[0].names
+NAMES = read_cases(f"{TRIALS}/../tests/words/migrate")[0].names
 FIRST = NAMES["FIRST"]
 
 
@@ -49,8 +49,8 @@ def kept_line(count):
 
 def rows(folder):
     """The rows of the tables of layout 1 but for `meta`, and those of `meta`."""
-    with_log = {it: sorted(asked(folder, "F", f"SELECT * FROM {it}")) for it in OLD}
-    return with_log, sorted(asked(folder, "F", "SELECT name, value FROM meta"))
+    with_log = {it: sorted(execute_sql(folder, "F", f"SELECT * FROM {it}")) for it in OLD}
+    return with_log, sorted(execute_sql(folder, "F", "SELECT name, value FROM meta"))
 
 
 def repeat(key, text):
@@ -65,7 +65,7 @@ def repeat(key, text):
         "delete-version": lambda: ("DELETE", f"/subjects/{subject}/versions/{quote(members[1], safe='')}{permanent(members)}", None),
         "delete-subject": lambda: ("DELETE", f"/subjects/{subject}{permanent(members)}", None),
     }[kind]()
-    return request(method, target, body, [f"Registry-Retry-Key: {key}"])
+    return build_request(method, target, body, [f"Registry-Retry-Key: {key}"])
 
 
 def schema_of(text, is_supported):
@@ -82,10 +82,10 @@ def asks_keys(where, folder):
     with sqlite3.connect(f"{folder}/F") as opened:
         kept = opened.execute("SELECT key, command, status, body FROM kept ORDER BY key").fetchall()
     opened.close()
-    ran = run(["run", "--db", "F"], b"".join(repeat(key, text) for key, text, *_ in kept), folder)
-    held(f"{where}: the kept keys", (0, "".join(answer(*it[2:]).decode() for it in kept), ""), ran)
+    ran = run_program(["run", "--db", "F"], b"".join(repeat(key, text) for key, text, *_ in kept), folder)
+    check_outcome(f"{where}: the kept keys", (0, "".join(build_response(*it[2:]).decode() for it in kept), ""), ran)
     if tables(folder, "F") != before:
-        differs(f"{where}: the tables behind the repeats", before, tables(folder, "F"))
+        raise_difference(f"{where}: the tables behind the repeats", before, tables(folder, "F"))
     Tried.keys += len(kept)
 
 
@@ -93,9 +93,9 @@ def is_told(where, folder):
     """Has every other job tell the layout, and leave the file as it is."""
     before = tables(folder, "F")
     for words in (["run", "--db", "F"], ["serve", "--db", "F", "--port", "1"], *(["list", "--db", "F", it] for it in LISTINGS)):
-        held(f"{where}: {' '.join(words)}", (2, "", OLD_LAYOUT), run(words, request("GET", "/config"), folder))
+        check_outcome(f"{where}: {' '.join(words)}", (2, "", OLD_LAYOUT), run_program(words, build_request("GET", "/config"), folder))
     if tables(folder, "F") != before:
-        differs(f"{where}: the tables behind other jobs", before, tables(folder, "F"))
+        raise_difference(f"{where}: the tables behind other jobs", before, tables(folder, "F"))
 
 
 def is_moved(where, folder, before):
@@ -103,30 +103,30 @@ def is_moved(where, folder, before):
     (old, meta), (now, now_meta) = before, rows(folder)
     due = sorted([it for it in meta if not it.startswith("layout|")] + ["layout|2", "mode|READWRITE"])
     if (old, due) != (now, now_meta):
-        differs(f"{where}: the rows", (old, due), (now, now_meta))
-    more = [asked(folder, "F", f"SELECT * FROM {it}") for it in NEW]
-    if any(more) or asked(folder, "F", "SELECT count(*) FROM sqlite_schema WHERE name = 'versions_of_id'") != ["1"]:
-        differs(f"{where}: the new tables and the index", [[], [], []], more)
+        raise_difference(f"{where}: the rows", (old, due), (now, now_meta))
+    more = [execute_sql(folder, "F", f"SELECT * FROM {it}") for it in NEW]
+    if any(more) or execute_sql(folder, "F", "SELECT count(*) FROM sqlite_schema WHERE name = 'versions_of_id'") != ["1"]:
+        raise_difference(f"{where}: the new tables and the index", [[], [], []], more)
 
 
 def moves(where, folder):
     is_told(where, folder)
-    with scratch() as copied:
+    with temporary_folder() as copied:
         for it in os.listdir(folder):
             with open(f"{folder}/{it}", "rb") as file:
-                written(copied, it, file.read())
+                write_file(copied, it, file.read())
         before = rows(copied)
-    held(f"{where}: migrate", (0, kept_line(len(before[0]["versions"])), ""), run(["migrate", "--db", "F"], folder=folder))
+    check_outcome(f"{where}: migrate", (0, kept_line(len(before[0]["versions"])), ""), run_program(["migrate", "--db", "F"], folder=folder))
     if os.listdir(folder) != ["F"]:
-        differs(f"{where}: the files", ["F"], os.listdir(folder))
+        raise_difference(f"{where}: the files", ["F"], os.listdir(folder))
     is_moved(where, folder, before)
-    held(f"{where}: migrate again", (0, NOTHING_TO_DO, ""), run(["migrate", "--db", "F"], folder=folder))
+    check_outcome(f"{where}: migrate again", (0, NOTHING_TO_DO, ""), run_program(["migrate", "--db", "F"], folder=folder))
     asks_keys(where, folder)
     is_moved(where, folder, before)
-    listed = run(["list", "--db", "F", "versions"], folder=folder)
-    held(f"{where}: list", (0, listed.stdout.decode(), ""), listed)
+    listed = run_program(["list", "--db", "F", "versions"], folder=folder)
+    check_outcome(f"{where}: list", (0, listed.stdout.decode(), ""), listed)
     if listed.stdout.count(b"\n") != len(before[0]["versions"]) + 1:
-        differs(f"{where}: lines", len(before[0]["versions"]) + 1, listed.stdout.count(b"\n"))
+        raise_difference(f"{where}: lines", len(before[0]["versions"]) + 1, listed.stdout.count(b"\n"))
     Tried.files += 1
 
 
@@ -136,7 +136,7 @@ def unpacked(name, folder):
         packed = f"{TRIALS}/old-files/{name}.db{end}.gz"
         if os.path.exists(packed):
             with gzip.open(packed) as file:
-                written(folder, f"F{end}", file.read())
+                write_file(folder, f"F{end}", file.read())
 
 
 def old_names():
@@ -145,7 +145,7 @@ def old_names():
 
 def old():
     for name in old_names():
-        with scratch() as folder:
+        with temporary_folder() as folder:
             unpacked(name, folder)
             moves(name, folder)
         print(f"{name}: moved", flush=True)
@@ -175,8 +175,8 @@ def many_keys():
 
 
 def many():
-    with scratch() as folder:
-        written(folder, "F", many_keys())
+    with temporary_folder() as folder:
+        write_file(folder, "F", many_keys())
         moves("3,000 keys", folder)
     print("3,000 keys: moved", flush=True)
 
@@ -188,19 +188,19 @@ def lines():
     """Each line of migrate, and what becomes of the file."""
 
     def tells(name, content, due, full=False, words=("migrate", "--db", "F"), stays=True):
-        with scratch() as folder:
+        with temporary_folder() as folder:
             if content is not None:
-                written(folder, "F", content)
-            held(name, due, run([*words], folder=folder, full=full))
+                write_file(folder, "F", content)
+            check_outcome(name, due, run_program([*words], folder=folder, full_stdout=full))
             there = sorted(os.listdir(folder))
             if stays and there != ([] if content is None else ["F"]):
-                differs(f"{name}: the files", content and ["F"], there)
+                raise_difference(f"{name}: the files", content and ["F"], there)
             if stays and content is not None:
                 with open(f"{folder}/F", "rb") as file:
                     if file.read() != content:
-                        raise Wrong(f"{name}: the file changed")
+                        raise CaseError(f"{name}: the file changed")
             if full:
-                held(f"{name}, and again", (0, NOTHING_TO_DO, ""), run([*words], folder=folder))
+                check_outcome(f"{name}, and again", (0, NOTHING_TO_DO, ""), run_program([*words], folder=folder))
 
     line = lambda text: (2, "", f"avroreg: {text}\n")
     layout = lambda number: FIRST(f"UPDATE meta SET value = '{number}' WHERE name = 'layout'")
@@ -213,13 +213,13 @@ def lines():
     tells("another database", database("CREATE TABLE other (a TEXT) STRICT"), line("F is not a registry"))
     tells("a row that no registry has", FIRST("INSERT INTO meta VALUES ('mode', 'READWRITE')"), line("F is not a registry"))
     tells("a full disk behind standard output", SMALL(), line("write failed"), full=True, stays=False)
-    with scratch() as folder:
-        other = started(["run", "--db", "F"], folder)
-        other.stdin.write(request("GET", "/schemas/types"))
+    with temporary_folder() as folder:
+        other = start_program(["run", "--db", "F"], folder)
+        other.stdin.write(build_request("GET", "/schemas/types"))
         other.stdin.flush()
         while not other.stdout.read1(1 << 16).endswith(b'["AVRO"]'):
             pass
-        held("a file that another run has", line("cannot open F"), run(["migrate", "--db", "F"], folder=folder))
+        check_outcome("a file that another run has", line("cannot open F"), run_program(["migrate", "--db", "F"], folder=folder))
         other.communicate()
     print("lines: 10 as written", flush=True)
 
@@ -228,32 +228,32 @@ def either(where, folder, before, moved, has_to=False):
     """Holds the tables to those before, or to those afterwards, and then moves what isn't moved."""
     found = tables(folder, "F")
     if found not in ([moved] if has_to else [before, moved]):
-        differs(f"{where}: the tables", moved, found)
+        raise_difference(f"{where}: the tables", moved, found)
     due = NOTHING_TO_DO if found == moved else kept_line(3)
-    held(f"{where}: migrate again", (0, due, ""), run(["migrate", "--db", "F"], folder=folder))
+    check_outcome(f"{where}: migrate again", (0, due, ""), run_program(["migrate", "--db", "F"], folder=folder))
     if tables(folder, "F") != moved:
-        differs(f"{where}: the tables behind it", moved, tables(folder, "F"))
+        raise_difference(f"{where}: the tables behind it", moved, tables(folder, "F"))
 
 
 def each_call(name, environment, tries_of, dues):
     """Makes a run that only counts, and then one for each try, which may end so. Once the line is printed, the file is moved."""
-    with scratch() as folder:
-        written(folder, "F", SMALL())
+    with temporary_folder() as folder:
+        write_file(folder, "F", SMALL())
         before = tables(folder, "F")
-        ran = run(["migrate", "--db", "F"], folder=folder, env={**environment({}), f"{name}_COUNT": "count"})
-        held(name, (0, kept_line(3), ""), ran)
+        ran = run_program(["migrate", "--db", "F"], folder=folder, env={**environment({}), f"{name}_COUNT": "count"})
+        check_outcome(name, (0, kept_line(3), ""), ran)
         with open(f"{folder}/count") as file:
             calls = int(file.read().split()[0])
         os.remove(f"{folder}/count")
         moved = tables(folder, "F")
 
     def attempt(tried):
-        with scratch() as folder:
-            written(folder, "F", SMALL())
-            ran = run(["migrate", "--db", "F"], folder=folder, env={**environment(tried), f"{name}_COUNT": "count"})
+        with temporary_folder() as folder:
+            write_file(folder, "F", SMALL())
+            ran = run_program(["migrate", "--db", "F"], folder=folder, env={**environment(tried), f"{name}_COUNT": "count"})
             came, done = (ran.returncode, ran.stdout, ran.stderr), (0, kept_line(3).encode(), b"")
             if came not in (done, *dues):
-                differs(f"{tried}: the end", dues, came)
+                raise_difference(f"{tried}: the end", dues, came)
             if os.path.exists(f"{folder}/count"):
                 os.remove(f"{folder}/count")
             either(str(tried), folder, before, moved, came[1] == done[1])

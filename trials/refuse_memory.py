@@ -24,11 +24,11 @@ import time
 
 from known import TRIALS, goes_on, known, parted, side_by_side, status_of, tables
 
-from harness.messages import CLOSED, are_answers, fault
-from harness.program import PROGRAM, Wrong, contents, differs, run, scratch, written
-from harness.reading import cases_of
-from harness.sessions import Run, runs_of
-from harness.words import Scene
+from harness.messages import NORMAL_END, build_error_response, check_responses
+from harness.program import PROGRAM, CaseError, raise_difference, read_file, run_program, temporary_folder, write_file
+from harness.reading import read_cases
+from harness.sessions import Run, parse_session
+from harness.words import Execution
 
 BENCH, REFUSER = os.environ["BENCH"], os.environ["REFUSER"]
 MEMORY = (2, b"avroreg: out of memory\n")
@@ -48,12 +48,12 @@ class Tried:
 
 def refusing(refusals, words, given=b"", folder=None, program=PROGRAM):
     """A run with these refusals (`N`, `N-` or none), how many requests for memory it made, and how many were refused."""
-    with scratch() as counting:
+    with temporary_folder() as counting:
         file = f"{counting}/count"
-        ran = run(words, given, folder, program=program, env={"LD_PRELOAD": REFUSER, "REFUSE_COUNT": file, "REFUSE": refusals})
-        counted = contents(counting, "count")
+        ran = run_program(words, given, folder, program=program, env={"LD_PRELOAD": REFUSER, "REFUSE_COUNT": file, "REFUSE": refusals})
+        counted = read_file(counting, "count")
     if ran.returncode < 0 or counted is None:
-        raise Wrong(f"the program was ended by signal {-ran.returncode}")
+        raise CaseError(f"the program was ended by signal {-ran.returncode}")
     return ran, *map(int, counted.split())
 
 
@@ -69,10 +69,10 @@ def each_refusal(name, attempt, behind=0, most=None):
         try:
             ran, made, refused = attempt(refusals)
             if refusals != "0" and not refused:
-                raise Wrong("the run made fewer requests for memory than before")
+                raise CaseError("the run made fewer requests for memory than before")
             return ran, made, refused
-        except Wrong as wrong:
-            raise Wrong(f"{name}, REFUSE={refusals}, of {requests} requests: {wrong}") from None
+        except CaseError as wrong:
+            raise CaseError(f"{name}, REFUSE={refusals}, of {requests} requests: {wrong}") from None
 
     began, requests, early, needed = time.monotonic(), 0, 0, behind
     whole, requests, _ = tried("0")
@@ -97,11 +97,11 @@ class Session:
     what ends in one isn't sent twice."""
 
     def __init__(self, it, before=(), twice=False):
-        self.before, self.messages, self.ends = before, tuple(it.given), (it.ends[0], it.ends[1].encode())
+        self.before, self.messages, self.ends = before, tuple(it.requests), (it.end[0], it.end[1].encode())
         if not before:
-            are_answers(it.due, known(self.messages).ran, it.ends)
-        self.messages *= 2 if twice and it.ends == CLOSED else 1
-        self.refusals = [fault(50001, closes=b"\r\nConnection: close\r\n" in it) for it in self.answers(before + self.messages)]
+            check_responses(it.responses, known(self.messages).ran, it.end)
+        self.messages *= 2 if twice and it.end == NORMAL_END else 1
+        self.refusals = [build_error_response(50001, closes=b"\r\nConnection: close\r\n" in it) for it in self.answers(before + self.messages)]
         self.seen = set()
 
     def answers(self, messages):
@@ -110,17 +110,17 @@ class Session:
 
     def served(self, ran, refused):
         """The messages that were carried out, as one list or two: where an answer wasn't written whole, its message may
-        have been carried out or not. Raises Wrong where the answers, or the end, aren't due. At most one message is
+        have been carried out or not. Raises CaseError where the answers, or the end, aren't due. At most one message is
         answered 50001 for each refused request."""
         answers, rest = parted(ran.stdout)
         if len(answers) > len(self.messages):
-            raise Wrong(f"{len(answers)} answers to {len(self.messages)} messages")
+            raise CaseError(f"{len(answers)} answers to {len(self.messages)} messages")
         given = [*zip(self.messages, answers, self.refusals)]
         served = self.before + tuple(message for message, answer, refusal in given if answer != refusal)
         right = iter(self.answers(served))
         due = [refusal if answer == refusal else next(right) for _, answer, refusal in given]
         if answers != due or len(answers) - len(served) + len(self.before) > refused:
-            differs(f"the answers where {refused} requests for memory were refused", due, answers)
+            raise_difference(f"the answers where {refused} requests for memory were refused", due, answers)
         found = [served] if len(answers) == len(self.messages) else [served, served + self.messages[len(answers) :][:1]]
         self.ended(ran, len(answers), rest, known(found[-1]).answers[len(served) :])
         return [self.without_fault(it) for it in found]
@@ -130,9 +130,9 @@ class Session:
         ends = (ran.returncode, ran.stderr)
         beginnings = [*following, self.refusals[count]] if following else [b""]
         if (following or ends != self.ends) and ends != MEMORY:
-            differs(f"the end behind {count} answers", MEMORY, ends)
+            raise_difference(f"the end behind {count} answers", MEMORY, ends)
         if not any(it.startswith(rest) for it in beginnings):
-            differs(f"what follows {count} answers", beginnings, rest)
+            raise_difference(f"what follows {count} answers", beginnings, rest)
 
     def without_fault(self, messages):
         """The messages without the last one where that is a fault, which changes nothing, and behind which none is read."""
@@ -144,13 +144,13 @@ class Session:
         return ran, made, refused
 
     def over_a_file(self, refusals):
-        with scratch() as folder:
+        with temporary_folder() as folder:
             if self.before:
-                written(folder, "F", known(self.before).file)
+                write_file(folder, "F", known(self.before).file)
             ran, made, refused = refusing(refusals, ["run", "--db", "F"], b"".join(self.messages), folder)
             served = self.served(ran, refused)
             # What was found of these very bytes before holds of them.
-            bytes_left = (*served, contents(folder, "F"), contents(folder, "F-wal"))
+            bytes_left = (*served, read_file(folder, "F"), read_file(folder, "F-wal"))
             if bytes_left not in self.seen:
                 goes_on(folder, served, self.messages, self.ends)
                 self.seen.add(bytes_left)
@@ -159,8 +159,8 @@ class Session:
 
 def sessions(form, attempt, behind=False, **how):
     """Tries a run without messages first. What that needs before it reads, the others need too."""
-    (before, _), *runs = [(runs_of(it)[0][0], it.name) for it in cases_of(f"{TRIALS}/refuse_memory/sessions")]
-    how["before"] = tuple(before.given) if behind else ()
+    (before, _), *runs = [(parse_session(it)[0][0], it.name) for it in read_cases(f"{TRIALS}/refuse_memory/sessions")]
+    how["before"] = tuple(before.requests) if behind else ()
     needed = each_refusal(f"{form}, no message", functools.partial(attempt, Session(Run(), **how)))
     for it, name in runs:
         each_refusal(f"{form}, {name}", functools.partial(attempt, Session(it, **how)), needed)
@@ -169,46 +169,46 @@ def sessions(form, attempt, behind=False, **how):
 # Words
 
 
-class Words(Scene):
+class Words(Execution):
     """The files and the words of a case. Its run is made once for each refusal, in a copy of the files."""
 
-    def runs(self, line):
-        self.words, self.files = shlex.split(self.case.filled(line.rest)), shutil.copytree(self.folder, f"{self.kept}/files")
-        super().runs(line)
-        self.due = self.ran
+    def run_avroreg(self, line):
+        self.words, self.files = shlex.split(self.case.substitute(line.argument)), shutil.copytree(self.folder, f"{self.kept}/files")
+        super().run_avroreg(line)
+        self.due = self.last_run
 
     def attempt(self, refusals):
-        with scratch() as inner:
+        with temporary_folder() as inner:
             folder = shutil.copytree(self.files, f"{inner}/files")
             ran, made, refused = refusing(refusals, self.words, folder=folder)
             if (ran.returncode, ran.stderr) == MEMORY:
-                if not self.due.out.encode().startswith(ran.stdout) or ran.stdout and not ran.stdout.endswith(b"\n"):
-                    differs("what was printed", self.due.out, ran.stdout)
+                if not self.due.stdout.encode().startswith(ran.stdout) or ran.stdout and not ran.stdout.endswith(b"\n"):
+                    raise_difference("what was printed", self.due.stdout, ran.stdout)
             else:
                 due = copy.copy(self.due)
-                due.ran = ran
-                due.hold()
+                due.process = ran
+                due.check()
             for name in os.listdir(self.files):
                 self.keeps(folder, name)
         return ran, made, refused
 
     def keeps(self, folder, name):
         """Holds a file to what it was; of a database the tables."""
-        before, after = contents(self.files, name), contents(folder, name)
+        before, after = read_file(self.files, name), read_file(folder, name)
         if before != after and (not before.startswith(b"SQLite") or tables(self.files, name) != tables(folder, name)):
-            differs(f"the file {name}", before, after)
+            raise_difference(f"the file {name}", before, after)
 
 
 def words():
     """Listings of equal files open them alike: what one needs before it prints, those after it need too."""
     needed = {}
-    for case in cases_of(f"{TRIALS}/refuse_memory/words"):
-        with scratch() as folder, scratch() as kept:
+    for case in read_cases(f"{TRIALS}/refuse_memory/words"):
+        with temporary_folder() as folder, temporary_folder() as kept:
             scene = Words(case, folder)
             scene.kept = kept
             for line in case.lines:
-                scene.take(line)
-            alike = (scene.words[0] == "list" and contents(scene.files, "F")) or case.name
+                scene.execute(line)
+            alike = (scene.words[0] == "list" and read_file(scene.files, "F")) or case.name
             needed[alike] = each_refusal(case.name, scene.attempt, needed.get(alike, 0))
 
 
@@ -222,13 +222,13 @@ def bench():
         if refusals == "0":
             verdicts.extend(came)
         if (ran.returncode, came, ran.stderr) not in ((0, verdicts, b""), *((1, [], it) for it in BENCH_MEMORY)):
-            differs("the verdicts", verdicts, (ran.returncode, ran.stdout, ran.stderr))
+            raise_difference("the verdicts", verdicts, (ran.returncode, ran.stdout, ran.stderr))
         return ran, made, refused
 
     verdicts = []
     each_refusal(f"bench_schemas {' '.join(BENCH_WORDS)}", attempt, most=BENCH_REQUESTS)
     if len(verdicts) != 3 or not all(b"places" in it or b": true" in it for it in verdicts):
-        raise Wrong(f"the benchmark tells no verdicts: {verdicts}")
+        raise CaseError(f"the benchmark tells no verdicts: {verdicts}")
 
 
 KINDS = {

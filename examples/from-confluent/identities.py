@@ -11,7 +11,7 @@ sys.dont_write_bytecode = True
 ROOT = pathlib.Path(__file__).resolve().parent.parent.parent
 sys.path.insert(0, str(ROOT / "tests"))
 
-from harness.reading import cases_of
+from harness.reading import read_cases
 
 
 def mover():
@@ -26,12 +26,12 @@ def mover():
 def cases():
     """Where each case stands, its text, and the identity text of the schema that it denotes."""
     for file in sorted((ROOT / "tests" / "schemas").iterdir()):
-        for case in cases_of(file):
+        for case in read_cases(file):
             for line in case.lines:
-                if line.word == "text":
-                    text = case.value(line.rest)
-                elif line.rest != "none":
-                    yield line.where, text, case.value(line.rest)
+                if line.keyword == "text":
+                    text = case.value(line.argument)
+                elif line.argument != "none":
+                    yield line.location, text, case.value(line.argument)
 
 
 def main():

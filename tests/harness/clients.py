@@ -1,4 +1,4 @@
-"""Clients that share a server, and requests that come in pieces."""
+"""Sends requests in pieces, and from several clients of one server."""
 
 import os
 import resource
@@ -7,105 +7,116 @@ import subprocess
 import threading
 import time
 
-from .program import PROGRAM, SECONDS, Wrong, ended
+from .program import PROGRAM, TIMEOUT_SECONDS, CaseError, completed_process
 
-MANY = 1000
-BYTES_A_SECOND = 10_000_000
-LENGTHS = range(1, 65)
-
-
-def pieces(message):
-    """A message again and again: in pieces of one byte, then of two, up to 64."""
-    return [message[at : at + length] for length in LENGTHS for at in range(0, len(message), length)]
+REPETITIONS = 1000
+BYTES_PER_SECOND = 10_000_000
+PIECE_LENGTHS = range(1, 65)
 
 
-def run_in_pieces(words, parts, folder):
-    """A run each of whose reads gives one of these parts: a pipe in packet mode (pipe(7), O_DIRECT)."""
-    source, sink = os.pipe2(os.O_DIRECT | os.O_CLOEXEC)
+def repeat_in_pieces(message):
+    """Repeats a message for each length of PIECE_LENGTHS, split into pieces of that length. Returns all pieces as a list."""
+    return [message[start : start + length] for length in PIECE_LENGTHS for start in range(0, len(message), length)]
+
+
+def run_in_pieces(arguments, pieces, folder):
+    """Runs the program so that each read of standard input returns one piece. Returns a CompletedProcess.
+
+    Standard input is a pipe in packet mode (pipe(7), O_DIRECT). Raises CaseError if the run takes too long.
+    """
+    read_end, write_end = os.pipe2(os.O_DIRECT | os.O_CLOEXEC)
     try:
-        ran = subprocess.Popen([PROGRAM, *words], cwd=folder, stdin=source, stdout=subprocess.PIPE, stderr=subprocess.PIPE)
+        process = subprocess.Popen(
+            [PROGRAM, *arguments], cwd=folder, stdin=read_end, stdout=subprocess.PIPE, stderr=subprocess.PIPE
+        )
     finally:
-        os.close(source)
-    threading.Thread(target=poured, args=(sink, parts), daemon=True).start()
+        os.close(read_end)
+    threading.Thread(target=write_pieces, args=(write_end, pieces), daemon=True).start()
     try:
-        out, err = ran.communicate(timeout=SECONDS)
+        stdout, stderr = process.communicate(timeout=TIMEOUT_SECONDS)
     except subprocess.TimeoutExpired:
-        raise Wrong(f"a run over {len(parts)} pieces took more than {SECONDS} seconds") from None
+        raise CaseError(f"a run with {len(pieces)} pieces of input took more than {TIMEOUT_SECONDS} seconds") from None
     finally:
-        ran.kill()
-        ran.communicate()
-    return ended(ran.returncode, out, err)
+        process.kill()
+        process.communicate()
+    return completed_process(process.returncode, stdout, stderr)
 
 
-def poured(sink, parts):
+def write_pieces(descriptor, pieces):
+    """Writes each piece to the descriptor until the reader ends, and closes it."""
     try:
-        for part in parts:
-            os.write(sink, part)
+        for piece in pieces:
+            os.write(descriptor, piece)
     except BrokenPipeError:
         pass
     finally:
-        os.close(sink)
+        os.close(descriptor)
 
 
-def rest_of(client):
-    """All that still comes over a connection."""
-    came = b""
-    while more := client.recv(1 << 16):
-        came += more
-    return came
+def receive_all(connection):
+    """Returns all bytes that arrive before the server closes the connection."""
+    received = b""
+    while part := connection.recv(1 << 16):
+        received += part
+    return received
 
 
-def sent_in_pieces(client, parts):
-    """All that is answered to these parts, each of which is a packet of its own."""
-    with client:
-        client.setsockopt(socket.IPPROTO_TCP, socket.TCP_NODELAY, 1)
-        for part in parts:
-            client.sendall(part)
-        client.shutdown(socket.SHUT_WR)
-        return rest_of(client)
+def send_in_pieces(connection, pieces):
+    """Sends each piece as a packet of its own, and returns all bytes of the responses."""
+    with connection:
+        connection.setsockopt(socket.IPPROTO_TCP, socket.TCP_NODELAY, 1)
+        for piece in pieces:
+            connection.sendall(piece)
+        connection.shutdown(socket.SHUT_WR)
+        return receive_all(connection)
 
 
-def behind_many(connect, often, once):
-    """One client sends a request 1,000 times at once and reads ten megabytes of responses a second. Another one, which comes
-    after it, sends a request once. Returns what the other one is answered, while the first has whole responses, but not all."""
+def send_during_many(connect, repeated, single):
+    """Sends a request from a second client while the server responds to many requests of a first client.
+
+    The first client sends `repeated` 1,000 times at once, and reads ten megabytes of responses a second. The second client
+    sends `single` once. Returns the bytes that the second client receives. Raises CaseError unless the first client received
+    fewer than 1,000 responses, each of them whole.
+    """
     with connect() as first, connect() as second:
-        first.sendall(often * MANY)
-        second.sendall(once)
+        first.sendall(repeated * REPETITIONS)
+        second.sendall(single)
         second.shutdown(socket.SHUT_WR)
-        came = b""
-        while more := first.recv(1 << 16):
-            came += more
-            time.sleep(len(more) / BYTES_A_SECOND)
-        counted(came)
-        return rest_of(second)
+        received = b""
+        while part := first.recv(1 << 16):
+            received += part
+            time.sleep(len(part) / BYTES_PER_SECOND)
+        check_equal_responses(received)
+        return receive_all(second)
 
 
-def counted(came):
-    """Holds equal responses to be whole, more than none and fewer than were asked for."""
-    head, _, body = came.partition(b"\r\n\r\n")
-    length = next((int(it[16:]) for it in head.split(b"\r\n") if it.startswith(b"Content-Length: ")), 0)
-    one = head + b"\r\n\r\n" + body[:length]
-    count = len(came) // len(one)
-    if came != one * count:
-        raise Wrong(f"a response was cut short: {len(came)} bytes came, in responses of {len(one)}")
-    if count >= MANY:
-        raise Wrong(f"all {count} requests were answered before another client had its turn")
+def check_equal_responses(received):
+    """Checks that the bytes are whole equal responses, fewer than REPETITIONS. Raises CaseError if they aren't."""
+    head, _, body = received.partition(b"\r\n\r\n")
+    prefix = b"Content-Length: "
+    length = next((int(line[len(prefix) :]) for line in head.split(b"\r\n") if line.startswith(prefix)), 0)
+    response = head + b"\r\n\r\n" + body[:length]
+    count = len(received) // len(response)
+    if received != response * count:
+        raise CaseError(f"a response is incomplete: {len(received)} bytes arrived, and a response has {len(response)}")
+    if count >= REPETITIONS:
+        raise CaseError(f"the server responded to all {count} requests of a client before it served another client")
 
 
-def without_descriptor(connect, server, messages):
-    """Two clients, one after the other. Between them the server has no file descriptor for a connection. Returns what both
-    are answered, and the line that the server writes meanwhile."""
-    numbers = resource.prlimit(server.pid, resource.RLIMIT_NOFILE)
-    with connect() as client:
-        client.sendall(messages[0])
-        came = client.recv(1 << 16)
-        last = max(int(it) for it in os.listdir(f"/proc/{server.pid}/fd"))
-        resource.prlimit(server.pid, resource.RLIMIT_NOFILE, (last, numbers[1]))
-    told = server.stderr.readline()
-    with connect() as client:
-        client.sendall(messages[1])
-        client.shutdown(socket.SHUT_WR)
-        # (so that one more try fails, and is not reported again)
+def connect_without_descriptor(connect, server, requests):
+    """Connects two clients, one after the other. The server has no file descriptor for the second connection until two
+    accepts have failed. Returns the bytes that both clients receive, and the line that the server prints to standard error."""
+    limits = resource.prlimit(server.pid, resource.RLIMIT_NOFILE)
+    with connect() as connection:
+        connection.sendall(requests[0])
+        received = connection.recv(1 << 16)
+        last = max(int(name) for name in os.listdir(f"/proc/{server.pid}/fd"))
+        resource.prlimit(server.pid, resource.RLIMIT_NOFILE, (last, limits[1]))
+    error = server.stderr.readline()
+    with connect() as connection:
+        connection.sendall(requests[1])
+        connection.shutdown(socket.SHUT_WR)
+        # (another accept fails during this time, and the server doesn't report it again)
         time.sleep(0.3)
-        resource.prlimit(server.pid, resource.RLIMIT_NOFILE, numbers)
-        return came + rest_of(client), told
+        resource.prlimit(server.pid, resource.RLIMIT_NOFILE, limits)
+        return received + receive_all(connection), error

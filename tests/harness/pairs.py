@@ -1,28 +1,35 @@
-"""A writer's schema, a reader's, and whether the one is read by the other."""
+"""Checks whether a reader's schema is compatible with a writer's schema."""
 
-from .program import Wrong, held, run, shown, written
+from .program import CaseError, check_outcome, run_program, shorten, write_file
 
 STATUSES = {"compatible": 0, "incompatible": 1}
 
 
 def check(case, folder):
-    count, sides = 0, {"writer": None, "reader": None}
+    """Checks each verdict of a case. Returns the number of verdicts, or raises CaseError at the first wrong one."""
+    count, schemas = 0, {"writer": None, "reader": None}
     for line in case.lines:
-        verdict = line.rest if line.word == "exchanged" else line.text
-        if line.word in sides:
-            sides[line.word] = case.value(line.rest)
-        elif verdict in STATUSES and None not in sides.values():
-            texts = [*sides.values()][:: -1 if line.word == "exchanged" else 1]
-            resolves(line.where, texts, verdict, folder)
+        is_exchanged = line.keyword == "exchanged"
+        verdict = line.argument if is_exchanged else line.text
+        if line.keyword in schemas:
+            schemas[line.keyword] = case.value(line.argument)
+        elif verdict in STATUSES and None not in schemas.values():
+            writer, reader = schemas.values()
+            if is_exchanged:
+                writer, reader = reader, writer
+            check_verdict(line.location, writer, reader, verdict, folder)
             count += 1
         else:
-            raise Wrong(f"{line.where}: writer S, reader S, and then compatible, incompatible, or exchanged and one of these")
+            raise CaseError(
+                f"{line.location}: expected writer S and reader S, then compatible, incompatible, or exchanged and one of them"
+            )
     return count
 
 
-def resolves(where, texts, verdict, folder):
-    for name, text in zip(("writer", "reader"), texts):
-        written(folder, name, text)
-    ran = run(["check", "--reader", "reader", "--writer", "writer"], folder=folder)
-    said = f"{where}: avroreg check\n  writer: {shown(texts[0])}\n  reader: {shown(texts[1])}"
-    held(said, (STATUSES[verdict], f"{verdict}\n", ""), ran)
+def check_verdict(location, writer, reader, verdict, folder):
+    """Runs `avroreg check` on two schemas. Raises CaseError if it doesn't print this verdict with its status."""
+    write_file(folder, "writer", writer)
+    write_file(folder, "reader", reader)
+    process = run_program(["check", "--reader", "reader", "--writer", "writer"], folder=folder)
+    context = f"{location}: avroreg check\n  writer: {shorten(writer)}\n  reader: {shorten(reader)}"
+    check_outcome(context, (STATUSES[verdict], f"{verdict}\n", ""), process)

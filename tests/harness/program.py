@@ -1,4 +1,4 @@
-"""The program under test: runs of it, servers of it, and what becomes of both."""
+"""Runs the program under test, and compares its outcomes with the expected ones."""
 
 import difflib
 import itertools
@@ -12,29 +12,31 @@ import time
 
 TESTS = os.path.dirname(os.path.dirname(os.path.abspath(__file__)))
 PROGRAM = os.path.abspath(os.environ.get("AVROREG", f"{TESTS}/../crates/avroreg/out/avroreg"))
-# How long one run may take. A program that was compiled without proofs isn't optimized, and gets more.
-SECONDS = int(os.environ.get("SECONDS", 60))
+# The time limit of one run. A program compiled without proofs isn't optimized as much, so tests/run sets a higher limit.
+TIMEOUT_SECONDS = int(os.environ.get("SECONDS", 60))
 
 
-class Wrong(Exception):
-    """A case that can't be read, or whose outcome isn't the expected one."""
+class CaseError(Exception):
+    """A case can't be parsed, or its outcome differs from the expected one."""
 
 
-def differs(where, due, came):
-    raise Wrong(f"{where}\n{difference(due, came)}")
+def raise_difference(context, expected, actual):
+    """Raises CaseError with the context, which says what differs, and a diff of both outcomes."""
+    raise CaseError(f"{context}\n{format_diff(expected, actual)}")
 
 
-def difference(due, came):
-    """The expected and the actual outcome as a diff. A carriage return is shown only if the texts differ in nothing else."""
-    sides = [text_of(due), text_of(came)]
-    plain = [it.replace("\r\n", "\n") for it in sides]
-    sides = [it.replace("\r", "\\r") for it in sides] if plain[0] == plain[1] else plain
-    lines = difflib.unified_diff(*(it.split("\n") for it in sides), "expected", "actual", n=8, lineterm="")
-    return "\n".join(f"    {shown(it)}" for it in lines)
+def format_diff(expected, actual):
+    """Returns a diff of two outcomes. Shows carriage returns only if the outcomes differ in nothing else."""
+    texts = [format_outcome(expected), format_outcome(actual)]
+    unix_texts = [text.replace("\r\n", "\n") for text in texts]
+    texts = [text.replace("\r", "\\r") for text in texts] if unix_texts[0] == unix_texts[1] else unix_texts
+    lines = difflib.unified_diff(*(text.split("\n") for text in texts), "expected", "actual", n=8, lineterm="")
+    return "\n".join(f"    {shorten(line)}" for line in lines)
 
 
-def text_of(outcome):
-    """An outcome as lines: a text, bytes, rows, a status with both outputs, or another value of Python."""
+def format_outcome(outcome):
+    """Returns an outcome as text. It is a str, bytes, None for a missing file, a list of rows, (status, stdout, stderr), or
+    any other value."""
     match outcome:
         case str():
             return outcome
@@ -42,36 +44,38 @@ def text_of(outcome):
             return outcome.decode(errors="backslashreplace")
         case None:
             return "(no file)"
-        case (int(status), str(out), str(err)):
-            return f"status {status}\nstandard output:\n{out}\nstandard error:\n{err}"
-        case [*rows] if all(isinstance(it, str) for it in rows):
+        case (int(status), str(stdout), str(stderr)):
+            return f"status {status}\nstandard output:\n{stdout}\nstandard error:\n{stderr}"
+        case [*rows] if all(isinstance(row, str) for row in rows):
             return "\n".join(rows)
     return pprint.pformat(outcome, width=160)
 
 
-def sent_with(where, message):
-    """A place in a file of cases, with the request that was sent there."""
-    lines = message.decode(errors="backslashreplace").replace("\r\n", "\n").rstrip("\n").split("\n") if message else []
-    return "\n".join([where, *["  request:"] * bool(lines), *(f"    > {shown(it)}" for it in lines)])
+def describe_request(location, request):
+    """Returns the location with the request sent there below it, or the location alone if the request is empty."""
+    lines = request.decode(errors="backslashreplace").replace("\r\n", "\n").rstrip("\n").split("\n") if request else []
+    return "\n".join([location, *["  request:"] * bool(lines), *(f"    > {shorten(line)}" for line in lines)])
 
 
-def shown(text):
+def shorten(text):
+    """Returns the text, without its middle if it has more than 2,000 characters."""
     return text if len(text) <= 2000 else f"{text[:1000]} .. {len(text)} characters .. {text[-500:]}"
 
 
-def scratch():
-    """A folder for files of a case, in memory where there is one."""
+def temporary_folder():
+    """Returns a context manager that creates and removes a folder for a case's files, in memory if /dev/shm is writable."""
     shm = "/dev/shm"
     return tempfile.TemporaryDirectory(prefix="avroreg-", dir=shm if os.access(shm, os.W_OK) else None)
 
 
-def written(folder, name, content):
+def write_file(folder, name, content):
+    """Writes bytes to a file, or a str as UTF-8."""
     with open(os.path.join(folder, name), "wb") as file:
         file.write(content if isinstance(content, bytes) else content.encode())
 
 
-def contents(folder, name):
-    """The bytes of a file, or None where there is none."""
+def read_file(folder, name):
+    """Returns the bytes of a file, or None if there is no such file."""
     try:
         with open(os.path.join(folder, name), "rb") as file:
             return file.read()
@@ -79,92 +83,119 @@ def contents(folder, name):
         return None
 
 
-def run(words, given=b"", folder=None, full=False, unread=False, program=PROGRAM, env=None):
-    """A run with these words and this input. Where it is `full`, standard output takes nothing; an unread input is a folder.
-    `env` is added to the environment."""
-    source, opened = {"input": given}, []
+def run_program(arguments, stdin=b"", folder=None, full_stdout=False, unreadable_stdin=False, program=PROGRAM, env=None):
+    """Runs the program to its end, and returns a CompletedProcess.
+
+    arguments         the command-line arguments
+    stdin             the bytes on standard input
+    folder            the working directory
+    full_stdout       whether standard output is /dev/full, where each write fails
+    unreadable_stdin  whether standard input is the working directory, where each read fails
+    program           the path of the program
+    env               variables to add to the environment
+
+    Raises CaseError if the run takes more than TIMEOUT_SECONDS.
+    """
+    options, descriptors = {"input": stdin}, []
     try:
-        if unread:
-            opened.append(os.open(folder, os.O_RDONLY))
-            source = {"stdin": opened[-1]}
-        if full:
-            opened.append(os.open("/dev/full", os.O_WRONLY))
-        out = opened[-1] if full else subprocess.PIPE
-        source["env"] = {**os.environ, **(env or {})}
-        ran = subprocess.run([program, *words], stdout=out, stderr=subprocess.PIPE, cwd=folder, timeout=SECONDS, **source)
-        return ended(ran.returncode, ran.stdout or b"", ran.stderr)
+        if unreadable_stdin:
+            descriptors.append(os.open(folder, os.O_RDONLY))
+            options = {"stdin": descriptors[-1]}
+        if full_stdout:
+            descriptors.append(os.open("/dev/full", os.O_WRONLY))
+        stdout = descriptors[-1] if full_stdout else subprocess.PIPE
+        options["env"] = {**os.environ, **(env or {})}
+        process = subprocess.run(
+            [program, *arguments], stdout=stdout, stderr=subprocess.PIPE, cwd=folder, timeout=TIMEOUT_SECONDS, **options
+        )
+        return completed_process(process.returncode, process.stdout or b"", process.stderr)
     except subprocess.TimeoutExpired:
-        raise Wrong(f"{os.path.basename(program)} {shlex.join(words)} took more than {SECONDS} seconds") from None
+        command = f"{os.path.basename(program)} {shlex.join(arguments)}"
+        raise CaseError(f"{command} took more than {TIMEOUT_SECONDS} seconds") from None
     finally:
-        for it in opened:
-            os.close(it)
+        for descriptor in descriptors:
+            os.close(descriptor)
 
 
-def ended(status, out, err):
-    return subprocess.CompletedProcess((), status, out, err)
+def completed_process(status, stdout, stderr):
+    """Returns a CompletedProcess with this status and output."""
+    return subprocess.CompletedProcess((), status, stdout, stderr)
 
 
-def started(words, folder):
-    """A run that goes on beside the case, and takes its input bit by bit."""
+def start_program(arguments, folder):
+    """Starts the program with pipes for standard input, output and error, and returns it without waiting for its end."""
     pipes = {"stdin": subprocess.PIPE, "stdout": subprocess.PIPE, "stderr": subprocess.PIPE}
-    return subprocess.Popen([PROGRAM, *words], cwd=folder, **pipes)
+    return subprocess.Popen([PROGRAM, *arguments], cwd=folder, **pipes)
 
 
-def held(where, due, ran):
-    """Holds what a run printed and its status to what is due: status, standard output, standard error."""
-    came = (ran.returncode, ran.stdout.decode(errors="backslashreplace"), ran.stderr.decode(errors="backslashreplace"))
-    if came != due:
-        differs(where, due, came)
+def check_outcome(context, expected, process):
+    """Compares a CompletedProcess with the expected (status, stdout, stderr). Raises CaseError if they differ."""
+    stdout, stderr = (output.decode(errors="backslashreplace") for output in (process.stdout, process.stderr))
+    actual = (process.returncode, stdout, stderr)
+    if actual != expected:
+        raise_difference(context, expected, actual)
 
 
-def served(folder, name, connections, talk):
-    """What `talk` returns with a server over a file that takes so many connections, and how the server ended. `talk` gets
-    a function that connects, and the server's process."""
+def serve(folder, name, connections, client):
+    """Runs a server over a file until it ends, and returns the result of `client` and the server's CompletedProcess.
+
+    connections  the number of connections after which the server ends
+    client       called as client(connect, server); connect() returns a new connection, server is the running process
+
+    If another program takes the server's port first, tries again with another port. Raises CaseError after five attempts.
+    """
     for _ in range(5):
-        port = free_port()
-        server = started(["serve", "--db", name, "--port", str(port), "--connections", str(connections)], folder)
+        port = find_free_port()
+        server = start_program(["serve", "--db", name, "--port", str(port), "--connections", str(connections)], folder)
         try:
-            came = talk(lambda: connected(server, port), server)
-            out, err = server.communicate(timeout=SECONDS)
-            return came, ended(server.returncode, out, err)
+            result = client(lambda: connect(server, port), server)
+            stdout, stderr = server.communicate(timeout=TIMEOUT_SECONDS)
+            return result, completed_process(server.returncode, stdout, stderr)
         except PortTaken:
             pass
         finally:
             server.kill()
             server.communicate()
-    raise Wrong("the server found no free port")
+    raise CaseError("the server found no free port")
 
 
 class PortTaken(Exception):
-    """Another program took the port before the server did."""
+    """Another program took the port before the server listened on it."""
 
 
-# Ports below those that the kernel gives to connections (32768 and above, unless it is told otherwise), each in turn, from
-# one on that differs from run to run.
+# Ports below the range from which Linux assigns local ports to connections (by default 32768 and above). The process id
+# chooses the first port, so that runs at the same time begin with different ports.
 PORTS = itertools.islice(itertools.cycle(range(20000, 32000)), os.getpid() % 12000, None)
 
 
-def free_port():
-    """A port that nobody listens on, and that no connection is given: one to a port on which the server doesn't listen
-    yet could be given that very port, and reach itself."""
+def find_free_port():
+    """Returns a port on which no program listens, from PORTS.
+
+    A client may try to connect before the server listens. If the port were in the kernel's range, the kernel could assign it
+    to the client, which would then connect to itself.
+    """
     for port in PORTS:
-        with socket.socket() as it:
+        with socket.socket() as candidate:
             try:
-                it.bind(("127.0.0.1", port))
+                candidate.bind(("127.0.0.1", port))
             except OSError:
                 continue
             return port
 
 
-def connected(server, port):
-    """A connection to the server, once it listens."""
-    for _ in range(SECONDS * 200):
+def connect(server, port):
+    """Returns a new connection to the server, and retries until the server listens.
+
+    Raises PortTaken if the server can't listen on the port. Raises CaseError if the server ends for another reason or
+    doesn't listen in time.
+    """
+    for _ in range(TIMEOUT_SECONDS * 200):
         try:
-            return socket.create_connection(("127.0.0.1", port), timeout=SECONDS)
+            return socket.create_connection(("127.0.0.1", port), timeout=TIMEOUT_SECONDS)
         except OSError:
             if server.poll() is not None:
                 if b"cannot listen" in server.stderr.read():
                     raise PortTaken from None
-                raise Wrong(f"the server ended with {server.returncode} before it took a connection") from None
+                raise CaseError(f"the server ended with status {server.returncode} before it accepted a connection") from None
             time.sleep(0.005)
-    raise Wrong("the server takes no connection")
+    raise CaseError("the server doesn't accept connections")

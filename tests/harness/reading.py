@@ -1,100 +1,121 @@
-"""Cases as they stand in their files."""
+"""Parses the files of cases."""
 
 import json
 import os
 import re
 
-from .program import TESTS, Wrong
+from .program import TESTS, CaseError
 from .tables import database
 
 
 class Line:
-    """A line of a case: its number in the file, what stands in it, and the lines that stand further in below it."""
+    """A line of a case, without its indentation.
+
+    number    its number in the file
+    text      the whole line
+    inner     the lines indented below it, each as a str
+    location  "line NUMBER", for error texts
+    keyword   its first word
+    argument  the rest, after the keyword
+    """
 
     def __init__(self, number, text):
         self.number, self.text, self.inner = number, text, []
-        self.where = f"line {number}"
-        self.word, _, rest = text.partition(" ")
-        self.rest = rest.strip(" ")
+        self.location = f"line {number}"
+        self.keyword, _, argument = text.partition(" ")
+        self.argument = argument.strip(" ")
 
     def inner_lines(self):
-        return [Line(self.number, it) for it in self.inner]
+        """Returns the lines indented below this one, each as a Line with this one's number."""
+        return [Line(self.number, text) for text in self.inner]
 
 
 class Case:
-    """A case: its name, its lines, and what the names in them stand for."""
+    """A case: its file, the number of its first line, its name, its lines, and the values of the names in them."""
 
     def __init__(self, file, number, name, names):
         self.file, self.number, self.name, self.names, self.lines = file, number, name, names, []
 
-    def filled(self, text):
-        """The text with <NAME> replaced by what NAME stands for, and <"NAME"> by that as a JSON string."""
+    def substitute(self, text):
+        """Returns the text with each <NAME> and <"NAME"> replaced, as `substitute` does."""
+        return substitute(text, self.names)
 
-        def value(found):
-            quoted, name = found[1], found[2]
-            if name not in self.names:
-                return found[0]
-            return quote(self.names[name]) if quoted else self.names[name]
+    def value(self, argument):
+        """Returns the value of an argument: of `:= EXPRESSION` the expression's value, else the text with names replaced."""
+        return evaluate(argument[3:], self.names) if argument.startswith(":= ") else self.substitute(argument)
 
-        return re.sub(r'<("?)([A-Z][A-Z0-9_]*)\1>', value, text)
-
-    def value(self, rest):
-        """What stands behind a word: a text, or behind := an expression of Python over the names."""
-        return evaluated(rest[3:], self.names) if rest.startswith(":= ") else self.filled(rest)
-
-    def bytes(self, rest):
-        value = self.value(rest)
+    def bytes(self, argument):
+        """Returns the value of an argument as bytes."""
+        value = self.value(argument)
         return value if isinstance(value, bytes) else value.encode()
 
 
+def substitute(text, names):
+    """Returns the text with each <NAME> replaced by its value, and each <"NAME"> by its value as a JSON string. Names without
+    a value stay."""
+
+    def replace(match):
+        is_quoted, name = match[1], match[2]
+        if name not in names:
+            return match[0]
+        return quote(names[name]) if is_quoted else names[name]
+
+    return re.sub(r'<("?)([A-Z][A-Z0-9_]*)\1>', replace, text)
+
+
 def quote(text):
+    """Returns the text as a JSON string."""
     return json.dumps(text, ensure_ascii=False)
 
 
-def evaluated(text, names):
-    return eval(text, {"json": json, "database": database, **names})
+def evaluate(expression, names):
+    """Returns the value of a Python expression, which can use the names, `json` and `database`."""
+    return eval(expression, {"json": json, "database": database, **names})
 
 
-def cases_of(file):
-    """The cases of a file, over the names that it gives and those that all files share."""
-    found, names = [], {}
+def read_cases(file):
+    """Returns the cases of a file. They can use the names that the file defines, and those of tests/names.
+
+    Raises CaseError with the file and the line if a line can't be parsed.
+    """
+    cases, names = [], {}
     for path in (f"{TESTS}/names", file):
-        with open(path, encoding="utf-8", newline="\n") as lines:
-            for number, line in enumerate(lines.read().split("\n"), 1):
+        with open(path, encoding="utf-8", newline="\n") as opened:
+            for number, line in enumerate(opened.read().split("\n"), 1):
                 try:
-                    names = taken(found, names, file, number, line)
-                except Wrong as wrong:
-                    raise Wrong(f"{os.path.relpath(path, TESTS)}:{number}: {wrong}") from None
-    for case in found:
+                    names = parse_line(line, number, file, cases, names)
+                except CaseError as error:
+                    raise CaseError(f"{os.path.relpath(path, TESTS)}:{number}: {error}") from None
+    for case in cases:
         case.names = names
-    return found
+    return cases
 
 
-def taken(found, names, file, number, line):
-    """Takes a line in: a comment, a name, a case or a part of the last one. Answers the names from then on."""
+def parse_line(line, number, file, cases, names):
+    """Parses a line, and returns the names defined up to it. Appends a new case to `cases`, or the line to the last case."""
     text = line.strip(" ")
     depth = len(line) - len(line.lstrip(" "))
     if not text or text.startswith("#"):
         return names
     if depth == 0 and text.startswith("let "):
-        return {**names, **named(text, names)}
+        return {**names, **parse_definition(text, names)}
     if depth == 0:
-        found.append(Case(file, number, text, names))
-    elif depth == 4 and found:
-        found[-1].lines.append(Line(number, text))
-    elif found and found[-1].lines:
-        found[-1].lines[-1].inner.append(text)
+        cases.append(Case(file, number, text, names))
+    elif depth == 4 and cases:
+        cases[-1].lines.append(Line(number, text))
+    elif cases and cases[-1].lines:
+        cases[-1].lines[-1].inner.append(text)
     else:
-        raise Wrong("this line belongs to no other one")
+        raise CaseError("an indented line needs a case or a line above it")
     return names
 
 
-def named(text, names):
-    """The name that a line gives, with what it stands for. Each is given once in a file."""
-    parts = re.fullmatch(r"let ([A-Z][A-Z0-9_]*) (:?=) (.*)", text)
-    if not parts:
-        raise Wrong("let NAME = TEXT, or let NAME := EXPRESSION")
-    name, how, rest = parts.groups()
+def parse_definition(text, names):
+    """Returns the name that a `let` line defines, with its value, as a dict. Raises CaseError if it is already defined."""
+    match = re.fullmatch(r"let ([A-Z][A-Z0-9_]*) (:?=) (.*)", text)
+    if not match:
+        raise CaseError("expected let NAME = TEXT, or let NAME := EXPRESSION")
+    name, operator, value = match.groups()
     if name in names:
-        raise Wrong(f"{name} has been given before")
-    return {name: evaluated(rest, names) if how == ":=" else Case(None, 0, "", names).filled(rest)}
+        raise CaseError(f"{name} is already defined")
+    return {name: evaluate(value, names) if operator == ":=" else substitute(value, names)}

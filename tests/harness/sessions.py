@@ -1,140 +1,157 @@
-"""Requests to a new registry, and the answers due: in memory, over a file, and through a socket."""
+"""Sends requests to a new registry in memory, over a file and through a socket, and compares the responses."""
 
 import re
 import socket
 
-from .clients import LENGTHS, pieces, run_in_pieces, sent_in_pieces
-from .messages import CLOSED, MALFORMED, answered, are_answers, requested
-from .program import Wrong, ended, held, run, scratch, sent_with, served
-from .tables import asked, shows
+from .clients import PIECE_LENGTHS, repeat_in_pieces, run_in_pieces, send_in_pieces
+from .messages import MALFORMED_END, NORMAL_END, check_responses, parse_request, parse_response
+from .program import CaseError, check_outcome, completed_process, describe_request, run_program, serve, temporary_folder
+from .tables import check_rows, execute_sql
 
-
-CUT, IN_PIECES = "cut at every byte", "in pieces"
-STATUSES = {"evidence holds": 0, "evidence does not hold": 1}
+CUT_AT_EVERY_BYTE, IN_PIECES = "cut at every byte", "in pieces"
+AUDIT_STATUSES = {"evidence holds": 0, "evidence does not hold": 1}
 
 
 class Run:
-    """Requests of one run of the program, the answers due, how it ends, and what is looked at in the file afterwards."""
+    """One run of the program in a session.
+
+    requests   the bytes of each request
+    responses  the expected responses, as (context for error texts, bytes)
+    end        the expected status and standard error
+    steps      what to do with the file after the run, as (location, keyword, argument, lines below)
+    """
 
     def __init__(self):
-        self.given, self.due, self.ends, self.after = [], [], CLOSED, []
+        self.requests, self.responses, self.end, self.steps = [], [], NORMAL_END, []
 
     def input(self):
-        return b"".join(self.given)
+        """Returns the bytes of all requests."""
+        return b"".join(self.requests)
 
 
 def check(case, folder):
-    runs, flags = runs_of(case)
+    """Checks a session in each form. Returns 1, the number of checks. Raises CaseError at the first difference."""
+    runs, options = parse_session(case)
     if len(runs) == 1:
-        are_answers(runs[0].due, run(["run"], runs[0].input()), runs[0].ends)
-    if CUT in flags:
-        is_cut(runs[0])
-    if IN_PIECES in flags:
-        comes_in_pieces(runs[0], folder)
-    for form in (over_a_file, through_a_socket):
-        with scratch() as inner:
+        check_responses(runs[0].responses, run_program(["run"], runs[0].input()), runs[0].end)
+    if CUT_AT_EVERY_BYTE in options:
+        check_each_cut(runs[0])
+    if IN_PIECES in options:
+        check_in_pieces(runs[0], folder)
+    for form, check_run in {"over a file": check_over_file, "through a socket": check_through_socket}.items():
+        with temporary_folder() as run_folder:
             try:
-                for it in runs:
-                    if it.given:
-                        form(it, inner)
-                    looked_at(it, inner)
-            except Wrong as wrong:
-                raise Wrong(f"{form.__name__.replace('_', ' ')}, {wrong}") from None
+                for run in runs:
+                    if run.requests:
+                        check_run(run, run_folder)
+                    execute_steps(run, run_folder)
+            except CaseError as error:
+                raise CaseError(f"{form}, {error}") from None
     return 1
 
 
-def runs_of(case):
-    """The runs of a session, and how its bytes are sent too. What is looked at in the file ends a run."""
-    runs, flags = [Run()], []
+def parse_session(case):
+    """Returns the runs of a session, and its options. `restart` ends a run, and so do lines that use the file."""
+    runs, options = [Run()], []
     for line in case.lines:
-        if line.text in (CUT, IN_PIECES):
-            flags.append(line.text)
+        if line.text in (CUT_AT_EVERY_BYTE, IN_PIECES):
+            options.append(line.text)
         elif line.text == "restart":
             runs.append(Run())
-        elif line.word in ("list", "rows", "sql", "audit"):
-            runs[-1].after.append((line.where, line.word, case.filled(line.rest), [case.filled(it) for it in line.inner]))
+        elif line.keyword in ("list", "rows", "sql", "audit"):
+            inner = [case.substitute(text) for text in line.inner]
+            runs[-1].steps.append((line.location, line.keyword, case.substitute(line.argument), inner))
         else:
-            if runs[-1].after:
+            if runs[-1].steps:
                 runs.append(Run())
-            said(case, line, runs[-1])
-    return runs, flags
+            parse_message(case, line, runs[-1])
+    return runs, options
 
 
-def said(case, line, it):
-    """Takes a request, an answer, or how the run ends."""
-    given = requested(case, line)
-    if given is not None:
-        it.given.append(given)
+def parse_message(case, line, run):
+    """Adds the line to the run: a request, a response, or how the run ends. Raises CaseError if the line is none of them."""
+    request = parse_request(case, line)
+    if request is not None:
+        run.requests.append(request)
     elif line.text == "ends malformed":
-        it.ends = MALFORMED
-    elif re.fullmatch(r"\d{3}|\d{5}", line.word):
+        run.end = MALFORMED_END
+    elif re.fullmatch(r"\d{3}|\d{5}", line.keyword):
         # (a request has one response, unless `bytes` sends several requests)
-        message = it.given[min(len(it.due), len(it.given) - 1)] if it.given else b""
-        it.due.append((sent_with(line.where, message), answered(case, line)))
+        request = run.requests[min(len(run.responses), len(run.requests) - 1)] if run.requests else b""
+        run.responses.append((describe_request(line.location, request), parse_response(case, line)))
     else:
-        raise Wrong(f"{line.where}: neither a request nor an answer: {line.text}")
+        raise CaseError(f"{line.location}: neither a request nor a response: {line.text}")
 
 
-def is_cut(it):
-    """The session's bytes cut behind each of them: the answers of the whole messages, and an end that says so."""
-    whole = it.input()
-    ends = [sum(map(len, it.given[: count + 1])) for count in range(len(it.given))]
+def check_each_cut(run):
+    """Runs the program with each proper prefix of the run's input. Each complete request must have its response. The run must end
+    as malformed if the last request is incomplete."""
+    whole = run.input()
+    ends = [sum(map(len, run.requests[: count + 1])) for count in range(len(run.requests))]
     for size in range(len(whole)):
         count = sum(end <= size for end in ends)
-        between = size == 0 or size in ends
-        are_answers(it.due[:count], run(["run"], whole[:size]), CLOSED if between else MALFORMED)
+        is_between_requests = size == 0 or size in ends
+        process = run_program(["run"], whole[:size])
+        check_responses(run.responses[:count], process, NORMAL_END if is_between_requests else MALFORMED_END)
 
 
-def comes_in_pieces(it, folder):
-    """The session's requests again and again, in pieces of each length: over standard input, and through a socket."""
-    parts, due = pieces(it.input()), it.due * len(LENGTHS)
-    are_answers(due, run_in_pieces(["run"], parts, folder), it.ends)
-    came, end = served(folder, "P", 1, lambda connect, _: sent_in_pieces(connect(), parts))
-    held("the end of the server", (0, "", ""), end)
-    are_answers(due, ended(0, came, b""), CLOSED)
+def check_in_pieces(run, folder):
+    """Repeats the run's requests in pieces of each length, over standard input and through a socket, and checks that each
+    repetition has the same responses."""
+    pieces, responses = repeat_in_pieces(run.input()), run.responses * len(PIECE_LENGTHS)
+    check_responses(responses, run_in_pieces(["run"], pieces, folder), run.end)
+    received, server = serve(folder, "P", 1, lambda connect, _: send_in_pieces(connect(), pieces))
+    check_outcome("the end of the server", (0, "", ""), server)
+    check_responses(responses, completed_process(0, received, b""), NORMAL_END)
 
 
-def over_a_file(it, folder):
-    are_answers(it.due, run(["run", "--db", "F"], it.input(), folder), it.ends)
+def check_over_file(run, folder):
+    """Checks a run over a file, with the requests on standard input."""
+    check_responses(run.responses, run_program(["run", "--db", "F"], run.input(), folder), run.end)
 
 
-def through_a_socket(it, folder):
-    came, end = served(folder, "F", 1, lambda connect, _: talked(connect(), it))
-    held("the end of the server", (0, "", ""), end)
-    are_answers(it.due, ended(0, came, b""), CLOSED)
+def check_through_socket(run, folder):
+    """Checks a run over a file, with the requests on a connection to a server."""
+    received, server = serve(folder, "F", 1, lambda connect, _: exchange(connect(), run))
+    check_outcome("the end of the server", (0, "", ""), server)
+    check_responses(run.responses, completed_process(0, received, b""), NORMAL_END)
 
 
-def talked(client, it):
-    """Sends request after request, each when the answer before it is there; then ends, and reads the rest."""
-    came, wanted = b"", 0
-    answers = iter(it.due)
-    with client:
+def exchange(connection, run):
+    """Sends each request after the response to the previous one has arrived, then shuts down the sending side. Returns all
+    bytes that arrive."""
+    received, expected_size = b"", 0
+    responses = iter(run.responses)
+    with connection:
         try:
-            for message in it.given:
-                client.sendall(message)
-                wanted += len(next(answers, ("", b""))[1])
-                while len(came) < wanted:
-                    more = client.recv(1 << 16)
-                    if not more:
-                        return came
-                    came += more
-            client.shutdown(socket.SHUT_WR)
-            while more := client.recv(1 << 16):
-                came += more
+            for request in run.requests:
+                connection.sendall(request)
+                expected_size += len(next(responses, ("", b""))[1])
+                while len(received) < expected_size:
+                    part = connection.recv(1 << 16)
+                    if not part:
+                        return received
+                    received += part
+            connection.shutdown(socket.SHUT_WR)
+            while part := connection.recv(1 << 16):
+                received += part
         except OSError:
-            # (a server that closes may do so while something is still being sent)
+            # (the server may close the connection while the client is still sending)
             pass
-    return came
+    return received
 
 
-def looked_at(it, folder):
-    for where, word, rest, inner in it.after:
-        if word == "list":
-            lines = "".join(f"{line}\n" for line in inner)
-            held(f"{where}: list {rest}", (0, lines, ""), run(["list", "--db", "F", rest], folder=folder))
-        elif word == "audit":
-            held(f"{where}: audit", (STATUSES[rest], f"{rest}\n", ""), run(["audit", "--db", "F"], folder=folder))
-        elif word == "rows":
-            shows(where, folder, "F", rest, inner)
+def execute_steps(run, folder):
+    """Executes the steps of a run, which check or change its file. Raises CaseError at the first difference."""
+    for location, keyword, argument, inner in run.steps:
+        if keyword == "list":
+            stdout = "".join(f"{line}\n" for line in inner)
+            process = run_program(["list", "--db", "F", argument], folder=folder)
+            check_outcome(f"{location}: list {argument}", (0, stdout, ""), process)
+        elif keyword == "audit":
+            process = run_program(["audit", "--db", "F"], folder=folder)
+            check_outcome(f"{location}: audit", (AUDIT_STATUSES[argument], f"{argument}\n", ""), process)
+        elif keyword == "rows":
+            check_rows(location, folder, "F", argument, inner)
         else:
-            asked(folder, "F", rest)
+            execute_sql(folder, "F", argument)

@@ -1,35 +1,36 @@
-"""The tables of a database file, by Python's sqlite3."""
+"""Creates, reads and changes database files with Python's sqlite3."""
 
 import os
 import sqlite3
 
-from .program import differs
+from .program import raise_difference
 
 
 def database(*statements):
-    """The bytes of a database that these statements make."""
-    made = sqlite3.connect(":memory:")
+    """Executes SQL statements on an empty database, and returns the bytes of its file. Case files call this function."""
+    connection = sqlite3.connect(":memory:")
     try:
         for statement in statements:
-            made.execute(statement)
-        made.commit()
-        return made.serialize()
+            connection.execute(statement)
+        connection.commit()
+        return connection.serialize()
     finally:
-        made.close()
+        connection.close()
 
 
-def asked(folder, name, statement):
-    """The rows that a statement shows, each as its cells with bars between them."""
-    database = sqlite3.connect(os.path.join(folder, name))
+def execute_sql(folder, name, statement):
+    """Executes an SQL statement on a file and commits. Returns the rows, each as a str with a bar between its cells."""
+    connection = sqlite3.connect(os.path.join(folder, name))
     try:
-        rows = database.execute(statement).fetchall()
-        database.commit()
+        rows = connection.execute(statement).fetchall()
+        connection.commit()
         return ["|".join(str(cell) for cell in row) for row in rows]
     finally:
-        database.close()
+        connection.close()
 
 
-def shows(where, folder, name, statement, due):
-    rows = asked(folder, name, statement)
-    if rows != due:
-        differs(f"{where}: {statement}", due, rows)
+def check_rows(location, folder, name, statement, expected):
+    """Compares the rows that a statement returns with the expected rows. Raises CaseError if they differ."""
+    rows = execute_sql(folder, name, statement)
+    if rows != expected:
+        raise_difference(f"{location}: {statement}", expected, rows)

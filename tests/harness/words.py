@@ -1,191 +1,239 @@
-"""Words of the command line over files: what is printed, the status, and what becomes of the files."""
+"""Runs command lines over files, and checks the output, the status, and the files afterwards."""
 
 import os
 import shlex
 import socket
 
-from .clients import behind_many, rest_of, without_descriptor
-from .messages import inputs, request
-from .program import SECONDS, Wrong, contents, differs, ended, held, run, sent_with, served, started, written
-from .tables import asked, shows
+from .clients import connect_without_descriptor, receive_all, send_during_many
+from .messages import build_request, parse_requests
+from .program import (
+    TIMEOUT_SECONDS,
+    CaseError,
+    check_outcome,
+    completed_process,
+    describe_request,
+    raise_difference,
+    read_file,
+    run_program,
+    serve,
+    start_program,
+    write_file,
+)
+from .tables import check_rows, execute_sql
 
-EXPECTED = ("out", "prints", "err", "status", "usage")
+EXPECTATIONS = ("out", "prints", "err", "status", "usage")
 
 
 def check(case, folder):
-    scene = Scene(case, folder)
+    """Executes the lines of a case in the folder. Returns 1, the number of checks. Raises CaseError at the first difference."""
+    execution = Execution(case, folder)
     try:
         for line in case.lines:
-            scene.take(line)
-        scene.hold()
+            execution.execute(line)
+        execution.check_last_run()
     finally:
-        scene.end()
+        execution.kill_others()
     return 1
 
 
-class Scene:
-    """The files of a case, the last run of the program and what is due of it, and other runs beside it."""
+class Execution:
+    """The execution of a case in a folder.
+
+    last_run  the last run of the program, with what the case expects of it; None if there is none, or if it was checked
+    before    the contents of each file before the last `avroreg` line
+    others    the running processes that `hold` started
+    """
 
     def __init__(self, case, folder):
         self.case, self.folder = case, folder
-        self.ran, self.before, self.others = None, {}, []
+        self.last_run, self.before, self.others = None, {}, []
 
-    def take(self, line):
-        doing = {
-            "avroreg": self.runs,
-            "connect": self.connects,
-            "behind": self.waits_behind,
-            "starve": self.starves,
-            "file": self.makes,
-            "link": self.links,
-            "move": self.moves,
-            "given": self.gives,
-            "sql": self.changes,
-            "rows": self.looks,
-            "hold": self.opens,
-            "release": self.lets_go,
-            "kill": self.lets_go,
-            "unchanged": self.compares,
-            "missing": self.compares,
+    def execute(self, line):
+        """Executes a line, or adds it to what is expected of the last run. Raises CaseError if a check fails, or if the line
+        isn't valid here."""
+        actions = {
+            "avroreg": self.run_avroreg,
+            "connect": self.connect_each,
+            "behind": self.send_during,
+            "starve": self.starve,
+            "file": self.make_file,
+            "link": self.link_file,
+            "move": self.rename_file,
+            "given": self.run_requests,
+            "sql": self.run_sql,
+            "rows": self.compare_rows,
+            "hold": self.hold_file,
+            "release": self.release_file,
+            "kill": self.release_file,
+            "unchanged": self.check_file,
+            "missing": self.check_file,
         }
-        if line.word in EXPECTED and self.ran:
-            self.ran.expect(line.word, self.case.value(line.rest))
-        elif line.word in doing:
-            doing[line.word](line)
+        if line.keyword in EXPECTATIONS and self.last_run:
+            self.last_run.expect(line.keyword, self.case.value(line.argument))
+        elif line.keyword in actions:
+            actions[line.keyword](line)
         else:
-            raise Wrong(f"{line.where}: {line.text}")
+            raise CaseError(f"{line.location}: not valid here: {line.text}")
 
-    def hold(self):
-        """Holds the last run to what is due of it."""
-        if self.ran:
-            self.ran.hold()
-        self.ran = None
+    def check_last_run(self):
+        """Checks the last run, if it wasn't checked. Raises CaseError if its output or status isn't the expected one."""
+        if self.last_run:
+            self.last_run.check()
+        self.last_run = None
 
-    def name(self, line):
-        return self.case.filled(line.rest)
+    def file_name(self, line):
+        """Returns the argument of a line that has only a file's name."""
+        return self.case.substitute(line.argument)
 
-    def runs(self, line):
-        self.hold()
-        self.before = {name: contents(self.folder, name) for name in os.listdir(self.folder)}
-        full, unread = line.rest.endswith(" > /dev/full"), line.rest.endswith(" < .")
-        words = shlex.split(self.case.filled(line.rest.removesuffix(" > /dev/full").removesuffix(" < .")))
-        given = b"".join(inputs(self.case, line))
-        where = sent_with(f"{line.where}: avroreg {line.rest}", given)
-        self.ran = Due(where, run(words, given, self.folder, full, unread))
+    def run_avroreg(self, line):
+        """Runs the program with the line's arguments and the requests below it, after checking the previous run."""
+        self.check_last_run()
+        self.before = {name: read_file(self.folder, name) for name in os.listdir(self.folder)}
+        full_stdout, unreadable_stdin = line.argument.endswith(" > /dev/full"), line.argument.endswith(" < .")
+        command = line.argument.removesuffix(" > /dev/full").removesuffix(" < .")
+        arguments = shlex.split(self.case.substitute(command))
+        stdin = b"".join(parse_requests(self.case, line))
+        context = describe_request(f"{line.location}: avroreg {line.argument}", stdin)
+        self.last_run = CheckedRun(context, run_program(arguments, stdin, self.folder, full_stdout, unreadable_stdin))
 
-    def serves(self, line, connections, talk, given=()):
-        """A server of so many connections. What `talk` returns counts as its output, or as that and its standard error."""
-        self.hold()
-        came, end = served(self.folder, self.name(line), connections, talk)
-        came, told = came if isinstance(came, tuple) else (came, b"")
-        where = sent_with(f"{line.where}: avroreg serve --db {line.rest}", b"\n".join(given))
-        self.ran = Due(where, ended(end.returncode, end.stdout + came, told + end.stderr))
+    def run_server(self, line, connections, client, requests=()):
+        """Runs a server for this number of connections, after checking the previous run. Responses count as its output.
 
-    def connects(self, line):
-        """A server of as many connections as there are messages, each on one of its own."""
-        given = inputs(self.case, line)
-        self.serves(line, len(given), lambda connect, _: b"".join(sent(connect(), it) for it in given), given)
+        client    called as in `serve`; returns the responses, or the responses and a part of the server's standard error
+        requests  the requests that error texts show
+        """
+        self.check_last_run()
+        result, server = serve(self.folder, self.file_name(line), connections, client)
+        responses, stderr = result if isinstance(result, tuple) else (result, b"")
+        context = describe_request(f"{line.location}: avroreg serve --db {line.argument}", b"\n".join(requests))
+        process = completed_process(server.returncode, server.stdout + responses, stderr + server.stderr)
+        self.last_run = CheckedRun(context, process)
 
-    def waits_behind(self, line):
-        """A client that comes behind one that sends many requests at once."""
-        often, once = inputs(self.case, line)
-        self.serves(line, 2, lambda connect, _: behind_many(connect, often, once))
+    def connect_each(self, line):
+        """Sends each request below the line on its own connection to a server."""
+        requests = parse_requests(self.case, line)
+        self.run_server(
+            line,
+            len(requests),
+            lambda connect, _: b"".join(send_request(connect(), request) for request in requests),
+            requests,
+        )
 
-    def starves(self, line):
-        """A server that has no file descriptor for its second connection, until one more accept has failed."""
-        given = inputs(self.case, line)
-        self.serves(line, len(given), lambda connect, server: without_descriptor(connect, server, given))
+    def send_during(self, line):
+        """Sends the second request below the line while a server responds to the first one, sent many times."""
+        repeated, single = parse_requests(self.case, line)
+        self.run_server(line, 2, lambda connect, _: send_during_many(connect, repeated, single))
 
-    def makes(self, line):
-        name, _, text = line.rest.partition(" ")
-        written(self.folder, self.case.filled(name), self.case.value(text.strip(" ")))
+    def starve(self, line):
+        """Sends each request on its own connection to a server that has no file descriptor for the second one at first."""
+        requests = parse_requests(self.case, line)
+        self.run_server(
+            line, len(requests), lambda connect, server: connect_without_descriptor(connect, server, requests)
+        )
 
-    def links(self, line):
-        name, target = line.rest.split(" ")
+    def make_file(self, line):
+        """Writes the file NAME with the contents TEXT."""
+        name, _, text = line.argument.partition(" ")
+        write_file(self.folder, self.case.substitute(name), self.case.value(text.strip(" ")))
+
+    def link_file(self, line):
+        """Creates the symbolic link NAME to FILE."""
+        name, target = line.argument.split(" ")
         os.symlink(target, os.path.join(self.folder, name))
 
-    def moves(self, line):
-        """Gives a file another name, once the last run is as it is due."""
-        self.hold()
-        name, new = (os.path.join(self.folder, it) for it in line.rest.split(" "))
+    def rename_file(self, line):
+        """Renames the file NAME to NEW, after checking the last run."""
+        self.check_last_run()
+        name, new = (os.path.join(self.folder, path) for path in line.argument.split(" "))
         os.replace(name, new)
 
-    def gives(self, line):
-        ran = run(["run", "--db", self.name(line)], b"".join(inputs(self.case, line)), self.folder)
-        held(f"{line.where}: {line.text}", (0, "", ""), ended(ran.returncode, b"", ran.stderr))
+    def run_requests(self, line):
+        """Runs the requests below the line over a file. Raises CaseError unless the run ends normally."""
+        requests = b"".join(parse_requests(self.case, line))
+        process = run_program(["run", "--db", self.file_name(line)], requests, self.folder)
+        end = completed_process(process.returncode, b"", process.stderr)
+        check_outcome(f"{line.location}: {line.text}", (0, "", ""), end)
 
-    def changes(self, line):
-        self.hold()
-        name, _, statement = line.rest.partition(" ")
-        asked(self.folder, self.case.filled(name), self.case.filled(statement))
+    def run_sql(self, line):
+        """Executes an SQL statement on a file, after checking the last run."""
+        self.check_last_run()
+        name, _, statement = line.argument.partition(" ")
+        execute_sql(self.folder, self.case.substitute(name), self.case.substitute(statement))
 
-    def looks(self, line):
-        name, _, statement = line.rest.partition(" ")
-        shows(line.where, self.folder, self.case.filled(name), self.case.filled(statement), line.inner)
+    def compare_rows(self, line):
+        """Checks that a statement returns the rows below the line."""
+        name, _, statement = line.argument.partition(" ")
+        check_rows(line.location, self.folder, self.case.substitute(name), self.case.substitute(statement), line.inner)
 
-    def opens(self, line):
-        """Another run over a file, which has answered these requests and one more, and waits for the next one."""
-        other = started(["run", "--db", self.name(line)], self.folder)
+    def hold_file(self, line):
+        """Starts another run over a file, sends it the requests below the line, and leaves it running after the last response.
+        Raises CaseError if it ends before that."""
+        other = start_program(["run", "--db", self.file_name(line)], self.folder)
         self.others.append(other)
-        other.stdin.write(b"".join(inputs(self.case, line)) + request("GET", "/schemas/types"))
+        other.stdin.write(b"".join(parse_requests(self.case, line)) + build_request("GET", "/schemas/types"))
         other.stdin.flush()
-        came = b""
-        while not came.endswith(b'["AVRO"]'):
-            more = other.stdout.read1(1 << 16)
-            if not more:
-                raise Wrong(f"{line.where}: no other run over {line.rest}")
-            came += more
+        received = b""
+        while not received.endswith(b'["AVRO"]'):
+            part = other.stdout.read1(1 << 16)
+            if not part:
+                raise CaseError(f"{line.location}: the run over {line.argument} ended")
+            received += part
 
-    def lets_go(self, line):
+    def release_file(self, line):
+        """Ends the last run that `hold_file` started, or kills it if the line is `kill`."""
         if not self.others:
-            raise Wrong(f"{line.where}: no file is held")
+            raise CaseError(f"{line.location}: no run holds a file")
         other = self.others.pop()
-        if line.word == "kill":
+        if line.keyword == "kill":
             other.kill()
-        other.communicate(timeout=SECONDS)
+        other.communicate(timeout=TIMEOUT_SECONDS)
 
-    def compares(self, line):
-        name = self.name(line)
-        came, due = contents(self.folder, name), self.before.get(name) if line.word == "unchanged" else None
-        if came != due:
-            differs(f"{line.where}: {line.text}", due, came)
+    def check_file(self, line):
+        """Checks that a file is as before the last `avroreg` line, or that it is missing if the line is `missing`."""
+        name = self.file_name(line)
+        actual, expected = read_file(self.folder, name), self.before.get(name) if line.keyword == "unchanged" else None
+        if actual != expected:
+            raise_difference(f"{line.location}: {line.text}", expected, actual)
 
-    def end(self):
+    def kill_others(self):
+        """Kills the runs that `hold_file` started and no line ended."""
         for other in self.others:
             other.kill()
             other.communicate()
 
 
-def sent(client, message):
-    """All that is answered to a message on a connection of its own."""
-    with client:
-        client.sendall(message)
-        client.shutdown(socket.SHUT_WR)
-        return rest_of(client)
+def send_request(connection, request):
+    """Sends a request, shuts down the sending side, and returns all bytes of the response."""
+    with connection:
+        connection.sendall(request)
+        connection.shutdown(socket.SHUT_WR)
+        return receive_all(connection)
 
 
-class Due:
-    """A run of the program, and what is due of it: nothing printed and status 0, if nothing is said."""
+class CheckedRun:
+    """A completed run of the program, and the output and status that the case expects: by default no output, and status 0."""
 
-    def __init__(self, where, ran):
-        self.where, self.ran = where, ran
-        self.out, self.err, self.status, self.usage = "", "", 0, False
+    def __init__(self, context, process):
+        self.context, self.process = context, process
+        self.stdout, self.stderr, self.status, self.is_usage = "", "", 0, False
 
-    def expect(self, word, rest):
-        if word == "out":
-            self.out += f"{rest}\n"
-        elif word == "prints":
-            self.out += rest
-        elif word == "err":
-            self.err += f"{rest}\n"
-        elif word == "status":
-            self.status = int(rest)
+    def expect(self, keyword, value):
+        """Adds the expectation of one of the lines that EXPECTATIONS names."""
+        if keyword == "out":
+            self.stdout += f"{value}\n"
+        elif keyword == "prints":
+            self.stdout += value
+        elif keyword == "err":
+            self.stderr += f"{value}\n"
+        elif keyword == "status":
+            self.status = int(value)
         else:
-            self.usage = True
+            self.is_usage = True
 
-    def hold(self):
-        if self.usage:
-            err = self.ran.stderr.decode(errors="backslashreplace")
-            told = "Usage:" in err or "try '--help'" in err
-            self.status, self.err = 64, err if told else "a text that says how avroreg is used"
-        held(self.where, (self.status, self.out, self.err), self.ran)
+    def check(self):
+        """Compares the run with what is expected. Raises CaseError if they differ."""
+        if self.is_usage:
+            stderr = self.process.stderr.decode(errors="backslashreplace")
+            shows_usage = "Usage:" in stderr or "try '--help'" in stderr
+            self.status, self.stderr = 64, stderr if shows_usage else "(a text with Usage: or try '--help')"
+        check_outcome(self.context, (self.status, self.stdout, self.stderr), self.process)
