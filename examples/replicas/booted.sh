@@ -163,5 +163,5 @@ check "the nodes are equal" fingerprints
 check "the relay ends by SIGTERM with its position saved" on n1 systemctl stop avroreg-relay
 check "and nginx may no longer read from avroreg" on n1 test ! -e /run/avroreg-relay/local-reads
 check "its journal says so" on n1 bash -c "journalctl -u avroreg-relay -o cat | grep -q 'ended at revision'"
-counts
+print_counts
 [ "$failures" = 0 ]
