@@ -1,6 +1,6 @@
 #!/usr/bin/env bash
-# For a pull request: asks a registry whether it would accept each schema of a folder. If not, it says which file, which
-# version of its subject, in which direction, and why. It registers nothing.
+# For a pull request: asks a registry whether it would accept each schema of a folder. If not, it prints the file, the version
+# of the subject, the direction, and the reason. It registers nothing.
 #
 #   examples/check-schemas.sh DIR URL
 #
@@ -10,12 +10,12 @@
 # A schema that a live version of its subject has is accepted. Any other is compared with the versions that the subject's
 # level names: all live ones for a TRANSITIVE level, none for NONE, else the latest.
 #
-# The lines `second opinion` are the reasons that python3-avro sees, if it is installed. It isn't the registry: avroreg's
-# verdict alone counts, and if the second opinion calls the schemas compatible, the line says so.
+# The lines `second opinion` are python3-avro's reasons, if it is installed. Only avroreg's verdict counts. If python3-avro calls
+# the schemas compatible, a line reports this.
 #
-# Status 0 if each schema would be accepted, 1 if one wouldn't, 2 if the registry can't be asked or there is nothing to ask
-# for, 64 for wrong arguments. curl takes a user and a password from ~/.netrc, and reads its own environment
-# (CURL_CA_BUNDLE, https_proxy). Needs curl and jq.
+# Status 0 if each schema would be accepted, 1 if one wouldn't. Status 2 if the registry doesn't respond or there is no schema,
+# 64 for wrong arguments. curl reads the user and the password from ~/.netrc, and its own environment (CURL_CA_BUNDLE,
+# https_proxy). Needs curl and jq.
 set -u
 why=$(cd "$(dirname "$0")" && pwd)/why.py
 scratch=$(mktemp -d)

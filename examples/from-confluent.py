@@ -10,7 +10,7 @@ with a new file. The script needs only Python's standard library.
 It reads FROM until two readings in a row are equal. If FROM lists its schemas (GET /schemas), a reading takes one request
 for 1,000 versions and two for each subject; otherwise it also takes one for each version. It writes nothing before it knows
 that it can copy everything. A subject keeps its version numbers, and a schema its id. If something can't be copied
-unchanged, it prints what, and writes nothing until an option says how to continue:
+unchanged, it prints the reason, and writes nothing without an option that says how to continue:
 
   --skip           leaves out what avroreg doesn't accept: other types than Avro, references, metadata, rule sets, schemas
                    that avroreg rejects (such as one with a non-integer number), a second live version with the schema of
@@ -26,8 +26,8 @@ unchanged, it prints what, and writes nothing until an option says how to contin
                    own. If the global mode is one, the global mode of TO is READWRITE.
 
 avroreg gives numbers and ids in order. To make a gap in the version numbers, the script registers the next schema, deletes
-it softly, registers it again, and deletes the first one permanently. It writes versions under the level NONE, and sets levels
-and modes last. At the end it reads TO, and compares it with the expected contents.
+it softly and registers it again. Later it deletes the first one permanently. It writes versions under the level NONE, and
+sets levels and modes last. At the end it reads TO, and compares it with the expected contents.
 
 Before it writes, it prints the number of writes. On a terminal a bar shows the progress and the remaining time. It repeats
 a request that gets 429 or 5xx until --patience is used up. It waits as long as Retry-After says, but at most a minute. It
@@ -38,14 +38,14 @@ it again with the same arguments: a write that was applied gets its response aga
 changed since, or the options differ, use another new file.
 
 If somebody writes to FROM, the script copies its state at one moment, without later writes. So stop the writers first, or
-set FROM's mode to READONLY. The mode is copied too: set TO's to READWRITE afterwards. Some things aren't copied, because HTTP
-doesn't return them: levels and modes of subjects without versions, kept replies of retry keys, schemas that no version has,
-and how many ids were given after the last visible one.
+set FROM's mode to READONLY. The mode is copied too: set TO's to READWRITE afterwards. HTTP doesn't return some things, so
+they aren't copied: levels and modes of subjects without versions, kept replies of retry keys, and schemas that no version
+has. Nor is the number of ids after the last visible one.
 
 Passwords come from the environment: FROM_PASSWORD for --from-user, TO_PASSWORD for --to-user.
 
 Status: 0  everything is copied, or with --dry-run: can be
-        1  it can't be copied with these options: it prints the reasons and the options to use, and wrote nothing
+        1  it can't be copied with these options; it prints the reasons and the options to use, and writes nothing
         2  a registry can't be read, or FROM keeps changing; run it again
         3  TO gave another response than expected, or differs at the end: use a new file
         64 wrong arguments

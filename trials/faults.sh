@@ -9,9 +9,14 @@
 #   SEEDS=5 trials/faults.sh     5 random losses for each kill, instead of 30
 #   LIE=1 trials/faults.sh       over a disk that doesn't sync: the script must find a wrong response, and end with status 1
 #
-# The arguments choose the session's first state: no file, a file with half of the session, a file with the log of a killed
-# run, or a file with a log so long that the session causes a checkpoint. Without arguments, all are tried. The session is in
-# the folder faults. faults.py describes the comparison.
+# The arguments choose the session's first state. Without arguments, all are tried:
+#
+#   new      no file
+#   closed   a file with half of the session
+#   log      the same with the log of a killed run
+#   long     a file with a log so long that the session causes a checkpoint
+#
+# The session is in the folder faults. faults.py describes the comparison.
 set -u
 source "$(dirname "$0")/../examples/serving.sh"
 need cc python3

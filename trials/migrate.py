@@ -162,7 +162,7 @@ def values(lines):
 
 
 def many_keys():
-    """A thousand versions in a hundred subjects, a thousand levels and a thousand refusals, each with a retry key."""
+    """A thousand versions in a hundred subjects, a thousand levels and a thousand errors, each with a retry key."""
     count = range(1, 1001)
     text = lambda n: f'{{"doc":"{n}","type":"int"}}'
     command = lambda *members: json.dumps(members, separators=(",", ":"))

@@ -1,9 +1,9 @@
 #!/usr/bin/env python3
 """Interrupts hot-copy at chosen moments, which are rare under load, and checks the copies.
 
-A real server fills the registry. While hot-copy runs, between its two files or within one of
-them, the log begins anew, or a checkpoint copies the log into the database. hot-copy may reject
-such a copy or accept it. An accepted copy must pass every check of checks.py.
+A real server fills the registry. Between hot-copy's two files, or within one of them, SQLite
+starts a new log, or a checkpoint copies the log into the database. hot-copy may reject such a
+copy or accept it. An accepted copy must pass every check of checks.py.
 
     certain.py FOLDER       an empty folder; AVROREG names the program, HOT_COPY the script
 """
@@ -82,7 +82,7 @@ class Registry:
             self.acknowledged.append(write)
 
     def begin_new_log(self) -> None:
-        """Writes until the log has begun anew, and then some more."""
+        """Writes until SQLite has started a new log, and then some more."""
         before = header_of(self.file)
         while header_of(self.file) == before:
             self.write(1, 30000)

@@ -4,7 +4,7 @@
     trial.py COPIES FOLDER..      makes COPIES copies in each folder, half of them with kills
 
 Two clients write while hot-copy runs, and pause while a copy is checked. Every second copy reads
-as if from a slow disk, so that the log often begins anew meanwhile. With kills, the server is
+as if from a slow disk, so that SQLite often starts a new log meanwhile. With kills, the server is
 killed at random moments, also within a copy, and starts again. A registry serves for at most 25
 copies. AVROREG names the program, HOT_COPY the script.
 """

@@ -1,6 +1,6 @@
 #!/usr/bin/env bash
-# Runs check-schemas.sh on the schemas next to this script, with a server whose subjects have earlier versions of them, and
-# compares its output and its status. Then registers folders with register-schemas, and runs the commands of the CI workflow.
+# Runs check-schemas.sh on the schemas next to this script, with a server whose subjects have earlier versions of them. Compares
+# the output and the status. Then registers folders with register-schemas, and runs the commands of the CI workflow.
 #
 #   AVROREG=PROGRAM examples/check-schemas/try.sh
 set -u

@@ -1,5 +1,5 @@
 #!/usr/bin/env python3
-"""Checks what docs/clients.md says of requests: the paths that tools need, and the differences from Confluent's registry.
+"""Checks the facts about requests in docs/clients.md: the paths that tools need, and the differences from Confluent's registry.
 
     python3 examples/clients/facts.py URL      URL of a registry without subjects; the script leaves no live ones
 """

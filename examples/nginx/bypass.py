@@ -3,7 +3,7 @@
 
     python3 examples/nginx/bypass.py UPSTREAM_PORT NGINX_PORT [--share N] [--first]
 
-This script listens on UPSTREAM_PORT in place of avroreg, and records each message as avroreg would read it. The users
+This script listens on UPSTREAM_PORT instead of avroreg, and records each message as avroreg would read it. The users
 and their passwords are those of roles.sh. Status 1 if nginx forwarded a message that the user may not send. Status 2 if the
 result means nothing, for example because nginx rejects the allowed messages too.
 """
@@ -52,7 +52,7 @@ SECONDS = 2  # to wait for a response
 
 
 class Recorder:
-    """A server in place of avroreg: reads a head, a body by its length, and the bytes after it, and sends one response."""
+    """A server that replaces avroreg: reads a head, a body by its length, and the bytes after it, and sends one response."""
 
     def __init__(self, port: int):
         self.messages: list[tuple[bytes, bytes]] = []

@@ -11,7 +11,7 @@ here=$examples/page
 shots=${SHOTS:-$(mktemp -d "${TMPDIR:-/tmp}/avroreg-page.XXXXXX")}
 mkdir -p "$shots"
 
-# nginx reads the page as another user than the owner of this folder, and answers 504 sooner than by default.
+# nginx isn't run by the owner of this folder, so it needs a copy of the page. It returns 504 after 10 seconds, not 60.
 mkdir "$scratch/page"
 cp "$here"/index.html "$here"/page.css "$here"/page.js "$scratch/page/"
 sed "s,/usr/local/share/avroreg/page,$scratch/page," "$here/page.conf" >"$scratch/page.conf"

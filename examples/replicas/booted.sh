@@ -1,5 +1,5 @@
 #!/usr/bin/env bash
-# Boots three trees of Debian 12 under systemd, sets them up with the commands of docs/running.md and README.md, and tests the
+# Boots three trees of Debian 12 under systemd, and sets them up with the commands of docs/running.md and README.md. Tests the
 # units and the operations on them. Prints a line for each check. The last line is 'N passed, M failed'.
 #
 #   AVROREG=PROGRAM examples/replicas/booted.sh

@@ -73,7 +73,7 @@ class Configuration(unittest.TestCase):
             path.write_text(text)
             return config.load(path)
 
-    def test_the_file_beside(self) -> None:
+    def test_the_repository_file(self) -> None:
         found = config.load(RELAY_TOML)
         self.assertEqual((found.node, found.listen.port, found.services.stop_relay[0]), ("n1", 8080, "systemctl"))
 
