@@ -192,7 +192,7 @@ def request_json(port, method, path, body=None):
 def measure_pipelining(port):
     """If the client reads its responses, others wait at most 2.5 seconds: its turn of a second, a second until it has read the
     end, and half a second for the request in progress. If it reads nothing or too little, the server closes its connection
-    after 30 seconds."""
+    after 30 seconds at most."""
     text = json.dumps({"type": "record", "name": "R", "doc": "x" * 100_000, "fields": []})
     id = request_json(port, "POST", "/subjects/s/versions", json.dumps({"schema": text}))["id"]
     # A soft-deleted version's schema keeps its id, and its subject isn't listed.
