@@ -1,15 +1,15 @@
 #!/usr/bin/env bash
-# Runs each script of this folder, and prints whether it passed, how long it took, and which packages of Debian it needs. It
-# installs missing ones. The status is 0 if all passed.
+# Runs each script of this folder. It prints whether the script passed, how long it took, and which Debian packages it needs.
+# It installs missing packages. The status is 0 if all scripts passed.
 #
 #   AVROREG=PROGRAM examples/all.sh [NAME]..     NAME is in the first column; default: all
 #
-# The page's script needs an address for localhost in /etc/hosts, which debootstrap doesn't write. The trial of replicas needs root.
+# The page's script needs a line for localhost in /etc/hosts, which debootstrap doesn't write. The trial of replicas needs root.
 set -u
 source "$(dirname "$0")/serving.sh"
 [ -x "$avroreg" ] || fail "there is no program $avroreg; build it, or name it in AVROREG"
 export AVROREG=$avroreg
-asked=("$@")
+chosen=("$@")
 cd "$examples" || exit 1
 
 python="curl python3-confluent-kafka python3-requests python3-avro"

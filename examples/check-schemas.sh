@@ -1,6 +1,6 @@
 #!/usr/bin/env bash
-# For a pull request: asks a registry whether it would accept each schema of a folder. If not, it says which file, which
-# version of its subject, in which direction, and why. It registers nothing.
+# For a pull request: asks a registry whether it would accept each schema of a folder. If not, it prints the file, the version
+# of the subject, the direction, and the reason. It registers nothing.
 #
 #   examples/check-schemas.sh DIR URL
 #
@@ -10,41 +10,41 @@
 # A schema that a live version of its subject has is accepted. Any other is compared with the versions that the subject's
 # level names: all live ones for a TRANSITIVE level, none for NONE, else the latest.
 #
-# The lines `second opinion` are the reasons that python3-avro sees, if it is installed. It isn't the registry: avroreg's
-# verdict alone counts, and if the second opinion calls the schemas compatible, the line says so.
+# The lines `second opinion` are python3-avro's reasons, if it is installed. Only avroreg's verdict counts. If python3-avro calls
+# the schemas compatible, a line reports this.
 #
-# Status 0 if each schema would be accepted, 1 if one wouldn't, 2 if the registry can't be asked or there is nothing to ask
-# for, 64 for wrong arguments. curl takes a user and a password from ~/.netrc, and reads its own environment
-# (CURL_CA_BUNDLE, https_proxy). Needs curl and jq.
+# Status 0 if each schema would be accepted, 1 if one wouldn't. Status 2 if the registry doesn't respond or there is no schema,
+# 64 for wrong arguments. curl reads the user and the password from ~/.netrc, and its own environment (CURL_CA_BUNDLE,
+# https_proxy). Needs curl and jq.
 set -u
 why=$(cd "$(dirname "$0")" && pwd)/why.py
 scratch=$(mktemp -d)
 trap 'rm -rf "$scratch"' EXIT
 
-# unasked TEXT: ends without a verdict.
-unasked() {
+# stop TEXT: exits without a verdict.
+stop() {
   echo "check-schemas.sh: $*" >&2
   exit 2
 }
 
-# ask METHOD PATH [BODY]: a request; $status, $code and $answer are the response.
+# ask METHOD PATH [BODY]: sends a request. It sets $status, $code and $answer to the response's.
 ask() {
   answer=$(curl -sS --netrc-optional --max-time 60 -X "$1" -w '\n%{http_code}' -H 'Expect:' \
     -H 'Content-Type: application/vnd.schemaregistry.v1+json' ${3:+--data-binary @-} "$url$2" <<<"${3:-}") ||
-    unasked "$url gives no answer"
+    stop "$url doesn't respond"
   status=${answer##*$'\n'}
   answer=${answer%$'\n'*}
   code=$(jq -r '.error_code? // empty' <<<"$answer" 2>/dev/null)
 }
 
-# get MEMBER METHOD PATH [BODY]: the same, but any status except 200 ends the script; $found is a member of the response.
+# get MEMBER METHOD PATH [BODY]: the same, and exits if the status isn't 200. It sets $found to a member of the response.
 get() {
   ask "${@:2}"
-  [ "$status" = 200 ] || unasked "$url$3 answers $status: $answer"
-  found=$(jq -r "$1" <<<"$answer") || unasked "$url$3 answers no JSON: $answer"
+  [ "$status" = 200 ] || stop "$url$3 answers $status: $answer"
+  found=$(jq -r "$1" <<<"$answer") || stop "$url$3 answers no JSON: $answer"
 }
 
-# opinion READER WRITER DIRECTION: prints python3-avro's reasons for two files, each line marked. Status 1 if it has none.
+# opinion READER WRITER DIRECTION: prints python3-avro's reasons for two files, with a mark. Status 1 if it has none.
 opinion() {
   local lines status
   lines=$(timeout 20 /usr/bin/python3 "$why" "$scratch/$1" "$scratch/$2" 2>&1)
@@ -54,7 +54,7 @@ opinion() {
   sed "s/^/    second opinion, $3: /" <<<"$lines"
 }
 
-# explain VERSION: the second opinion on a version and the schema in $path, in the directions of $level.
+# explain VERSION: prints the second opinion on a version and the schema in $path, in the directions of $level.
 explain() {
   local silent=1
   /usr/bin/python3 -c 'import avro.compatibility' 2>/dev/null || {
@@ -92,12 +92,12 @@ compare() {
   return "$against"
 }
 
-# check FILE: whether the registry would accept its schema.
+# check FILE: checks whether the registry would accept the file's schema.
 check() {
   local file=${1##*/} subject quoted body
   subject=$(sed 's/%2F/\//g; s/%25/%/g' <<<"${file%.avsc}")
   quoted=$(jq -rn --arg name "$subject" '$name | @uri')
-  body=$(jq -Rsc '{schema: .}' "$1") || unasked "$1 can't be read"
+  body=$(jq -Rsc '{schema: .}' "$1") || stop "$1 can't be read"
   ask POST "/subjects/$quoted" "$body"
   case $status/$code in
   200/*) echo "$file: version $(jq .version <<<"$answer") of $subject has it" ;;
@@ -107,7 +107,7 @@ check() {
     echo "$file: not a schema that the registry accepts"
     return 1
     ;;
-  *) unasked "$url/subjects/$quoted answers $status: $answer" ;;
+  *) stop "$url/subjects/$quoted answers $status: $answer" ;;
   esac
 }
 
@@ -116,14 +116,14 @@ check() {
   exit 64
 }
 for command in curl jq; do
-  command -v "$command" >/dev/null || unasked "there is no $command here"
+  command -v "$command" >/dev/null || stop "there is no $command here"
 done
 shopt -s nullglob
 url=${2%/}
 files=("$1"/*.avsc)
-[ ${#files[@]} != 0 ] || unasked "no .avsc in $1"
-refused=0
+[ ${#files[@]} != 0 ] || stop "no .avsc in $1"
+rejected=0
 for path in "${files[@]}"; do
-  check "$path" || refused=1
+  check "$path" || rejected=1
 done
-exit "$refused"
+exit "$rejected"

@@ -1,11 +1,10 @@
 #!/usr/bin/env bash
-# What a new user does first: a level, versions, a refusal, repeats with a retry key, a kill, a freeze, a
-# listing, SQL, a layout, an audit.
-# Prints each request and its answer, and ends with status 0 where each is as written here, else at the first
-# that isn't.
+# A new user's first hour: a level, versions, a rejection, retries with a retry key, a kill, a read-only subject, a listing,
+# SQL, a layout, an audit. It prints each request and its response. The status is 0 if each response is the expected one. The
+# script ends at the first other one.
 #
 #   AVROREG=PROGRAM examples/first-hour.sh
-#   LEVEL=NONE AVROREG=PROGRAM examples/first-hour.sh      shows how a difference is told: NONE refuses nothing
+#   LEVEL=NONE AVROREG=PROGRAM examples/first-hour.sh      shows the report of a difference: NONE rejects nothing
 set -u
 source "$(dirname "$0")/serving.sh"
 need curl sqlite3
@@ -13,7 +12,7 @@ file=$scratch/first-hour.db
 level=${LEVEL:-FULL}
 step=0
 
-# The schemas of a topic of orders: the first, one with a field more that has a default, one whose field has none.
+# The schemas of a topic of orders: the first one, one with a new field with a default, one with a new field without.
 first='{"schema":"{\"type\":\"record\",\"name\":\"Order\",\"fields\":[{\"name\":\"id\",\"type\":\"long\"}]}"}'
 second='{"schema":"{\"type\":\"record\",\"name\":\"Order\",\"fields\":[{\"name\":\"id\",\"type\":\"long\"},{\"name\":\"note\",\"type\":\"string\",\"default\":\"\"}]}"}'
 third='{"schema":"{\"type\":\"record\",\"name\":\"Order\",\"fields\":[{\"name\":\"id\",\"type\":\"long\"},{\"name\":\"total\",\"type\":\"double\"}]}"}'
@@ -23,30 +22,30 @@ title() {
   printf '\n%d. %s\n' "$step" "$1"
 }
 
-# same WANTED FOUND: ends the script where they differ.
+# same WANTED FOUND: ends the script if they differ.
 same() {
-  [ "$1" = "$2" ] || fail "step $step differs. Written here: $1. Found: $2"
+  [ "$1" = "$2" ] || fail "step $step differs. Expected: $1. Found: $2"
 }
 
-# request KEY METHOD PATH BODY STATUS ANSWER: sends a request, prints it and its answer, and compares.
+# request KEY METHOD PATH BODY STATUS RESPONSE: sends a request, prints it and its response, and compares.
 request() {
-  local words=(-sS -X "$2" -w '\n%{http_code}' "$url$3") found
+  local arguments=(-sS -X "$2" -w '\n%{http_code}' "$url$3") found
   printf '   %s %s\n' "$2" "$3"
   if [ -n "$1" ]; then
-    words+=(-H "$key_field: $1")
+    arguments+=(-H "$key_field: $1")
     printf '   %s: %s\n' "$key_field" "$1"
   fi
   if [ -n "$4" ]; then
-    words+=(-d "$4")
+    arguments+=(-d "$4")
     printf '   %s\n' "$4"
   fi
-  found=$(curl "${words[@]}") || fail "step $step got no answer"
+  found=$(curl "${arguments[@]}") || fail "step $step got no response"
   found="${found##*$'\n'} ${found%$'\n'*}"
   printf '   -> %s\n' "$found"
   same "$5 $6" "$found"
 }
 
-# ending STATUS WANTED COMMAND..: prints a command and its output, and compares both.
+# ending STATUS WANTED COMMAND..: runs a command, prints it and its output, and compares its status and output.
 ending() {
   local status=$1 wanted=$2 found
   shift 2
@@ -57,12 +56,12 @@ ending() {
   same "$wanted" "$found"
 }
 
-# output WANTED COMMAND..: the same of a command that succeeds.
+# output WANTED COMMAND..: the same, with status 0.
 output() {
   ending 0 "$@"
 }
 
-title "A server on a file that isn't there yet"
+title "The server creates a new file"
 start_server "$file"
 printf '   avroreg serve --db %s --port %s\n' "$file" "${url##*:}"
 request '' GET /subjects '' 200 '[]'
@@ -76,22 +75,22 @@ request '' POST /subjects/orders-value/versions "$first" 200 '{"id":1}'
 title "A second one, with a retry key, becomes version 2"
 request orders-2 POST /subjects/orders-value/versions "$second" 200 '{"id":2}'
 
-title "A third one is refused: it has a new field without a default, which no written order has"
+title "A third one is rejected: its new field has no default, and no existing order has the field"
 request '' POST /subjects/orders-value/versions "$third" 409 \
   '{"error_code":409,"message":"Schema is incompatible with an earlier version"}'
 
-title "Version 2 is taken back"
+title "Version 2 is deleted, softly"
 request '' DELETE /subjects/orders-value/versions/2 '' 200 2
 
-title "Step 4 comes once more, as from a network that repeats: it gets its first answer and acts no second time"
+title "The request of step 4 is retried: it gets its first response, and isn't applied a second time"
 request orders-2 POST /subjects/orders-value/versions "$second" 200 '{"id":2}'
 request '' GET /subjects/orders-value/versions '' 200 '[1]'
 
-title "The key with another request is refused"
+title "The same key with another request is rejected"
 request orders-2 POST /subjects/orders-value/versions "$first" 422 \
   '{"error_code":42290,"message":"Retry key was used for another request"}'
 
-title "The server is killed with -9 and started again; the repeat still acts no second time"
+title "The server is killed with -9 and started again: the retry still isn't applied a second time"
 stop_server KILL
 start_server "$file"
 request orders-2 POST /subjects/orders-value/versions "$second" 200 '{"id":2}'
@@ -101,14 +100,14 @@ title "Without the key it is a new request: the schema keeps its id and becomes 
 request '' POST /subjects/orders-value/versions "$second" 200 '{"id":2}'
 request '' GET /subjects/orders-value/versions '' 200 '[1,3]'
 
-title "The subject is frozen: a write under it is refused, and that is kept for its key"
+title "The subject becomes read-only: a write to it is rejected, and its key keeps this response"
 request '' PUT /mode/orders-value '{"mode":"READONLY"}' 200 '{"mode":"READONLY"}'
-request frozen-1 PUT /config/orders-value "{\"compatibility\":\"$level\"}" 422 \
+request readonly-1 PUT /config/orders-value "{\"compatibility\":\"$level\"}" 422 \
   '{"error_code":42205,"message":"Operation not permitted"}'
 
-title "It thaws: the key still gets its first answer, and without it the write acts"
+title "The subject becomes writable: the key still gets its first response; without the key the write is applied"
 request '' PUT /mode/orders-value '{"mode":"READWRITE"}' 200 '{"mode":"READWRITE"}'
-request frozen-1 PUT /config/orders-value "{\"compatibility\":\"$level\"}" 422 \
+request readonly-1 PUT /config/orders-value "{\"compatibility\":\"$level\"}" 422 \
   '{"error_code":42205,"message":"Operation not permitted"}'
 request '' PUT /config/orders-value "{\"compatibility\":\"$level\"}" 200 "{\"compatibility\":\"$level\"}"
 
@@ -122,13 +121,13 @@ orders-value,3,2,false' "$avroreg" list --db "$file" versions
 title "The file is a SQLite database"
 output "orders-value|$level" sqlite3 "$file" 'SELECT subject, level FROM levels'
 output 'orders-2|200|{"id":2}
-frozen-1|422|{"error_code":42205,"message":"Operation not permitted"}' sqlite3 "$file" 'SELECT key, status, body FROM kept ORDER BY rowid'
+readonly-1|422|{"error_code":42205,"message":"Operation not permitted"}' sqlite3 "$file" 'SELECT key, status, body FROM kept ORDER BY rowid'
 output 'ok' sqlite3 "$file" 'PRAGMA integrity_check'
 
-title "It has this program's layout, to which a file of an earlier program is moved"
+title "It has this program's layout; migrate would migrate the file of an earlier program"
 output 'layout 2: nothing to do' "$avroreg" migrate --db "$file"
 
-title "Each version carries why it was let in: the level then, and the ids that it was compared with"
+title "Each version has the evidence of its acceptance: the level, and the ids that it was compared with"
 start_server "$file"
 request '' PUT /config/counts-value '{"compatibility":"BACKWARD"}' 200 '{"compatibility":"BACKWARD"}'
 request '' POST /subjects/counts-value/versions '{"schema":"\"int\""}' 200 '{"id":3}'
@@ -140,9 +139,9 @@ orders-value|3|$level|1
 counts-value|1|BACKWARD|
 counts-value|2|BACKWARD|3" sqlite3 "$file" 'SELECT e.subject, e.version, e.level, a.id FROM evidence AS e LEFT JOIN against AS a USING (subject, version) ORDER BY e.rowid'
 
-title "An audit reads each stored pair again and resolves it; what somebody writes past the program, it finds"
+title "An audit checks each stored pair again. It detects evidence that another program made false"
 output 'evidence holds' "$avroreg" audit --db "$file"
 output '' sqlite3 "$file" "UPDATE evidence SET level = 'FORWARD' WHERE subject = 'counts-value' AND version = 2"
 ending 1 'evidence does not hold' "$avroreg" audit --db "$file"
 
-printf '\nAll %d steps went as written.\n' "$step"
+printf '\nAll %d steps passed.\n' "$step"

@@ -4,13 +4,13 @@
     python3 examples/from-confluent.py [options] FROM TO
     python3 examples/from-confluent.py --dry-run https://registry.example.org http://127.0.0.1:8081
 
-FROM is a running registry that answers as Confluent's does, or avroreg, which copies a registry in use. It is only read.
-TO is an avroreg with a new file. This needs only Python's standard library.
+FROM is a running registry with Confluent's REST interface, or a running avroreg. The script only reads it. TO is an avroreg
+with a new file. The script needs only Python's standard library.
 
 It reads FROM until two readings in a row are equal. If FROM lists its schemas (GET /schemas), a reading takes one request
-for 1,000 versions and two for each subject; otherwise it also takes one for each version. Nothing is written before it is
-known that everything can be. A subject keeps its version numbers, and a schema its id. If something can't be copied
-unchanged, this says what, and writes nothing until an option says how to continue:
+for 1,000 versions and two for each subject; otherwise it also takes one for each version. It writes nothing before it knows
+that it can copy everything. A subject keeps its version numbers, and a schema its id. If something can't be copied
+unchanged, it prints the reason, and writes nothing without an option that says how to continue:
 
   --skip           leaves out what avroreg doesn't accept: other types than Avro, references, metadata, rule sets, schemas
                    that avroreg rejects (such as one with a non-integer number), a second live version with the schema of
@@ -25,29 +25,29 @@ unchanged, this says what, and writes nothing until an option says how to contin
   --without-modes  leaves out modes that avroreg doesn't have, such as IMPORT: a subject with such a mode gets none of its
                    own. If the global mode is one, the global mode of TO is READWRITE.
 
-avroreg gives numbers and ids in order. A gap in the version numbers is made by what makes one: the next schema is
-registered, soft-deleted and registered again, and the first one is deleted permanently. Versions are written under the
-level NONE; levels and modes come last. At the end this reads TO and compares it with what it has to hold.
+avroreg gives numbers and ids in order. To make a gap in the version numbers, the script registers the next schema, deletes
+it softly and registers it again. Later it deletes the first one permanently. It writes versions under the level NONE, and
+sets levels and modes last. At the end it reads TO, and compares it with the expected contents.
 
-Before it writes, it says how many writes it takes. On a terminal a bar shows how far it is and how long the rest takes.
-A request that gets 429 or 5xx is repeated, after the time that Retry-After asks for but at most a minute, until --patience
-is used up. A request without any response is sent six times.
+Before it writes, it prints the number of writes. On a terminal a bar shows the progress and the remaining time. It repeats
+a request that gets 429 or 5xx until --patience is used up. It waits as long as Retry-After says, but at most a minute. It
+sends a request without any response six times.
 
 Every write has a retry key, made of FROM, subject, version, step and the name of the run. So if this was interrupted, run
 it again with the same arguments: a write that was applied gets its response again and changes nothing. If FROM has
-changed since, or the options differ, take another new file.
+changed since, or the options differ, use another new file.
 
-If somebody writes to FROM, its state at one moment is copied, and later writes aren't: stop the writers first, or set
-FROM's mode to READONLY. The mode is copied too: set TO's to READWRITE afterwards. HTTP doesn't show these, so they aren't
-copied: levels and modes of subjects without versions, replies kept for retry keys, schemas that no version has, and how
-many ids were given after the last visible one.
+If somebody writes to FROM, the script copies its state at one moment, without later writes. So stop the writers first, or
+set FROM's mode to READONLY. The mode is copied too: set TO's to READWRITE afterwards. HTTP doesn't return some things, so
+they aren't copied: levels and modes of subjects without versions, kept replies of retry keys, and schemas that no version
+has. Nor is the number of ids after the last visible one.
 
 Passwords come from the environment: FROM_PASSWORD for --from-user, TO_PASSWORD for --to-user.
 
 Status: 0  everything is copied, or with --dry-run: can be
-        1  it can't be copied so: each reason, and the option to use; nothing was written
+        1  it can't be copied with these options; it prints the reasons and the options to use, and writes nothing
         2  a registry can't be read, or FROM keeps changing; run it again
-        3  TO gave another response than expected, or differs at the end: take a new file
+        3  TO gave another response than expected, or differs at the end: use a new file
         64 wrong arguments
 """
 from __future__ import annotations
@@ -71,21 +71,21 @@ from dataclasses import dataclass, field, replace
 
 LEVELS = {"NONE", "BACKWARD", "FORWARD", "FULL", "BACKWARD_TRANSITIVE", "FORWARD_TRANSITIVE", "FULL_TRANSITIVE"}
 MODES = {"READWRITE", "READONLY"}
-NO_LEVEL = {"compatibility": "no level"}  # which is refused, so a command that changes nothing
+NO_LEVEL = {"compatibility": "no level"}  # an invalid level: avroreg rejects it, so the command changes nothing
 PAUSES = [0.1, 0.3, 1, 3, 5]  # seconds before a request is repeated; after that LONGEST_PAUSE
 LONGEST_PAUSE = 60  # seconds, even if Retry-After asks for more
-PATIENCE = 600  # seconds for which a request is repeated that gets one of the next statuses
+PATIENCE = 600  # seconds for which a request with one of the next statuses is repeated
 BUSY = {429, 500, 502, 503, 504}
-PAGE = 1000  # versions that are listed by one request
+PAGE = 1000  # versions in the list of one request
 READINGS = 5  # of FROM, until two in a row are equal
-BODY = 1_048_576  # bytes of a request's body that avroreg takes
-MOST = 1_000_000  # unused numbers in front of a version, and unused ids in all, that are made
+BODY = 1_048_576  # the most bytes of a request's body that avroreg accepts
+MOST = 1_000_000  # the most unused numbers before a version, and the most unused ids in all
 SKIP, FILL, USED, NEW, MODELESS = "--skip", "--fill-ids", "--used-ids", "--new-ids", "--without-modes"
-CANNOT, UNASKED, DIFFERS, USAGE = 1, 2, 3, 64
+CANNOT, UNREADABLE, DIFFERS, USAGE = 1, 2, 3, 64
 
 
 class Stop(Exception):
-    """Ends the program with a status and what there is to say."""
+    """Ends the program with a status and a message."""
 
     def __init__(self, status: int, text: str):
         super().__init__(text)
@@ -93,10 +93,10 @@ class Stop(Exception):
 
 
 class Changed(Stop):
-    """The registry changed while it was read."""
+    """The registry changed during a reading."""
 
     def __init__(self, where: str):
-        super().__init__(UNASKED, f"{where} changed while it was read")
+        super().__init__(UNREADABLE, f"{where} changed while it was read")
 
 
 # Progress
@@ -109,7 +109,7 @@ def clock(seconds: float) -> str:
 
 
 class Progress:
-    """Says how far a task is: on a terminal by a bar in one line, otherwise by a new line after every `every` steps."""
+    """Prints the progress of a task: on a terminal as a bar in one line, otherwise as a new line after every `every` steps."""
 
     current: Progress | None = None
 
@@ -148,7 +148,7 @@ class Progress:
         print(f"\r\x1b[K{(bar + text)[:width]}", end="", flush=True)
 
     def end(self):
-        """Leaves the last state as a line."""
+        """Ends the line of the bar."""
         if Progress.current is self:
             Progress.current = None
             if self.is_terminal and self.total:
@@ -161,8 +161,8 @@ class Progress:
         self.end()
 
 
-def say_wait(server: str, problem: object, pause: float):
-    """Says why nothing happens for a while."""
+def print_pause(server: str, problem: object, pause: float):
+    """Prints the reason of a pause."""
     if Progress.current and Progress.current.is_terminal:
         Progress.current.draw(f", {problem}, again in {clock(pause)}")
     elif pause >= 1:
@@ -180,7 +180,7 @@ class Answer:
 
     @property
     def code(self):
-        """The `error_code` of a fault."""
+        """The `error_code` of an error."""
         return self.value.get("error_code") if isinstance(self.value, dict) else None
 
     def __str__(self):
@@ -188,7 +188,7 @@ class Answer:
 
 
 def pause_of(retry_after: str | None) -> float | None:
-    """The seconds that a Retry-After field asks for: it has a number of them, or a date."""
+    """The seconds of a Retry-After field, which has a number of seconds or a date."""
     if retry_after is None:
         return None
     if retry_after.strip().isdecimal():
@@ -200,7 +200,7 @@ def pause_of(retry_after: str | None) -> float | None:
 
 
 class Server:
-    """A registry, and the connection to it, which is kept."""
+    """A registry, with a kept connection to it."""
 
     def __init__(self, url: str, user: str | None, password: str | None, authority: str | None, patience: float):
         parts = urllib.parse.urlsplit(url)
@@ -215,14 +215,14 @@ class Server:
             self.connection = http.client.HTTPConnection(parts.hostname, parts.port, timeout=60)
 
     def ask(self, method: str, path: str, body: object = None, key: str | None = None) -> Answer:
-        """The response. The request is repeated if none comes, or if the server is busy. A write has a key, so a repeated
-        one is applied exactly once."""
+        """Sends a request, and returns the response. Repeats the request if there is no response, or if the server is busy. A
+        write has a key, so a repeated write is applied exactly once."""
         end, silences = time.monotonic() + self.patience, 0
         for pause in itertools.chain(PAUSES, itertools.repeat(LONGEST_PAUSE)):
             try:
-                answer = self.once(method, path, body, key)
+                answer = self.send_once(method, path, body, key)
             except ssl.SSLCertVerificationError as fault:
-                raise Stop(UNASKED, f"{self.url}: {fault}") from fault
+                raise Stop(UNREADABLE, f"{self.url}: {fault}") from fault
             except (OSError, http.client.HTTPException, ValueError) as fault:
                 self.connection.close()
                 problem = reason = f"{type(fault).__name__}: {fault}"
@@ -236,11 +236,11 @@ class Server:
                     pause = min(max(wish, PAUSES[0]), LONGEST_PAUSE)
             if silences > len(PAUSES) or time.monotonic() + pause > end:
                 break
-            say_wait(self.url, reason, pause)
+            print_pause(self.url, reason, pause)
             time.sleep(pause)
-        raise Stop(UNASKED, f"{self.url}{path}: {problem}")
+        raise Stop(UNREADABLE, f"{self.url}{path}: {problem}")
 
-    def once(self, method: str, path: str, body: object, key: str | None) -> Answer:
+    def send_once(self, method: str, path: str, body: object, key: str | None) -> Answer:
         fields = dict(self.fields)
         if key:
             fields["Registry-Retry-Key"] = key
@@ -257,25 +257,25 @@ class Server:
             return Answer(answer.status, data.decode(errors="replace"), retry_after)
 
     def find(self, path: str) -> object:
-        """What a path shows, or None where the registry says that there is no such thing."""
+        """The JSON at a path, or None if the registry returns 404 with an error code."""
         answer = self.ask("GET", path)
         if answer.status == 404 and answer.code is not None:
             return None
         if answer.status != 200 or isinstance(answer.value, str):
-            raise Stop(UNASKED, f"{self.url}{path}: {answer}")
+            raise Stop(UNREADABLE, f"{self.url}{path}: {answer}")
         return answer.value
 
     def get(self, path: str) -> object:
         found = self.find(path)
         if found is None:
-            raise Stop(UNASKED, f"{self.url}{path}: 404")
+            raise Stop(UNREADABLE, f"{self.url}{path}: 404")
         return found
 
     def offers(self, path: str) -> bool:
-        """Whether the registry has this path, which not all have. 422 is the response of avroreg behind its nginx."""
+        """Whether the registry has this path. avroreg behind its nginx returns 422 for a path with a rejected parameter."""
         answer = self.ask("GET", path)
         if answer.status not in (200, 404, 405, 422):
-            raise Stop(UNASKED, f"{self.url}{path}: {answer}")
+            raise Stop(UNREADABLE, f"{self.url}{path}: {answer}")
         return answer.status == 200
 
 
@@ -283,12 +283,12 @@ def body_of(value: object) -> bytes:
     return json.dumps(value, ensure_ascii=False).encode()
 
 
-def quoted(name: str) -> str:
+def quote(name: str) -> str:
     return urllib.parse.quote(name, safe="")
 
 
 def versions_of(name: str) -> str:
-    return f"/subjects/{quoted(name)}/versions"
+    return f"/subjects/{quote(name)}/versions"
 
 
 # Reading
@@ -300,7 +300,7 @@ class Version:
     id: int
     text: str
     deleted: bool = False
-    more: tuple[str, ...] = ()  # what it has that avroreg doesn't take
+    more: tuple[str, ...] = ()  # its attributes that avroreg doesn't accept
 
 
 @dataclass(frozen=True)
@@ -309,14 +309,14 @@ class Subject:
     level: str | None = None
     mode: str | None = None
     more: tuple[str, ...] = ()
-    context: bool = False  # whether it is one of a context
+    context: bool = False  # whether it is in a context
 
 
 @dataclass(frozen=True)
 class Registry:
     subjects: dict[str, Subject]
     level: str
-    mode: str | None  # None where it doesn't tell modes
+    mode: str | None  # None if the registry has no modes
     more: tuple[str, ...] = ()
 
     def versions(self) -> Iterator[tuple[str, Version]]:
@@ -346,12 +346,12 @@ def version_of(shown: dict, deleted: bool) -> Version:
 
 
 def list_path(deleted: bool, offset: int, limit: int) -> str:
-    """A page of all versions in all contexts."""
+    """The path of a page of all versions in all contexts."""
     query = {"subjectPrefix": ":*:", "deleted": str(deleted).lower(), "offset": offset, "limit": limit}
     return "/schemas?" + urllib.parse.urlencode(query)
 
 
-def listed(server: Server, deleted: bool) -> dict[str, dict[int, dict]] | None:
+def list_versions(server: Server, deleted: bool) -> dict[str, dict[int, dict]] | None:
     """All versions by subject and number, read page by page. None if the registry ignores the offset."""
     found: dict[str, dict[int, dict]] = {}
     offset = 0
@@ -368,11 +368,11 @@ def listed(server: Server, deleted: bool) -> dict[str, dict[int, dict]] | None:
 
 
 def read_list(server: Server) -> dict[str, tuple[Version, ...]]:
-    """The versions of each subject, read in bulk; none if the registry can't list them."""
+    """The versions of each subject, read in pages. Empty if the registry can't list them."""
     if not server.offers(list_path(True, 0, 1)):
         return {}
-    every = listed(server, True)
-    live = listed(server, False) if every else None
+    every = list_versions(server, True)
+    live = list_versions(server, False) if every else None
     if every is None or live is None:
         return {}
     return {name: tuple(version_of(versions[number], number not in live.get(name, {})) for number in sorted(versions))
@@ -380,7 +380,7 @@ def read_list(server: Server) -> dict[str, tuple[Version, ...]]:
 
 
 def read_versions(server: Server, name: str) -> tuple[Version, ...]:
-    """The versions of a subject, each by a request of its own."""
+    """The versions of a subject, read with one request for each."""
     live = set(server.find(versions_of(name)) or [])
     found = []
     for number in sorted(server.find(f"{versions_of(name)}?deleted=true") or []):
@@ -394,8 +394,8 @@ def read_versions(server: Server, name: str) -> tuple[Version, ...]:
 def read_subject(server: Server, name: str, versions: tuple[Version, ...] | None, modes: bool, contexts: bool) -> Subject:
     if versions is None:
         versions = read_versions(server, name)
-    level = server.find(f"/config/{quoted(name)}")
-    mode = server.find(f"/mode/{quoted(name)}") if modes else None
+    level = server.find(f"/config/{quote(name)}")
+    mode = server.find(f"/mode/{quote(name)}") if modes else None
     return Subject(versions, level and level["compatibilityLevel"], mode and mode["mode"], more_of_level(level),
                    contexts and name.startswith(":."))
 
@@ -412,7 +412,7 @@ def read(server: Server) -> Registry:
 
 
 def read_at_one_moment(server: Server) -> Registry:
-    """The registry as two readings in a row say that it is: so it was at each moment between them."""
+    """Reads the registry until two readings in a row are equal. So it had these contents at each moment between them."""
     last = None
     for _ in range(READINGS):
         try:
@@ -420,14 +420,14 @@ def read_at_one_moment(server: Server) -> Registry:
         except Changed:
             found = None
         except (KeyError, TypeError) as fault:
-            raise Stop(UNASKED, f"{server.url} gave a response of an unknown form: {fault!r}") from fault
+            raise Stop(UNREADABLE, f"{server.url} gave a response of an unknown form: {fault!r}") from fault
         if found is not None and found == last:
             return found
         last = found
-    raise Stop(UNASKED, f"{server.url} keeps changing: stop its writers, or set its mode to READONLY")
+    raise Stop(UNREADABLE, f"{server.url} keeps changing: stop its writers, or set its mode to READONLY")
 
 
-# The identity text of a schema, by docs/avro-registry-profile.md. It is known to be one, since the target has taken it.
+# The identity text of a schema, by docs/avro-registry-profile.md. The schema is valid, since the target has accepted it.
 
 PRIMITIVES = {"null", "boolean", "int", "long", "float", "double", "bytes", "string"}
 
@@ -440,13 +440,13 @@ def in_space(name: str, space: str) -> str:
     return name if "." in name or not space else f"{space}.{name}"
 
 
-def plain_reference(name: str, space: str, known: set[str]) -> str:
+def canonical_reference(name: str, space: str, known: set[str]) -> str:
     full = in_space(name, space)
     return full if full in known else name
 
 
-def plain_field(member: dict, space: str, known: set[str]) -> dict:
-    found = {**member, "type": plain(member["type"], space, known)}
+def canonical_field(member: dict, space: str, known: set[str]) -> dict:
+    found = {**member, "type": canonical(member["type"], space, known)}
     if found.get("aliases") == []:
         del found["aliases"]
     if found.get("order") == "ascending":
@@ -454,7 +454,7 @@ def plain_field(member: dict, space: str, known: set[str]) -> dict:
     return found
 
 
-def plain_definition(schema: dict, outer: str, known: set[str]) -> dict:
+def canonical_definition(schema: dict, outer: str, known: set[str]) -> dict:
     full = in_space(schema["name"], schema.get("namespace", outer))
     space = full.rpartition(".")[0]
     known.add(full)
@@ -466,26 +466,26 @@ def plain_definition(schema: dict, outer: str, known: set[str]) -> dict:
     if not found["aliases"]:
         del found["aliases"]
     if schema["type"] == "record":
-        found["fields"] = [plain_field(member, space, known) for member in schema["fields"]]
+        found["fields"] = [canonical_field(member, space, known) for member in schema["fields"]]
     return found
 
 
-def plain(schema: object, space: str, known: set[str]) -> object:
+def canonical(schema: object, space: str, known: set[str]) -> object:
     if isinstance(schema, list):
-        return [plain(branch, space, known) for branch in schema]
+        return [canonical(branch, space, known) for branch in schema]
     kind = schema if isinstance(schema, str) else schema["type"]
     if kind in PRIMITIVES:
         return kind if schema == kind or len(schema) == 1 else schema
     if kind in ("record", "enum", "fixed") and kind is not schema:
-        return plain_definition(schema, space, known)
+        return canonical_definition(schema, space, known)
     if kind in ("array", "map") and kind is not schema:
         inner = "items" if kind == "array" else "values"
-        return {**schema, inner: plain(schema[inner], space, known)}
-    return plain_reference(kind, space, known)
+        return {**schema, inner: canonical(schema[inner], space, known)}
+    return canonical_reference(kind, space, known)
 
 
 def identity(text: str) -> str:
-    return compact(plain(json.loads(text, parse_float=lambda number: int(number.partition(".")[0])), "", set()))
+    return compact(canonical(json.loads(text, parse_float=lambda number: int(number.partition(".")[0])), "", set()))
 
 
 # Planning
@@ -493,7 +493,7 @@ def identity(text: str) -> str:
 
 @dataclass(frozen=True)
 class Trouble:
-    """What can't be copied unchanged, and the option with which the rest can."""
+    """Something that can't be copied unchanged, and the option with which the rest can be copied."""
     flag: str
     where: str
     what: str
@@ -501,9 +501,9 @@ class Trouble:
 
 @dataclass(frozen=True)
 class Step:
-    """A write, and the answer that it has to get."""
+    """A write, and the expected response."""
     subject: str
-    version: int  # 0 where it is of none
+    version: int  # 0 if the write is of no version
     name: str
     method: str
     path: str
@@ -519,10 +519,10 @@ class Step:
 class Plan:
     steps: list[Step] = field(default_factory=list)
     troubles: list[Trouble] = field(default_factory=list)
-    spelt: dict[str, str] = field(default_factory=dict)  # by identity text, a text as the source has it
+    source_texts: dict[str, str] = field(default_factory=dict)  # by identity text, the source's text
     renumbered: dict[int, int] = field(default_factory=dict)
-    fillers: int = 0  # writes that use up an id, or give one early
-    wanted: Registry | None = None  # what the target holds at the end
+    fillers: int = 0  # writes that use up an id, or assign it early
+    wanted: Registry | None = None  # the target's expected contents
 
     def trouble(self, flag: str, where: str, what: str):
         self.troubles.append(Trouble(flag, where, what))
@@ -531,7 +531,7 @@ class Plan:
         self.steps.append(Step(*members))
 
     def register(self, name: str, number: int, text: str, identifier: int):
-        body = {"schema": self.spelt.get(text, text)}
+        body = {"schema": self.source_texts.get(text, text)}
         self.step(name, number, "register", "POST", versions_of(name), body, {"id": identifier})
 
     def delete(self, name: str, number: int):
@@ -542,51 +542,51 @@ class Plan:
 
     def remove_subject(self, name: str, count: int):
         numbers = list(range(1, count + 1))
-        self.step(name, 0, "delete", "DELETE", f"/subjects/{quoted(name)}", None, numbers)
-        self.step(name, 0, "remove", "DELETE", f"/subjects/{quoted(name)}?permanent=true", None, numbers)
+        self.step(name, 0, "delete", "DELETE", f"/subjects/{quote(name)}", None, numbers)
+        self.step(name, 0, "remove", "DELETE", f"/subjects/{quote(name)}?permanent=true", None, numbers)
 
     def put(self, kind: str, name: str, member: str, value: str):
-        path = f"/{kind}/{quoted(name)}" if name else f"/{kind}"
+        path = f"/{kind}/{quote(name)}" if name else f"/{kind}"
         self.step(name, 0, kind, "PUT", path, {member: value}, {member: value})
 
 
 def spare_subject(registry: Registry) -> str:
-    """A subject that the registry doesn't have."""
+    """A subject name that the registry doesn't have."""
     name = "from-confluent"
     while name in registry.subjects:
         name += "-"
     return name
 
 
-def refusals(target: Server, registry: Registry, spare: str) -> dict[str, str]:
-    """What the target says to each text that it doesn't take, asked by the check of a schema, which writes nothing."""
-    refused = {}
+def rejections(target: Server, registry: Registry, spare: str) -> dict[str, str]:
+    """The target's errors for the texts that it rejects. A compatibility check finds them, and writes nothing."""
+    rejected = {}
     for text in sorted({version.text for _, version in registry.versions() if not version.more}):
         if len(body_of({"schema": text})) > BODY:
-            refused[text] = f"takes a request of more than {BODY:,} bytes"
+            rejected[text] = f"takes a request of more than {BODY:,} bytes"
             continue
         answer = target.ask("POST", f"/compatibility{versions_of(spare)}", {"schema": text})
         if answer.status in (400, 413, 422):
-            refused[text] = f"avroreg answers {answer}"
+            rejected[text] = f"avroreg answers {answer}"
         elif answer.status != 200:
-            raise Stop(UNASKED, f"{target.url}: the check of a schema is answered {answer}")
-    return refused
+            raise Stop(UNREADABLE, f"{target.url}: the check of a schema got {answer}")
+    return rejected
 
 
 def is_subject(name: str) -> bool:
     return 1 <= len(name.encode()) <= 255 and all(letter >= " " and letter != "\x7f" for letter in name)
 
 
-def taken_versions(plan: Plan, name: str, subject: Subject, refused: dict[str, str]) -> Iterator[Version]:
-    """The versions that can be copied, by their identity texts."""
+def copyable_versions(plan: Plan, name: str, subject: Subject, rejected: dict[str, str]) -> Iterator[Version]:
+    """The versions that can be copied, with their identity texts."""
     live, last = {}, 0
     for version in subject.versions:
         against = list(version.more)
-        if version.text in refused:
-            against.append(refused[version.text])
+        if version.text in rejected:
+            against.append(rejected[version.text])
         if not against:
-            spelt, version = version.text, replace(version, text=identity(version.text))
-            plan.spelt.setdefault(version.text, spelt)
+            source_text, version = version.text, replace(version, text=identity(version.text))
+            plan.source_texts.setdefault(version.text, source_text)
             if version.text in live:
                 against.append(f"has the schema of version {live[version.text]}, which is live")
         if version.number - last > MOST:
@@ -600,7 +600,7 @@ def taken_versions(plan: Plan, name: str, subject: Subject, refused: dict[str, s
         yield version
 
 
-def taken_level(plan: Plan, where: str, level: str | None, more: tuple[str, ...]) -> str | None:
+def copyable_level(plan: Plan, where: str, level: str | None, more: tuple[str, ...]) -> str | None:
     for member in more:
         plan.trouble(SKIP, where, f"has {member} in addition to its level")
     if level is None or level in LEVELS:
@@ -609,30 +609,30 @@ def taken_level(plan: Plan, where: str, level: str | None, more: tuple[str, ...]
     return None
 
 
-def taken_mode(plan: Plan, where: str, mode: str | None) -> str | None:
+def copyable_mode(plan: Plan, where: str, mode: str | None) -> str | None:
     if mode is None or mode in MODES:
         return mode
     plan.trouble(MODELESS, where, f"has the mode {mode}")
     return None
 
 
-def taken(plan: Plan, registry: Registry, refused: dict[str, str]) -> Registry:
-    """What of a registry can be copied, by identity texts."""
+def copyable(plan: Plan, registry: Registry, rejected: dict[str, str]) -> Registry:
+    """The part of a registry that can be copied, with identity texts."""
     subjects = {}
     for name, subject in registry.subjects.items():
         if subject.context or not is_subject(name):
             plan.trouble(SKIP, name, "is in a context" if subject.context else "is too long, or has control characters")
             continue
-        versions = tuple(taken_versions(plan, name, subject, refused))
+        versions = tuple(copyable_versions(plan, name, subject, rejected))
         if versions:
-            level = taken_level(plan, name, subject.level, subject.more)
-            subjects[name] = Subject(versions, level, taken_mode(plan, name, subject.mode))
-    level = taken_level(plan, "The registry", registry.level, registry.more) or "BACKWARD"
-    return Registry(subjects, level, taken_mode(plan, "The registry", registry.mode) or "READWRITE")
+            level = copyable_level(plan, name, subject.level, subject.more)
+            subjects[name] = Subject(versions, level, copyable_mode(plan, name, subject.mode))
+    level = copyable_level(plan, "The registry", registry.level, registry.more) or "BACKWARD"
+    return Registry(subjects, level, copyable_mode(plan, "The registry", registry.mode) or "READWRITE")
 
 
-def look_at_twins(plan: Plan, registry: Registry):
-    """Ids that can't be kept in any order: two with one schema here, and one with two."""
+def check_twins(plan: Plan, registry: Registry):
+    """Finds ids that can't be kept in any order: two ids of one schema here, or one id of two schemas."""
     texts, ids = {}, {}
     for name, version in registry.versions():
         first = ids.setdefault(version.text, version.id)
@@ -642,9 +642,9 @@ def look_at_twins(plan: Plan, registry: Registry):
             plan.trouble(NEW, f"{name} {version.number}", f"has the id {version.id}, as another schema has")
 
 
-def by_ids(registry: Registry) -> Iterator[tuple[str, Version]]:
-    """All versions, those of a subject in their order, each time the one with the least id. So ids come in order where an
-    order of the versions has them so."""
+def in_order_of_ids(registry: Registry) -> Iterator[tuple[str, Version]]:
+    """All versions: each time, of the next versions of all subjects, the one with the least id. So the ids are in order, if any
+    order of the versions allows this."""
     rows = {name: subject.versions for name, subject in registry.subjects.items()}
     queue = [(versions[0].id, name, 0) for name, versions in rows.items()]
     heapq.heapify(queue)
@@ -655,18 +655,18 @@ def by_ids(registry: Registry) -> Iterator[tuple[str, Version]]:
             heapq.heappush(queue, (rows[name][at + 1].id, name, at + 1))
 
 
-def look_at_ids(plan: Plan, registry: Registry, used: int):
-    """Says which ids wouldn't be given as 1, 2, 3.. otherwise, or after those that are used up."""
-    given, came = used, set()
-    for name, version in by_ids(registry):
+def check_ids(plan: Plan, registry: Registry, used: int):
+    """Finds the ids that avroreg wouldn't assign by itself, which counts from 1 or from the used ids on."""
+    given, seen = used, set()
+    for name, version in in_order_of_ids(registry):
         if version.id <= used:
             what = f", which {USED} {used} uses up" if used else ""
             plan.trouble(NEW, f"{name} {version.number}", f"has the id {version.id}{what}")
-        elif version.id < given and version.id not in came:
+        elif version.id < given and version.id not in seen:
             plan.trouble(FILL, f"{name} {version.number}", f"has the id {version.id}, and comes after id {given}")
-        came.add(version.id)
+        seen.add(version.id)
         given = max(given, version.id)
-    numbers = sorted(number for number in came if number > used)
+    numbers = sorted(number for number in seen if number > used)
     flag = NEW if given - used - len(numbers) > MOST else FILL
     for before, after in zip([used, *numbers], numbers):
         if after - before > 1:
@@ -676,17 +676,17 @@ def look_at_ids(plan: Plan, registry: Registry, used: int):
 
 
 def renumber(registry: Registry) -> tuple[Registry, dict[int, int]]:
-    """The registry with the ids that its schemas get where they are registered by the order of their ids."""
+    """The registry with the ids that its schemas get if they are registered in the order of their old ids."""
     given, becomes = {}, {}
-    for _, version in by_ids(registry):
+    for _, version in in_order_of_ids(registry):
         becomes[version.id] = given.setdefault(version.text, len(given) + 1)
     subjects = {name: replace(subject, versions=tuple(replace(it, id=given[it.text]) for it in subject.versions))
                 for name, subject in registry.subjects.items()}
     return replace(registry, subjects=subjects), becomes
 
 
-def write_version(plan: Plan, name: str, version: Version, last: int):
-    """A version after the last one of its subject. Numbers between them are used up by its own schema."""
+def plan_version(plan: Plan, name: str, version: Version, last: int):
+    """Plans a version after the last one of its subject. Its own schema uses up the numbers between them."""
     gap = range(last + 1, version.number)
     for number in gap:
         plan.register(name, number, version.text, version.id)
@@ -703,24 +703,24 @@ def placeholder(identifier: int) -> str:
     return compact({"name": f"from_confluent.unused_{identifier}", "size": 0, "type": "fixed"})
 
 
-def write_versions(plan: Plan, registry: Registry, spare: str, used: int):
-    """All versions, and under the spare subject the schemas of the ids that wouldn't be given otherwise."""
+def plan_versions(plan: Plan, registry: Registry, spare: str, used: int):
+    """Plans all versions, and under the spare subject the schemas of ids that avroreg wouldn't assign by itself."""
     texts = {version.id: version.text for _, version in registry.versions()}
     given, filled, last = used, 0, {}
-    for name, version in by_ids(registry):
+    for name, version in in_order_of_ids(registry):
         for missing in range(given + 1, version.id):
             filled += 1
             plan.register(spare, filled, texts.get(missing) or placeholder(missing), missing)
         given = max(given, version.id)
-        write_version(plan, name, version, last.get(name, 0))
+        plan_version(plan, name, version, last.get(name, 0))
         last[name] = version.number
     if filled:
         plan.remove_subject(spare, filled)
     plan.fillers = filled
 
 
-def write_settings(plan: Plan, registry: Registry):
-    """Levels, and then modes, which forbid writes."""
+def plan_settings(plan: Plan, registry: Registry):
+    """Plans the levels, and then the modes, which forbid writes."""
     for name, subject in registry.subjects.items():
         if subject.level is not None:
             plan.put("config", name, "compatibility", subject.level)
@@ -731,32 +731,32 @@ def write_settings(plan: Plan, registry: Registry):
     plan.put("mode", "", "mode", registry.mode)
 
 
-def lay_out(plan: Plan, spare: str, used: int):
-    """The steps of the plan. The first one's key is that of a run with exactly these."""
-    write_versions(plan, plan.wanted, spare, used)
-    write_settings(plan, plan.wanted)
+def make_steps(plan: Plan, spare: str, used: int):
+    """Makes the steps of the plan. The key of the first step has a hash of all of them."""
+    plan_versions(plan, plan.wanted, spare, used)
+    plan_settings(plan, plan.wanted)
     steps = json.dumps([vars(step) for step in plan.steps])
     level = {"compatibility": "NONE"}
     plan.steps.insert(0, Step("", 0, f"begin {hashlib.sha256(steps.encode()).hexdigest()}", "PUT", "/config", level, level))
 
 
 def plan_of(source: Registry, target: Server, spare: str, flags: argparse.Namespace) -> Plan:
-    """What is copied and what prevents it, without its steps."""
+    """The plan with its expected contents and its troubles, without its steps."""
     plan = Plan()
-    registry = taken(plan, source, refusals(target, source, spare))
+    registry = copyable(plan, source, rejections(target, source, spare))
     if flags.new_ids:
         registry, plan.renumbered = renumber(registry)
     else:
-        look_at_twins(plan, registry)
-        look_at_ids(plan, registry, flags.used_ids)
+        check_twins(plan, registry)
+        check_ids(plan, registry, flags.used_ids)
     plan.wanted = registry
     return plan
 
 
-# What prevents a plan
+# Checks before the first write
 
 
-def look_at_flags(plan: Plan, flags: argparse.Namespace):
+def check_flags(plan: Plan, flags: argparse.Namespace):
     given = {SKIP: flags.skip, FILL: flags.fill_ids, NEW: flags.new_ids, MODELESS: flags.without_modes}
     for trouble in plan.troubles:
         print(f"{trouble.where}: {trouble.what}")
@@ -764,13 +764,13 @@ def look_at_flags(plan: Plan, flags: argparse.Namespace):
     if NEW in missing:
         missing.discard(FILL)  # new ids need no other flag for ids
     if missing:
-        words = ", ".join(f"{FILL} or {NEW}" if flag == FILL else flag for flag in sorted(missing))
+        options = ", ".join(f"{FILL} or {NEW}" if flag == FILL else flag for flag in sorted(missing))
         hint = unused_before(plan.wanted, flags.used_ids) if FILL in missing else ""
-        raise Stop(CANNOT, f"nothing was written: this needs {words}, which --help explains{hint}")
+        raise Stop(CANNOT, f"nothing was written: this needs {options}, which --help explains{hint}")
 
 
 def unused_before(registry: Registry, used: int) -> str:
-    """How to do without a write for each id before the first one."""
+    """A hint how to avoid a write for each id before the first one."""
     first = min((version.id for _, version in registry.versions()), default=1)
     if first - used <= 1000:
         return ""
@@ -778,8 +778,8 @@ def unused_before(registry: Registry, used: int) -> str:
             f"from-confluent/used-ids.py, with {USED} {first - 1}")
 
 
-def say_cost(plan: Plan, target: Server):
-    """Says how many writes it takes, and how long if the disk of the target allows 100 to 1,000 a second."""
+def print_cost(plan: Plan, target: Server):
+    """Prints the number of writes, and the time that they take at 100 to 1,000 writes a second."""
     writes = len(plan.steps)
     fillers = f", {plan.fillers:,} of them for ids that wouldn't be given otherwise" if plan.fillers else ""
     print(f"{target.url} gets {plan.wanted}, by {writes} writes{fillers}", flush=True)
@@ -787,24 +787,24 @@ def say_cost(plan: Plan, target: Server):
         print(f"At 100 to 1,000 writes a second this takes {clock(writes / 1000)} to {clock(writes / 100)}", flush=True)
 
 
-def look_at_keys(target: Server):
-    """Whether the target knows retry keys: if so, it rejects an invalid key, otherwise an invalid level or any write."""
+def check_retry_keys(target: Server):
+    """Checks that the target knows retry keys. If so, it rejects an invalid key; otherwise it rejects the invalid level."""
     answer = target.ask("PUT", "/config", NO_LEVEL, "no key")
     if answer.code in (42203, 42205):
-        raise Stop(CANNOT, f"{target.url} is no avroreg, or doesn't get the field Registry-Retry-Key")
+        raise Stop(CANNOT, f"{target.url} is no avroreg, or doesn't receive the field Registry-Retry-Key")
     if answer.code != 40001:
-        raise Stop(UNASKED, f"{target.url}/config: {answer}")
+        raise Stop(UNREADABLE, f"{target.url}/config: {answer}")
 
 
-def look_at_target(target: Server, plan: Plan, source: str, run: str, dry: bool):
-    """Whether the target is empty, or the one in which this run has begun: then the first key is known there, and another
-    command under it is refused for that."""
+def check_target(target: Server, plan: Plan, source: str, run: str, dry: bool):
+    """Checks that the target is empty, or that this run has begun there. In that case the target knows the first key, and
+    rejects another command with it."""
     if target.get("/subjects?deleted=true"):
         if dry:
-            print(f"{target.url} isn't empty: a move goes on only where it has begun there")
+            print(f"{target.url} isn't empty: a copy continues only in the file in which it has begun")
         elif target.ask("PUT", "/config", NO_LEVEL, plan.steps[0].key(source, run)).code != 42290:
             raise Stop(CANNOT, f"{target.url} isn't empty, and no run named {run} with these steps has begun there: "
-                               "take a new file")
+                               "use a new file")
     elif target.get("/mode")["mode"] != "READWRITE":
         raise Stop(CANNOT, f"{target.url} forbids writes by its mode")
 
@@ -817,11 +817,11 @@ def write(target: Server, plan: Plan, source: str, run: str):
         answer = target.ask(step.method, step.path, step.body, step.key(source, run))
         if answer != Answer(200, step.wanted):
             wanted = Answer(200, step.wanted)
-            raise Stop(DIFFERS, f"{step.method} {step.path}: expected {wanted}, got {answer}; take a new file")
+            raise Stop(DIFFERS, f"{step.method} {step.path}: expected {wanted}, got {answer}; use a new file")
 
 
 def members(registry: Registry) -> dict[str, object]:
-    """A registry as a list of facts."""
+    """The registry's facts by name."""
     found = {"level": registry.level, "mode": registry.mode}
     for name, subject in registry.subjects.items():
         found |= {f"level of {name}": subject.level, f"mode of {name}": subject.mode}
@@ -835,13 +835,13 @@ def compare(wanted: Registry, target: Server):
     for name in differences[:20]:
         print(f"{name}: wanted {wanted.get(name)}, found {found.get(name)}")
     if differences:
-        raise Stop(DIFFERS, f"{len(differences)} differences: {target.url} doesn't hold what it has to")
+        raise Stop(DIFFERS, f"{len(differences)} differences: {target.url} hasn't the expected contents")
 
 
 # The arguments
 
 
-class Words(argparse.ArgumentParser):
+class Parser(argparse.ArgumentParser):
     def error(self, message):
         self.print_usage(sys.stderr)
         self.exit(USAGE, f"{self.prog}: {message}\n")
@@ -856,28 +856,28 @@ def url(text: str) -> str:
 
 def natural(text: str) -> int:
     if not text.isdecimal():
-        raise argparse.ArgumentTypeError("this is a number from 0 on")
+        raise argparse.ArgumentTypeError("it must be a number from 0 on")
     return int(text)
 
 
-def words() -> argparse.Namespace:
-    parser = Words(prog="from-confluent.py", description=__doc__, allow_abbrev=False,
+def parse_arguments() -> argparse.Namespace:
+    parser = Parser(prog="from-confluent.py", description=__doc__, allow_abbrev=False,
                    formatter_class=argparse.RawDescriptionHelpFormatter)
-    parser.add_argument("source", metavar="FROM", type=url, help="the registry that is read")
-    parser.add_argument("target", metavar="TO", type=url, help="the avroreg that is written to")
-    parser.add_argument("--dry-run", action="store_true", help="says what it would do, and writes nothing")
+    parser.add_argument("source", metavar="FROM", type=url, help="the registry to read")
+    parser.add_argument("target", metavar="TO", type=url, help="the avroreg to write to")
+    parser.add_argument("--dry-run", action="store_true", help="print what it would do, and write nothing")
     parser.add_argument("--patience", metavar="SECONDS", type=natural, default=PATIENCE,
-                        help="how long a request is repeated that gets 429 or 5xx (%(default)s)")
+                        help="how long to repeat a request that gets 429 or 5xx (%(default)s)")
     parser.add_argument("--run", metavar="NAME", default="move", help="the run's name, a part of its keys (%(default)s)")
-    parser.add_argument(SKIP, action="store_true", help="leaves out what avroreg doesn't accept")
+    parser.add_argument(SKIP, action="store_true", help="leave out what avroreg doesn't accept")
     ids = parser.add_mutually_exclusive_group()
-    ids.add_argument(FILL, action="store_true", help="keeps ids that wouldn't be given otherwise")
-    ids.add_argument(NEW, action="store_true", help="gives new ids")
+    ids.add_argument(FILL, action="store_true", help="keep ids that avroreg wouldn't assign by itself")
+    ids.add_argument(NEW, action="store_true", help="give new ids")
     parser.add_argument(USED, metavar="N", type=natural, default=0, help="the ids that the file of TO has used up")
-    parser.add_argument(MODELESS, action="store_true", help="leaves out modes that avroreg doesn't have")
+    parser.add_argument(MODELESS, action="store_true", help="leave out modes that avroreg doesn't have")
     for side, name in (("from", "FROM"), ("to", "TO")):
         parser.add_argument(f"--{side}-user", metavar="USER", help=f"the user at {name}; {name}_PASSWORD has the password")
-        parser.add_argument(f"--{side}-ca", metavar="FILE", help=f"the certificates by which {name} is known")
+        parser.add_argument(f"--{side}-ca", metavar="FILE", help=f"the CA certificates for {name}")
     given = parser.parse_args()
     if given.new_ids and given.used_ids:
         parser.error(f"{NEW} begins with 1, so it excludes {USED}")
@@ -887,18 +887,18 @@ def words() -> argparse.Namespace:
 def move(flags: argparse.Namespace):
     source = Server(flags.source, flags.from_user, os.environ.get("FROM_PASSWORD", ""), flags.from_ca, flags.patience)
     target = Server(flags.target, flags.to_user, os.environ.get("TO_PASSWORD", ""), flags.to_ca, flags.patience)
-    look_at_keys(target)
+    check_retry_keys(target)
     registry = read_at_one_moment(source)
     print(f"{source.url} has {registry}", flush=True)
     spare = spare_subject(registry)
     plan = plan_of(registry, target, spare, flags)
-    look_at_flags(plan, flags)
-    lay_out(plan, spare, flags.used_ids)
-    look_at_target(target, plan, source.url, flags.run, flags.dry_run)
+    check_flags(plan, flags)
+    make_steps(plan, spare, flags.used_ids)
+    check_target(target, plan, source.url, flags.run, flags.dry_run)
     for old, new in sorted(plan.renumbered.items()):
         if old != new:
             print(f"id {old} becomes {new}")
-    say_cost(plan, target)
+    print_cost(plan, target)
     if not flags.dry_run:
         write(target, plan, source.url, flags.run)
         compare(plan.wanted, target)
@@ -906,7 +906,7 @@ def move(flags: argparse.Namespace):
 
 
 def main():
-    flags = words()
+    flags = parse_arguments()
     try:
         move(flags)
     except Stop as stop:

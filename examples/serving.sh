@@ -1,5 +1,5 @@
-# What the scripts of examples/ and trials/ share: the program's path, a server on a free port, nginx in front of it, a run
-# of several scripts. It is sourced, not run.
+# Functions for the scripts of examples/ and trials/. They start a server on a free port and nginx in front of it, and run
+# several scripts. Source this file; don't run it.
 #
 #   AVROREG    the program; by default as `rt run` builds it
 
@@ -11,30 +11,30 @@ start_tries=600 # every tenth of a second: a busy machine takes long to start a 
 scratch=$(mktemp -d)
 started=()
 
-# Ends with what went wrong.
+# fail MESSAGE: prints the message, and exits with status 1.
 fail() {
   echo "${0##*/}: $*" >&2
   exit 1
 }
 
-# Ends what was started, and removes what it left.
+# Kills the started processes, and removes the scratch folder.
 clean() {
   for process in ${started[@]+"${started[@]}"}; do
-    kill "$process" 2>/dev/null && kill -CONT "$process" 2>/dev/null && wait "$process" 2>/dev/null # a stopped one too
+    kill "$process" 2>/dev/null && kill -CONT "$process" 2>/dev/null && wait "$process" 2>/dev/null # SIGCONT: also a stopped process
   done
   rm -rf "$scratch"
 }
 trap clean EXIT
 trap 'exit 130' INT TERM
 
-# need COMMAND..: the commands that have to be there.
+# need COMMAND..: fails if one of these commands is missing.
 need() {
   for command; do
     command -v "$command" >/dev/null || fail "there is no $command here; install it first"
   done
 }
 
-# packages NAME..: installs those of Debian's packages that aren't here.
+# packages NAME..: installs these Debian packages if they are missing.
 packages() {
   local missing=() package
   for package; do
@@ -51,20 +51,21 @@ packages() {
     fail "couldn't install ${missing[*]}: $(tail -n 3 "$scratch/install.log")"
 }
 
-# Builds the Go client, as $scratch/go-client.
+# Builds the Go client: $scratch/go-client.
 build_go_client() {
   (cd "$examples/clients/lenses" && GO111MODULE=off GOPATH=/usr/share/gocode GOCACHE=$scratch/go-cache \
     /usr/bin/go build -o "$scratch/go-client" main.go) || fail "the Go client doesn't build"
 }
 
-# A port of 127.0.0.1 that no one listens to.
+# Prints a free port of 127.0.0.1.
 free_port() {
   local port
   while port=$((20000 + RANDOM % 12000)); (exec 3<>"/dev/tcp/127.0.0.1/$port") 2>/dev/null; do :; done
   echo "$port"
 }
 
-# start_server FILE [PORT]: serves the registry in FILE, by default on a free port; $server is the process, $url its address.
+# start_server FILE [PORT]: serves the registry in FILE, by default on a free port. It sets $server to the process and $url to
+# its address.
 start_server() {
   local port=${2:-$(free_port)} _
   [ -x "$avroreg" ] || fail "there is no program $avroreg; build it, or name it in AVROREG"
@@ -80,9 +81,9 @@ start_server() {
   fail "the server doesn't answer at $url"
 }
 
-# start_nginx NAME PORT [EDIT]: nginx on the free port $front, in front of PORT, with the configuration of examples/nginx,
-# which sed's EDIT changes first. $nginx is the process. In $scratch/NAME, avroreg.log is the log of that configuration, and
-# access.log has status, method and target.
+# start_nginx NAME PORT [EDIT]: starts nginx in front of PORT, with the configuration of examples/nginx. sed's EDIT changes the
+# configuration first. It sets $front to nginx's port and $nginx to the process. In $scratch/NAME, avroreg.log is the log of
+# that configuration, and access.log has status, method and target.
 start_nginx() {
   local folder=$scratch/$1 user="" _
   [ "$(id -u)" != 0 ] || user='user root;'
@@ -118,7 +119,7 @@ CONF
   fail "nginx doesn't listen: $(cat "$folder/error.log")"
 }
 
-# stop_server [SIGNAL]: ends the last server that was started.
+# stop_server [SIGNAL]: kills the last started server.
 stop_server() {
   local at
   kill "-${1:-TERM}" "$server"
@@ -128,14 +129,13 @@ stop_server() {
   done
 }
 
-# try NAME PACKAGES COMMAND..: installs these packages of Debian and runs the command in the current folder, if $asked is
-# empty or has the name.
-asked=()
+# try NAME PACKAGES COMMAND..: if $chosen is empty or has the name, installs these Debian packages and runs the command.
+chosen=()
 failed=()
 try() {
   local name=$1 needs=$2 start=$SECONDS outcome=passed
   shift 2
-  [ ${#asked[@]} = 0 ] || [[ " ${asked[*]} " == *" $name "* ]] || return 0
+  [ ${#chosen[@]} = 0 ] || [[ " ${chosen[*]} " == *" $name "* ]] || return 0
   # shellcheck disable=SC2086
   packages $needs
   "$@" >"$scratch/$name.log" 2>&1 </dev/null || {
@@ -145,7 +145,7 @@ try() {
   printf '%-14s %-7s %4d s   needs %s\n' "$name" "$outcome" $((SECONDS - start)) "$needs"
 }
 
-# Prints the last lines of each script that failed, and ends with status 1 if one did.
+# Prints the last lines of each failed script. Returns 1 if a script failed.
 sum_up() {
   local name
   for name in ${failed[@]+"${failed[@]}"}; do

@@ -18,7 +18,7 @@ from avro.compatibility import ReaderWriterCompatibilityChecker, SchemaCompatibi
 from avro.constants import PRIMITIVE_TYPES
 from avro.schema import ArraySchema, EnumSchema, Field, FixedSchema, MapSchema, NamedSchema, RecordSchema, Schema, UnionSchema, parse
 
-SHOWN_CHARACTERS = 60
+MOST_CHARACTERS = 60
 
 
 def full_name(name: str, namespace: str) -> str:
@@ -26,7 +26,7 @@ def full_name(name: str, namespace: str) -> str:
 
 
 def with_full_names(schema: object, namespace: str = "") -> object:
-    """The schema with full names only: python3-avro takes `{"name": "A", "namespace": "n"}` and `{"name": "n.A"}` for two names."""
+    """The schema with full names only: python3-avro treats `{"name": "A", "namespace": "n"}` and `{"name": "n.A"}` as two names."""
     match schema:
         case str():
             return schema if schema in PRIMITIVE_TYPES else full_name(schema, namespace)
@@ -51,14 +51,14 @@ def load(file: Path) -> Schema:
     return parse(json.dumps(with_full_names(json.loads(file.read_text(encoding="utf-8")))))
 
 
-def shown(schema: Schema | None) -> str:
-    """A schema in a few characters: a named type by its name, any other as JSON."""
+def short_text(schema: Schema | None) -> str:
+    """A short text for a schema: the name of a named type, else the JSON."""
     if schema is None:
         return "missing"
     if isinstance(schema, NamedSchema):
         return f"{schema.type} {schema.fullname}"
     text = json.dumps(schema.to_json())
-    return text if len(text) <= SHOWN_CHARACTERS else text[:SHOWN_CHARACTERS] + "..."
+    return text if len(text) <= MOST_CHARACTERS else text[:MOST_CHARACTERS] + "..."
 
 
 @dataclass(frozen=True)
@@ -69,7 +69,7 @@ class Reason:
     text: str
 
     def __str__(self) -> str:
-        return f"at {self.path}: reader {shown(self.reader)}, writer {shown(self.writer)}: {self.text}"
+        return f"at {self.path}: reader {short_text(self.reader)}, writer {short_text(self.writer)}: {self.text}"
 
 
 def is_compatible(reader: Schema, writer: Schema) -> bool:
@@ -85,13 +85,13 @@ def reason_of(reader: Schema, writer: Schema) -> str:
 
 
 def writer_field(of_reader: Field, writer: RecordSchema) -> Field | None:
-    """The writer's field that a reader's field reads, by its name or an alias."""
+    """The writer's field for a reader's field, by its name or an alias."""
     names = [of_reader.name, *(of_reader.props.get("aliases") or ())]
     return next((writer.fields_dict[name] for name in names if name in writer.fields_dict), None)
 
 
 def same_name(reader: NamedSchema, writer: NamedSchema) -> bool:
-    """As avroreg compares names: without their namespaces. python3-avro compares them in full."""
+    """Compares names as avroreg does, without their namespaces. python3-avro compares full names."""
     return schema_name_equals(reader, writer) or reader.fullname.rpartition(".")[2] == writer.fullname.rpartition(".")[2]
 
 
@@ -107,7 +107,7 @@ def reasons_in_symbols(reader: EnumSchema, writer: EnumSchema, path: str) -> Ite
 
 @dataclass
 class Walk:
-    """Compares two schemas part by part. Asked for the whole, the checker returns messages and places as two separate sets."""
+    """Compares two schemas part by part. For whole schemas, the checker returns messages and places as two separate sets."""
 
     seen: set[tuple[int, int]] = field(default_factory=set)
 

@@ -1,9 +1,9 @@
-# What packaging/try.sh and examples/replicas/booted.sh share: trees of Debian that are booted under systemd. It is sourced,
-# not run.
+# Functions for packaging/try.sh and examples/replicas/booted.sh. They boot trees of Debian under systemd. Source this file;
+# don't run it.
 
-# boot_tree MACHINE TREE LOG OPTION..: boots the tree; the options go to systemd-nspawn. $container is the process that ends
-# with the machine, $leader the machine's process 1. A host that mounts cgroups of version 1 gets a mount namespace with
-# version 2 alone, and there a cgroup MACHINE.
+# boot_tree MACHINE TREE LOG OPTION..: boots the tree; the options go to systemd-nspawn. It sets $container to the process that
+# ends with the machine, and $leader to the machine's process 1. If the host mounts cgroups of version 1, the machine gets a
+# mount namespace with version 2 only, and a cgroup MACHINE in it.
 boot_tree() {
   local machine=$1 tree=$2 log=$3 prepare=: _
   shift 3
@@ -23,7 +23,7 @@ boot_tree() {
   return 1
 }
 
-# in_tree LEADER COMMAND..: a command in the machine with that process 1.
+# in_tree LEADER COMMAND..: runs a command in the machine with this process 1.
 in_tree() {
   local leader=$1
   shift

@@ -1,17 +1,18 @@
-# What the trials of packaging/ share: a check is a command that has to succeed. Sourced, not run.
+# Functions for the trials of packaging/. A check is a command that must succeed. Source this file; don't run it.
 
 passes=0
 failures=0
 
-failed() {
+# fail_check NAME: prints a failed check, and counts it.
+fail_check() {
   echo "FAILED $*"
   failures=$((failures + 1))
 }
 
-# skipped WHAT: says what isn't tried, and why. It counts neither as passed nor as failed.
-skipped() { echo "skipped $*"; }
+# skip_check TEXT: prints a skipped check and the reason. It counts neither as passed nor as failed.
+skip_check() { echo "skipped $*"; }
 
-# check NAME COMMAND..: counts whether the command succeeds, and prints its output if it doesn't.
+# check NAME COMMAND..: runs the command, and counts whether it succeeds. If it fails, prints its output.
 check() {
   local name=$1 output
   shift
@@ -22,33 +23,33 @@ check() {
     rm "$output"
     return 0
   fi
-  failed "$name"
+  fail_check "$name"
   sed 's/^/       /' "$output" | tail -n 12
   rm "$output"
   return 1
 }
 
-counts() { echo "$passes passed, $failures failed"; }
+print_counts() { echo "$passes passed, $failures failed"; }
 
-# take_counts FILE: adds the counts in the last line of another trial's output, which has to be there.
-take_counts() {
+# add_counts FILE: adds the counts in the last line of another trial's output. Without such a line, that trial failed.
+add_counts() {
   local line
   line=$(tail -n 1 "$1")
   if [[ $line =~ ^([0-9]+)\ passed,\ ([0-9]+)\ failed$ ]]; then
     passes=$((passes + BASH_REMATCH[1]))
     failures=$((failures + BASH_REMATCH[2]))
   else
-    failed "the trial ended early"
+    fail_check "the trial ended early"
   fi
 }
 
 # answers STATUS TEXT CURL'S ARGUMENT..: whether curl gets a response with this status and with this text in its body.
 answers() {
-  local status=$1 text=$2 came
+  local status=$1 text=$2 response
   shift 2
-  came=$(curl -s -m 60 -w '\n%{http_code}' "$@")
-  echo "$came"
-  [[ $came == *"$text"* && ${came##*$'\n'} == "$status" ]]
+  response=$(curl -s -m 60 -w '\n%{http_code}' "$@")
+  echo "$response"
+  [[ $response == *"$text"* && ${response##*$'\n'} == "$status" ]]
 }
 
 # eventually SECONDS COMMAND..: repeats the command until it succeeds.

@@ -1,6 +1,6 @@
 #!/usr/bin/env bash
-# The part of packaging/try.sh that runs inside a booted Debian, in which /root/avroreg.deb is to be installed, and then
-# /root/program by the script install of /root/sources.
+# The part of packaging/try.sh that runs inside a booted Debian. It installs /root/avroreg.deb, and later /root/program with the
+# script install of /root/sources.
 set -u
 source /root/checks.sh
 url=http://127.0.0.1:8081
@@ -32,8 +32,8 @@ check "and answers at once" answers 200 '["orders"]' "$url/subjects"
 
 echo AVROREG_PORT=8082 >/etc/default/avroreg-payments
 check "a second registry starts" systemctl start avroreg@payments
-check "it takes a write" write k1 payments http://127.0.0.1:8082
-check "it has a file of its own" test -s /var/lib/avroreg-payments/registry.db
+check "it accepts a write" write k1 payments http://127.0.0.1:8082
+check "it has its own file" test -s /var/lib/avroreg-payments/registry.db
 check "the first one doesn't know of it" answers 200 '["orders"]' "$url/subjects"
 
 check "a backup is made while the server runs" systemctl start avroreg-backup
@@ -76,7 +76,7 @@ AVROREG_DB=/var/lib/avroreg/moved.db
 SETTINGS
 check "another file is served" bash -c "systemctl stop avroreg && runuser -u avroreg -- avroreg list --db /var/lib/avroreg/registry.db versions &&
   mv /var/lib/avroreg/registry.db /var/lib/avroreg/moved.db && systemctl start avroreg && curl -s -f $url/subjects/orders/versions"
-sleep 1 # (a backup's name has its second)
+sleep 1 # the next backup needs another name, which has the time in seconds
 check "the backup follows it" systemctl start avroreg-backup
 check "a removal stops both registries" bash -c "dpkg -r avroreg && ! curl -s $url/config && ! curl -s http://127.0.0.1:8082/config"
 check "and the timers of both" bash -c "! systemctl is-active avroreg-backup.timer && ! systemctl is-active avroreg-watch@payments.timer"
@@ -91,4 +91,4 @@ check "its template starts the second one" bash -c "echo AVROREG_PORT=8082 >/etc
 check "a backup is made without the package" systemctl start avroreg-backup
 echo AVROREG_PORT=8083 >>/etc/default/avroreg
 check "installed again, it keeps the settings" bash -c "AVROREG=/root/program /root/sources/packaging/install && grep -qx AVROREG_PORT=8083 /etc/default/avroreg"
-counts
+print_counts

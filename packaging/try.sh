@@ -1,13 +1,13 @@
 #!/usr/bin/env bash
-# Tries what packaging/ builds: installs, upgrades, removes and purges the Debian package in a fresh Debian 12, boots it under
-# systemd, kills the program and gets the next answer, and runs the images read-only, without capabilities.
+# Tests the builds of packaging/. It installs, upgrades, removes and purges the Debian package in a fresh Debian 12. It boots the
+# package under systemd, kills the program, and waits for the next response. It runs the images read-only, without capabilities.
 #
 #   AVROREG=PROGRAM packaging/try.sh [deb|systemd|oci]..     default: all
 #   BASE      a tree of Debian 12 to copy; by default debootstrap makes one, which needs the network
 #
 # Needs root, and Debian's debootstrap, systemd-container, lintian, mandoc, dpkg-dev, binutils, buildah, podman, crun,
-# catatonit, nginx, curl and iproute2. Prints a line for each check, and a line 'skipped' for what it can't try;
-# the last line is 'N passed, M failed'. The status is 0 if all passed.
+# catatonit, nginx, curl and iproute2. Prints a line for each check, and a line 'skipped' for each check that it can't run. The
+# last line is 'N passed, M failed'. The status is 0 if all passed.
 set -u
 here=$(cd "$(dirname "$0")" && pwd)
 source "$here/checks.sh"
@@ -29,44 +29,44 @@ clean() {
 trap clean EXIT
 trap 'exit 130' INT TERM
 
-# fresh NAME: a new tree of Debian 12, $scratch/NAME.
-fresh() {
+# make_tree NAME: makes a new tree of Debian 12, $scratch/NAME.
+make_tree() {
   if [ -z "${BASE:-}" ]; then
     BASE=$scratch/base
     debootstrap --variant=minbase --include=systemd,systemd-sysv,dbus,curl,procps,iproute2,python3 bookworm "$BASE" \
-      >"$scratch/debootstrap.log" 2>&1 || { tail -n 5 "$scratch/debootstrap.log"; failed "debootstrap"; return 1; }
+      >"$scratch/debootstrap.log" 2>&1 || { tail -n 5 "$scratch/debootstrap.log"; fail_check "debootstrap"; return 1; }
   fi
   cp -a "$BASE" "$scratch/$1"
 }
 
-# inside NAME COMMAND..: a command in that tree, without a running systemd.
+# inside NAME COMMAND..: runs a command in this tree, without a running systemd.
 inside() {
   local tree=$scratch/$1
   shift
   chroot "$tree" env -i PATH=/usr/sbin:/usr/bin:/sbin:/bin LANG=C.UTF-8 DEBIAN_FRONTEND=noninteractive "$@"
 }
 
-built() { deb=$("$here/deb/build" "$scratch/deb") && [ -f "$deb" ]; }
+build_package() { deb=$("$here/deb/build" "$scratch/deb") && [ -f "$deb" ]; }
 same_bytes() {
   local second
   cp "$program" "$scratch/program"
   second=$(umask 077 && cd / && AVROREG=$scratch/program TZ=Asia/Tokyo "$here/deb/build" "$scratch/second") && cmp "$deb" "$second"
 }
-# older: the same package with a lower version, in the tree.
-older() {
+# build_older: builds the same package with a lower version, in the tree.
+build_older() {
   dpkg-deb -R "$deb" "$scratch/older" && sed -i 's/^Version: .*/Version: 0.0.9/' "$scratch/older/DEBIAN/control" &&
     dpkg-deb --root-owner-group -Znone -b "$scratch/older" "$scratch/debian/tmp/older.deb"
 }
-# lintian prints errors and warnings, and nothing else.
-no_tags() { [ -z "$(lintian --allow-root --tag-display-limit 0 "$deb" 2>&1 | grep '^[EW]:' | tee /dev/stderr)" ]; }
-no_remarks() { [ -z "$(mandoc -T lint -W warning "$here/man/avroreg.1" 2>&1 | tee /dev/stderr)" ]; }
+# check_lintian: checks that lintian reports no error and no warning. Its other lines don't count.
+check_lintian() { [ -z "$(lintian --allow-root --tag-display-limit 0 "$deb" 2>&1 | grep '^[EW]:' | tee /dev/stderr)" ]; }
+check_mandoc() { [ -z "$(mandoc -T lint -W warning "$here/man/avroreg.1" 2>&1 | tee /dev/stderr)" ]; }
 
 try_deb() {
-  check "the package is built" built || return
+  check "the package is built" build_package || return
   check "the same program gives the same bytes" same_bytes
-  check "lintian finds no errors and no warnings" no_tags
-  check "mandoc finds nothing" no_remarks
-  fresh debian || return
+  check "lintian finds no errors and no warnings" check_lintian
+  check "mandoc finds nothing" check_mandoc
+  make_tree debian || return
   cp "$deb" "$scratch/debian/tmp/avroreg.deb"
   check "it is installed" inside debian dpkg -i /tmp/avroreg.deb
   check "the user exists" inside debian getent passwd avroreg
@@ -84,7 +84,7 @@ try_deb() {
   echo AVROREG_PORT=9000 >>"$scratch/debian/etc/default/avroreg"
   check "it is upgraded" inside debian dpkg -i --force-confdef --force-confold /tmp/avroreg.deb
   check "an upgrade keeps the settings" grep -q AVROREG_PORT=9000 "$scratch/debian/etc/default/avroreg"
-  check "an older package is built" older
+  check "an older package is built" build_older
   check "it goes back to the older package" inside debian apt-get install -y -q --allow-downgrades -o Dpkg::Options::=--force-confold \
     /tmp/older.deb
   check "the older version is there" grep -qx 0.0.9 <(inside debian dpkg-query -W -f '${Version}\n' avroreg)
@@ -96,8 +96,8 @@ try_deb() {
 }
 
 try_systemd() {
-  [ -n "${deb:-}" ] || check "the package is built" built || return
-  fresh booted || return
+  [ -n "${deb:-}" ] || check "the package is built" build_package || return
+  make_tree booted || return
   cp "$deb" "$scratch/booted/root/avroreg.deb"
   cp "$here/checks.sh" "$here/try-booted.sh" "$scratch/booted/root/"
   mkdir -p "$scratch/booted/root/sources/examples"
@@ -106,24 +106,24 @@ try_systemd() {
   cp "$program" "$scratch/booted/root/program"
   check "systemd boots" boot_tree avroreg-try "$scratch/booted" "$scratch/boot.log" --private-network || return
   in_tree "$leader" bash /root/try-booted.sh | tee "$scratch/booted.log"
-  take_counts "$scratch/booted.log"
+  add_counts "$scratch/booted.log"
   kill -s RTMIN+4 "$leader"
   wait "$container"
   container=
 }
 
-# In namespaces of their own, so that this machine's network, cgroups and images stay as they are.
+# It uses new namespaces, so that this machine's network, cgroups and images stay unchanged.
 try_oci() {
   STORE=$scratch/store unshare -m -n bash "$here/try-oci.sh" "$scratch" | tee "$scratch/oci.log"
-  take_counts "$scratch/oci.log"
+  add_counts "$scratch/oci.log"
 }
 
 for part in ${*:-deb systemd oci}; do
   echo "== $part"
   case $part in
     deb | systemd | oci) "try_$part" ;;
-    *) failed "there is no trial $part" ;;
+    *) fail_check "there is no trial $part" ;;
   esac
 done
-counts
+print_counts
 [ "$failures" = 0 ]

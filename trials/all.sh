@@ -1,16 +1,16 @@
 #!/usr/bin/env bash
-# Runs each trial, and prints whether it passed, how long it took, and which packages of Debian it needs. It installs missing
-# ones. The status is 0 if all passed.
+# Runs each trial. It prints whether the trial passed, how long it took, and which Debian packages it needs. It installs
+# missing packages. The status is 0 if all trials passed.
 #
 #   AVROREG=PROGRAM trials/all.sh [NAME]..     NAME is in the first column; default: all
-#   WHOLE=1 trials/all.sh                      each trial to its end, in place of one session or a few seeds
+#   WHOLE=1 trials/all.sh                      run each trial in full, instead of one session or a few seeds
 #
 # On a machine with other work, hold_the_line may find that a client waited too long.
 set -u
 source "$(dirname "$0")/../examples/serving.sh"
 [ -x "$avroreg" ] || fail "there is no program $avroreg; build it, or name it in AVROREG"
 export AVROREG=$avroreg
-asked=("$@")
+chosen=("$@")
 cd "$trials" || exit 1
 
 compiler="gcc libc6-dev python3"

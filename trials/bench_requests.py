@@ -1,7 +1,7 @@
 #!/usr/bin/env python3
 """Fills a registry's file, and measures how many requests a second the program answers over it.
 
-The requests come on the standard input of `run`, so they are measured whole, but without a socket, and without the start.
+The script sends whole requests to the standard input of `run`. So it measures neither sockets nor the program's start.
 AVROREG names the program. `command time -v` shows how long `list`, `migrate` and `audit` take, and their memory.
 
     bench_requests.py fill versions F 100000 10000 700
@@ -28,14 +28,14 @@ from harness.program import PROGRAM
 from harness.reading import read_cases
 
 FIELD = 56  # bytes of a field in a schema
-READ = 1 << 20  # bytes of output that are read at once
+READ = 1 << 20  # the most bytes of output in one read
 SUCCESS = b"HTTP/1.1 200 OK\r\n"
 LEVEL = '{"compatibility":"FULL"}'
 KEPT = ('["set-global","FULL"]', 200, LEVEL)
 
 
 class Size(NamedTuple):
-    """How many versions and subjects a registry has, and about how many bytes a schema takes. Each version has its own schema."""
+    """The numbers of versions and subjects in a registry, and about how many bytes a schema takes. Each version has its own schema."""
 
     versions: int
     subjects: int
@@ -43,13 +43,13 @@ class Size(NamedTuple):
 
 
 class Kind(NamedTuple):
-    """A kind of requests. `{subject}`, `{id}` and `{at}` in its texts are filled in: the number of the version's subject, the
-    version's id, and the request's position."""
+    """A kind of requests. In its texts, `{subject}` is the number of the version's subject, `{id}` the version's id, and `{at}`
+    the request's position."""
 
-    which: str  # the version that a request is about: next, same or apart
+    which: str  # the version of a request: "next" a new one, "same" the one at its position, "apart" scattered over the registry
     method: str
     target: str
-    body: str | None = None  # "schema" stands for the version's schema
+    body: str | None = None  # "schema" means the version's schema
     key: str | None = None
 
 
@@ -74,7 +74,7 @@ KINDS["register"] = KINDS["register again"]._replace(which="next")
 OWN_LEVEL = KINDS["set a level, retry"]._replace(which="next")
 COMPARE_WITH_ALL = Kind("same", "PUT", "/config", '{"compatibility":"BACKWARD_TRANSITIVE"}')
 
-# What fills a registry, and the kinds that are measured over it in this order.
+# The kinds that fill a registry, and the kinds to measure over it, in this order.
 SERIES = {
     "levels": ([OWN_LEVEL], ["global level", "level of a subject", "set a level, retry", "set a level, no key", "set a level, new key"]),
     "versions": (
@@ -94,14 +94,14 @@ def schema(number, size):
 
 def request_at(kind, size, at):
     number = {"next": size.versions + at, "same": at, "apart": at * 7919 % max(size.versions, 1)}[kind.which]
-    words = {"subject": number % size.subjects, "id": number + 1, "at": at}
+    values = {"subject": number % size.subjects, "id": number + 1, "at": at}
     body = json.dumps({"schema": schema(number, size)}) if kind.body == "schema" else kind.body
-    fields = [f"Registry-Retry-Key: {kind.key.format(**words)}"] if kind.key else []
-    return build_request(kind.method, kind.target.format(**words), body, fields)
+    fields = [f"Registry-Retry-Key: {kind.key.format(**values)}"] if kind.key else []
+    return build_request(kind.method, kind.target.format(**values), body, fields)
 
 
 def rate(file, kind, size, count):
-    """How many requests of a kind the program answers a second. Each has to succeed."""
+    """How many requests of a kind the program answers a second. Exits if a request fails."""
     with tempfile.TemporaryFile() as sent:
         sent.writelines(request_at(kind, size, at) for at in range(count))
         sent.seek(0)
@@ -110,7 +110,7 @@ def rate(file, kind, size, count):
     succeeded = b"".join(part for part, _ in read).count(SUCCESS)
     if running.returncode or succeeded != count:
         sys.exit(f"{succeeded} of {count} requests succeeded, and the status is {running.returncode}")
-    # (the start comes before the first part, so the time is of the responses behind it)
+    # The program's start precedes the first part, so only the responses after that part are timed.
     return (succeeded - read[0][0].count(SUCCESS)) / max(read[-1][1] - read[0][1], 1e-6)
 
 
@@ -121,7 +121,7 @@ def fill(series, file, size):
 
 
 def fill_layout_one(file, size):
-    """Makes a registry of layout 1, with as many kept replies as versions."""
+    """Makes a registry of layout 1 with one kept reply for each version."""
     first = read_cases(f"{TRIALS}/../tests/words/migrate")[0].names["FIRST"]
     with open(file, "xb") as made:
         made.write(first())
@@ -134,7 +134,7 @@ def fill_layout_one(file, size):
 
 
 def measure(series, file, size, count):
-    """Prints a line for each kind. Works on a copy of the file, next to it."""
+    """Prints a line for each kind. It measures a copy, which is in the file's folder."""
     with tempfile.TemporaryDirectory(dir=os.path.dirname(os.path.abspath(file))) as folder:
         copy = shutil.copy(file, folder)
         for name in SERIES[series][1]:
@@ -152,7 +152,7 @@ def main():
     parser = argparse.ArgumentParser(description=__doc__, formatter_class=argparse.RawDescriptionHelpFormatter)
     parser.add_argument("task", choices=["fill", "fill-layout-1", "measure"])
     parser.add_argument("series", choices=SERIES)
-    parser.add_argument("file", help="missing or empty for fill")
+    parser.add_argument("file", help="for fill, a missing or empty file")
     parser.add_argument("versions", type=positive, help="for levels, the number of subjects with their own level and a retry key")
     parser.add_argument("subjects", type=positive)
     parser.add_argument("bytes", type=int, help="of a schema")
@@ -161,7 +161,7 @@ def main():
     if given.task == "fill-layout-1" and given.series != "versions":
         parser.error("only the series versions can be filled in layout 1")
     if not os.path.isfile(PROGRAM):
-        sys.exit(f"{PROGRAM} is missing: build it, or name the program by AVROREG")
+        sys.exit(f"{PROGRAM} is missing: build it, or name the program in AVROREG")
     size = Size(given.versions, given.subjects, given.bytes)
     if given.task == "measure":
         measure(given.series, given.file, size, given.count)

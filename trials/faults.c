@@ -1,20 +1,22 @@
-// Has the disk fail under a program of one thread that it is preloaded to.
+// A library to preload into a program of one thread. It simulates faults of the disk.
 //
 //   cc -shared -fPIC -o faults.so faults.c
-//   LD_PRELOAD=./faults.so FAULT=error:12 FAULT_COUNT=FILE PROGRAM ..     the 12th call fails with EIO, and each behind it
+//   LD_PRELOAD=./faults.so FAULT=error:12 FAULT_COUNT=FILE PROGRAM ..     the 12th call and all later ones fail with EIO
 //
-// FAULT is one of
+// It counts the calls of pwrite, ftruncate, fdatasync and fsync from 1. FAULT is one of
 //
-//   error:N   the Nth call fails with EIO, and each behind it
-//   once:N    the Nth call alone does
-//   full:N    the disk is full: the Nth call fails with ENOSPC, but of a write the first half is done, and each write behind it
-//   kill:N    the process is killed in the Nth call: a write or a change of length is done, a sync isn't
+//   error:N   the Nth call and all later ones fail with EIO
+//   once:N    only the Nth call fails, with EIO
+//   full:N    the disk is full: the Nth call and all later writes fail with ENOSPC; if the Nth is a write, half of it is done
+//   kill:N    the process is killed in the Nth call, after a write or a change of length, or before a sync
 //
-// and without it none fails. Calls are those of pwrite, ftruncate, fdatasync and fsync, counted from 1; at the program's end
-// it writes to FILE how many were made. With FAULT_SEED a part of what was changed since a file's last sync is lost at the
-// program's end, as where the machine stops: any sectors of 512 bytes have again what they had before one of these changes,
-// or zeros past the end that the file had, and the file has a length that it had since, or one in between. The seed says
-// which. With FAULT_LIE=1 syncs do nothing and say that they did. Random bytes are the same in each run.
+// Without FAULT, no call fails. At the program's end, the library writes the number of calls to FILE.
+//
+// With FAULT_SEED, unsynced changes are partly lost when the program ends, as if the machine had stopped. Any sectors of
+// 512 bytes get the bytes that they had before one of these changes, or zeros after the file's former end. The file gets a
+// length that it had since its last sync, or one in between. The seed decides which sectors and which length.
+//
+// With FAULT_LIE=1, syncs do nothing and report success. Random bytes are the same in each run.
 #define _GNU_SOURCE
 #include <dlfcn.h>
 #include <errno.h>
@@ -29,13 +31,13 @@
 #define SECTOR 512
 #define FILES 8
 
-// What a sector had before a change of its file, and how long that was.
+// A sector's bytes and its file's length before a change of the file.
 struct before {
   off_t at, length;
   unsigned char bytes[SECTOR];
 };
 
-// A file, a descriptor of our own, and what was changed since its last sync. Behind a sync that failed, none counts.
+// A file, the library's own descriptor of it, and the changes since its last sync. After a failed sync, no later one counts.
 struct file {
   dev_t device;
   ino_t number;
@@ -45,18 +47,18 @@ struct file {
 };
 
 static struct file files[FILES];
-static int known, lies, loses;
-static unsigned long made, nth;
+static int file_count, lies, loses;
+static unsigned long calls, nth;
 static char kind;
-static unsigned long long chance;
+static unsigned long long random_state;
 
 static ssize_t (*real_pwrite)(int, const void *, size_t, off_t);
 static int (*real_ftruncate)(int, off_t);
 static int (*real_fdatasync)(int);
 static int (*real_fsync)(int);
 
-// Ends where the library itself fails.
-static void hold(int is_right) {
+// Exits with status 125 if the library itself fails.
+static void require(int is_right) {
   if (!is_right) {
     _exit(125);
   }
@@ -70,93 +72,93 @@ __attribute__((constructor)) static void begin(void) {
   real_fsync = dlsym(RTLD_NEXT, "fsync");
   if (fault) {
     kind = *fault;
-    hold(strchr("eofk", kind) && strchr(fault, ':'));
+    require(strchr("eofk", kind) && strchr(fault, ':'));
     nth = strtoul(strchr(fault, ':') + 1, NULL, 10);
   }
   if (seed) {
     loses = 1;
-    chance = strtoull(seed, NULL, 10) << 32 | nth;
+    random_state = strtoull(seed, NULL, 10) << 32 | nth;
   }
   lies = getenv("FAULT_LIE") != NULL;
 }
 
-// Changes that may be lost
+// Unsynced changes
 
 static off_t length_of(int descriptor) {
   struct stat found;
-  hold(!fstat(descriptor, &found));
+  require(!fstat(descriptor, &found));
   return found.st_size;
 }
 
-// The file of a descriptor, or nothing for a folder.
+// The file of a descriptor, or NULL for a folder.
 static struct file *file_of(int descriptor) {
   struct stat found;
-  hold(!fstat(descriptor, &found));
+  require(!fstat(descriptor, &found));
   if (!S_ISREG(found.st_mode)) {
     return NULL;
   }
-  for (int it = 0; it < known; it++) {
+  for (int it = 0; it < file_count; it++) {
     if (files[it].device == found.st_dev && files[it].number == found.st_ino) {
       return &files[it];
     }
   }
-  hold(known < FILES);
-  struct file *file = &files[known++];
+  require(file_count < FILES);
+  struct file *file = &files[file_count++];
   *file = (struct file){.device = found.st_dev, .number = found.st_ino, .own = fcntl(descriptor, F_DUPFD_CLOEXEC, 100)};
-  hold(file->own >= 0);
+  require(file->own >= 0);
   return file;
 }
 
-// Notes what a file has between two places, before that is changed.
-static void note(int descriptor, off_t from, off_t to) {
+// Saves the sectors of a file from one offset to another, before a change.
+static void save_sectors(int descriptor, off_t from, off_t to) {
   struct file *file = file_of(descriptor);
   off_t length = length_of(descriptor);
   for (off_t at = from / SECTOR * SECTOR; file && at < to; at += SECTOR) {
     if (file->changes == file->room) {
       file->room = 2 * file->room + 64;
       file->change = realloc(file->change, file->room * sizeof *file->change);
-      hold(file->change != NULL);
+      require(file->change != NULL);
     }
     struct before *it = &file->change[file->changes++];
     *it = (struct before){.at = at, .length = length};
-    hold(pread(file->own, it->bytes, SECTOR, at) >= 0);
+    require(pread(file->own, it->bytes, SECTOR, at) >= 0);
   }
 }
 
-// A number below the limit, by chance (SplitMix64).
-static unsigned long long drawn(unsigned long long limit) {
-  chance += 0x9e3779b97f4a7c15ull;
-  unsigned long long it = (chance ^ chance >> 30) * 0xbf58476d1ce4e5b9ull;
+// A random number below the limit (SplitMix64).
+static unsigned long long draw(unsigned long long limit) {
+  random_state += 0x9e3779b97f4a7c15ull;
+  unsigned long long it = (random_state ^ random_state >> 30) * 0xbf58476d1ce4e5b9ull;
   it = (it ^ it >> 27) * 0x94d049bb133111ebull;
   return (it ^ it >> 31) % limit;
 }
 
-// Takes changes back, the newest first, each, none or some of them: a sector has then what it had before the oldest of its
-// changes that was taken back, and so for the length.
-static void lose(struct file *file) {
-  unsigned long long quarters = drawn(5);
+// Reverts all, some or none of the changes, from the newest to the oldest. So a sector gets the bytes that it had before the
+// oldest of its reverted changes. The same is true of the length.
+static void revert_changes(struct file *file) {
+  unsigned long long quarters = draw(5);
   off_t end = length_of(file->own), length = end, older = end;
   for (size_t it = file->changes; it-- > 0;) {
     struct before *change = &file->change[it];
-    if (drawn(4) < quarters) {
-      hold(real_pwrite(file->own, change->bytes, SECTOR, change->at) == SECTOR);
+    if (draw(4) < quarters) {
+      require(real_pwrite(file->own, change->bytes, SECTOR, change->at) == SECTOR);
     }
-    if (change->length != older && drawn(4) < quarters) {
+    if (change->length != older && draw(4) < quarters) {
       length = change->length;
     }
     older = change->length;
   }
-  if (length != end && drawn(4) == 0) {
+  if (length != end && draw(4) == 0) {
     off_t low = length < end ? length : end;
-    length = low + (off_t)drawn(length + end - 2 * low);
+    length = low + (off_t)draw(length + end - 2 * low);
   }
-  hold(!real_ftruncate(file->own, length));
+  require(!real_ftruncate(file->own, length));
 }
 
-static void stop(void) {
-  for (int it = 0; loses && it < known; it++) {
+static void lose_unsynced(void) {
+  for (int it = 0; loses && it < file_count; it++) {
     if (files[it].changes) {
-      lose(&files[it]);
+      revert_changes(&files[it]);
     }
   }
 }
@@ -164,69 +166,69 @@ static void stop(void) {
 __attribute__((destructor)) static void end(void) {
   const char *name = getenv("FAULT_COUNT");
   char line[32];
-  int length = snprintf(line, sizeof line, "%lu\n", made);
+  int length = snprintf(line, sizeof line, "%lu\n", calls);
   int file = name ? open(name, O_WRONLY | O_CREAT | O_TRUNC, 0666) : -1;
-  hold(!name || (file >= 0 && write(file, line, length) == length));
-  stop();
+  require(!name || (file >= 0 && write(file, line, length) == length));
+  lose_unsynced();
 }
 
-// The calls
+// The replaced calls
 
-// Counts a call, and gives the error with which it fails, or 0.
+// Counts a call, and returns the error with which it fails, or 0.
 static int fault(int is_write) {
-  made += 1;
-  if ((kind == 'e' && made >= nth) || (kind == 'o' && made == nth)) {
+  calls += 1;
+  if ((kind == 'e' && calls >= nth) || (kind == 'o' && calls == nth)) {
     return EIO;
   }
-  return kind == 'f' && (made == nth || (is_write && made > nth)) ? ENOSPC : 0;
+  return kind == 'f' && (calls == nth || (is_write && calls > nth)) ? ENOSPC : 0;
 }
 
-static int failed(int error) {
+static int fail_with(int error) {
   errno = error;
   return -1;
 }
 
-// Kills the process in its last call.
-static void last(void) {
-  if (kind == 'k' && made == nth) {
-    stop();
+// Kills the process if this is the call in which it must die.
+static void kill_if_due(void) {
+  if (kind == 'k' && calls == nth) {
+    lose_unsynced();
     kill(getpid(), SIGKILL);
   }
 }
 
 ssize_t pwrite(int descriptor, const void *bytes, size_t size, off_t at) {
   int error = fault(1);
-  size_t fits = error == ENOSPC && made == nth ? size / 2 : error ? 0 : size;
+  size_t fits = error == ENOSPC && calls == nth ? size / 2 : error ? 0 : size;
   if (!fits) {
-    return failed(error);
+    return fail_with(error);
   }
-  note(descriptor, at, at + fits);
+  save_sectors(descriptor, at, at + fits);
   ssize_t put = real_pwrite(descriptor, bytes, fits, at);
-  last();
+  kill_if_due();
   return put;
 }
 
 int ftruncate(int descriptor, off_t length) {
   int error = fault(0);
   if (error) {
-    return failed(error);
+    return fail_with(error);
   }
   off_t end = length_of(descriptor);
-  note(descriptor, length < end ? length : end, length < end ? end : length);
+  save_sectors(descriptor, length < end ? length : end, length < end ? end : length);
   int done = real_ftruncate(descriptor, length);
-  last();
+  kill_if_due();
   return done;
 }
 
-static int synced(int descriptor, int (*sync)(int)) {
+static int sync_file(int descriptor, int (*sync)(int)) {
   struct file *file = file_of(descriptor);
   int error = fault(0);
-  last();
+  kill_if_due();
   if (error) {
     if (file) {
       file->is_failed = 1;
     }
-    return failed(error);
+    return fail_with(error);
   }
   if (lies) {
     return 0;
@@ -237,9 +239,9 @@ static int synced(int descriptor, int (*sync)(int)) {
   return sync(descriptor);
 }
 
-int fdatasync(int descriptor) { return synced(descriptor, real_fdatasync); }
+int fdatasync(int descriptor) { return sync_file(descriptor, real_fdatasync); }
 
-int fsync(int descriptor) { return synced(descriptor, real_fsync); }
+int fsync(int descriptor) { return sync_file(descriptor, real_fsync); }
 
 ssize_t pwrite64(int, const void *, size_t, off_t) __attribute__((alias("pwrite")));
 int ftruncate64(int, off_t) __attribute__((alias("ftruncate")));

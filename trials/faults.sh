@@ -1,16 +1,22 @@
 #!/usr/bin/env bash
-# Has the disk fail under the built program at each of its calls in turn: with an error once or for good, full in the middle
-# of a write, or killed there, with a part of what was written since the last sync lost. Each answer has to be the right one
-# or 50001, what was answered to be found, and the same requests to give the same answers afterwards. Ends at the first wrong
-# answer, and says how many runs it tried.
+# Makes each disk call of the built program fail in turn: with an error once or permanently, or with a full disk in the middle
+# of a write. Or it kills the program there, and loses a part of the unsynced writes.
+#
+# Each response must be the right one or 50001. Each acknowledged write must be found, and the same requests must then get the
+# same responses. It ends at the first wrong response, and prints how many runs it tried.
 #
 #   AVROREG=PROGRAM trials/faults.sh [new|closed|log|long]..
-#   SEEDS=5 trials/faults.sh     so many losses for each kill, in place of 30
-#   LIE=1 trials/faults.sh       over a disk that doesn't sync: it has to find a wrong answer, and to end with status 1
+#   SEEDS=5 trials/faults.sh     5 random losses for each kill, instead of 30
+#   LIE=1 trials/faults.sh       over a disk that doesn't sync: the script must find a wrong response, and end with status 1
 #
-# The words choose what the session meets, none all: no file, one with half of the session in it, one with the log that a
-# killed run left, one with a log so long that it is copied into the file meanwhile. The folder faults has the session, and
-# faults.py says what is compared.
+# The arguments choose the session's first state. Without arguments, all are tried:
+#
+#   new      no file
+#   closed   a file with half of the session
+#   log      the same with the log of a killed run
+#   long     a file with a log so long that the session causes a checkpoint
+#
+# The session is in the folder faults. faults.py describes the comparison.
 set -u
 source "$(dirname "$0")/../examples/serving.sh"
 need cc python3

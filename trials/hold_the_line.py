@@ -1,4 +1,4 @@
-"""Clients that would keep one thread to themselves, and how long others wait for them. It is run by hold_the_line.sh.
+"""Measures how long a client waits while other clients keep the server's single thread busy. hold_the_line.sh runs it.
 
     python3 trials/hold_the_line.py PORT [turns|asking|dripping|uploads|pipelining|descriptors]..
 """
@@ -15,14 +15,14 @@ import threading
 import time
 
 HOST = "127.0.0.1"
-TIMES = int(os.environ.get("TIMES", "100"))  # how often the two in turn ask, and how often a large body is sent
-ROUNDS = int(os.environ.get("ROUNDS", "5"))  # how often one waits for a client that asks all the time
+TIMES = int(os.environ.get("TIMES", "100"))  # requests of each of the two clients, and uploads of a large body
+ROUNDS = int(os.environ.get("ROUNDS", "5"))  # waits that are measured next to a busy client
 LARGE = 5_000_000
 
 
 class Kept:
-    """A client that keeps its connection, as the pools of well-known ones do: one that was closed is made anew, also where
-    that shows only once a request was sent."""
+    """A client that keeps its connection, like the connection pools of well-known clients. If the server closed the
+    connection, the client connects again, even if it notices this only after it sent a request."""
 
     def __init__(self, port):
         self.connection = http.client.HTTPConnection(HOST, port, timeout=60)
@@ -46,8 +46,8 @@ class Kept:
         self.connection.close()
 
 
-def client_of(port):
-    """Confluent's client where it is installed, else one that does the same."""
+def new_client(port):
+    """Confluent's client if it is installed, else `Kept`."""
     try:
         from confluent_kafka.schema_registry import SchemaRegistryClient
     except ImportError:
@@ -55,31 +55,31 @@ def client_of(port):
     return SchemaRegistryClient({"url": f"http://{HOST}:{port}"})
 
 
-def waited(client):
-    """How long a client waits for its answer."""
+def wait_time(client):
+    """How long a client waits for its response."""
     began = time.monotonic()
     try:
         client.get_subjects()
     except TimeoutError:
-        sys.exit(f"a client had no answer after {time.monotonic() - began:.0f} s")
+        sys.exit(f"a client had no response after {time.monotonic() - began:.0f} s")
     return time.monotonic() - began
 
 
-def hold(what, times, most):
-    """Says how long was waited, and ends where that is too long."""
-    print(f"{what}: {len(times)} answers, the slowest after {max(times):.2f} s", flush=True)
+def check_times(name, times, most):
+    """Prints the longest wait, and exits if it is over `most` seconds."""
+    print(f"{name}: {len(times)} responses, the slowest after {max(times):.2f} s", flush=True)
     if max(times) > most:
-        sys.exit(f"{what}: {max(times):.2f} s is longer than {most} s")
+        sys.exit(f"{name}: {max(times):.2f} s is longer than {most} s")
 
 
-def in_turn(port):
-    """Two clients of one process ask in turn, each on the connection that it keeps."""
-    clients = [client_of(port), client_of(port)]
-    hold(f"two of {type(clients[0]).__name__} in turn", [waited(client) for _ in range(TIMES) for client in clients], 0.5)
+def measure_turns(port):
+    """Two clients of one process send requests in turn, each on its kept connection."""
+    clients = [new_client(port), new_client(port)]
+    check_times(f"two of {type(clients[0]).__name__} in turn", [wait_time(client) for _ in range(TIMES) for client in clients], 0.5)
 
 
 class Asking(threading.Thread):
-    """Asks every 100 ms."""
+    """Sends a request every 100 ms."""
 
     def __init__(self, port):
         super().__init__(daemon=True)
@@ -93,7 +93,7 @@ class Asking(threading.Thread):
 
 
 class Dripping(threading.Thread):
-    """Sends a byte of one message a second, until it is ended."""
+    """Sends one byte of a message a second, until the server closes the connection."""
 
     def __init__(self, port):
         super().__init__(daemon=True)
@@ -107,34 +107,34 @@ class Dripping(threading.Thread):
                 connection.sendall(b"a")
 
 
-def waited_for(port, *others):
-    """How long a new client waits where these hold the line."""
+def wait_time_next_to(port, *others):
+    """How long a new client waits while these clients keep the server busy."""
     for other in others:
         other.start()
         other.begun.wait()
     time.sleep(0.5)
-    return waited(Kept(port))
+    return wait_time(Kept(port))
 
 
-def behind_asking(port):
+def measure_asking(port):
     times = []
     for _ in range(ROUNDS):
         asking = Asking(port)
-        times.append(waited_for(port, asking))
+        times.append(wait_time_next_to(port, asking))
         asking.ends.set()
         asking.join()
-    hold("behind one that asks every 100 ms", times, 2)
+    check_times("next to a client that asks every 100 ms", times, 2)
 
 
-def behind_dripping(port):
-    hold("behind one that sends a byte a second", [waited_for(port, Dripping(port))], 31)
+def measure_dripping(port):
+    check_times("next to a client that sends a byte a second", [wait_time_next_to(port, Dripping(port))], 31)
     asking = Asking(port)
-    hold("behind both", [waited_for(port, asking, Dripping(port))], 32)
+    check_times("next to both", [wait_time_next_to(port, asking, Dripping(port))], 32)
     asking.ends.set()
 
 
-def uploads(port):
-    """curl sends a body that is too large, without waiting for a leave to do so, and sees the answer."""
+def measure_uploads(port):
+    """curl sends a body that is too large, without waiting for "100 Continue". It must receive the response."""
     times = []
     with tempfile.NamedTemporaryFile() as body:
         body.write(b" " * LARGE)
@@ -148,11 +148,11 @@ def uploads(port):
             answer = (done.returncode, done.stdout)
             if answer != (0, b'{"error_code":413,"message":"Body too large"}413'):
                 sys.exit(f"a body of {LARGE} bytes: curl ended with {answer}")
-    hold(f"413 for a body of {LARGE} bytes", times, 2)
+    check_times(f"413 for a body of {LARGE} bytes", times, 2)
 
 
 class Pipelining(threading.Thread):
-    """Sends 2,000 requests at once, for a schema of 100 KB each, and reads so many bytes of the responses a second. If the
+    """Sends 2,000 requests at once, for a schema of 100 KB each, and reads `rate` bytes of the responses a second. If the
     server closes the connection, it begins again."""
 
     def __init__(self, port, id, rate):
@@ -174,13 +174,13 @@ class Pipelining(threading.Thread):
 
     def read(self, connection):
         while not self.ends.is_set():
-            came = self.rate and connection.recv(min(self.rate, 1 << 16))
-            if came == b"":
+            read_bytes = self.rate and connection.recv(min(self.rate, 1 << 16))
+            if read_bytes == b"":
                 return
-            self.ends.wait(len(came) / self.rate if came else 0.1)
+            self.ends.wait(len(read_bytes) / self.rate if read_bytes else 0.1)
 
 
-def answered(port, method, path, body=None):
+def request_json(port, method, path, body=None):
     """The JSON of a response."""
     connection = http.client.HTTPConnection(HOST, port, timeout=60)
     connection.request(method, path, body)
@@ -189,22 +189,23 @@ def answered(port, method, path, body=None):
     return answer
 
 
-def behind_pipelining(port):
-    """A client that reads its responses costs others its second, a second until it has seen the end, and half a second for
-    the request in progress. One that reads nothing, or too little, is closed after its time."""
+def measure_pipelining(port):
+    """If the client reads its responses, others wait at most 2.5 seconds: its turn of a second, a second until it has read the
+    end, and half a second for the request in progress. If it reads nothing or too little, the server closes its connection
+    after 30 seconds at most."""
     text = json.dumps({"type": "record", "name": "R", "doc": "x" * 100_000, "fields": []})
-    id = answered(port, "POST", "/subjects/s/versions", json.dumps({"schema": text}))["id"]
-    # (a soft-deleted version's schema still has its id, and its subject isn't listed)
-    answered(port, "DELETE", "/subjects/s")
-    assert len(answered(port, "GET", f"/schemas/ids/{id}")["schema"]) > 100_000
+    id = request_json(port, "POST", "/subjects/s/versions", json.dumps({"schema": text}))["id"]
+    # A soft-deleted version's schema keeps its id, and its subject isn't listed.
+    request_json(port, "DELETE", "/subjects/s")
+    assert len(request_json(port, "GET", f"/schemas/ids/{id}")["schema"]) > 100_000
     rates = (("all", 10**9, 2.5), ("200 KB a second", 200_000, 2.5), ("20 KB a second", 20_000, 31), ("nothing", 0, 31))
     for name, rate, most in rates:
         other = Pipelining(port, id, rate)
-        times = [waited_for(port, other)]
-        times += [waited(Kept(port)) for _ in range(ROUNDS - 1)]
+        times = [wait_time_next_to(port, other)]
+        times += [wait_time(Kept(port)) for _ in range(ROUNDS - 1)]
         other.ends.set()
         other.join()
-        hold(f"behind one that sends 2,000 requests at once and reads {name} of the responses", times, most)
+        check_times(f"next to a client that sends 2,000 requests at once and reads {name} of the responses", times, most)
 
 
 def free_port():
@@ -213,35 +214,35 @@ def free_port():
         return it.getsockname()[1]
 
 
-def processor_seconds(process):
-    """How many seconds of a processor a process has used."""
+def cpu_seconds(process):
+    """The CPU time of a process, in seconds."""
     with open(f"/proc/{process.pid}/stat", encoding="ascii") as stat:
         fields = stat.read().rsplit(")", 1)[1].split()
     return (int(fields[11]) + int(fields[12])) / os.sysconf("SC_CLK_TCK")
 
 
 def free_descriptor(process):
-    """The first number that no file of a process has."""
+    """The lowest file descriptor that a process doesn't use."""
     taken = {int(it) for it in os.listdir(f"/proc/{process.pid}/fd")}
     return next(it for it in range(64) if it not in taken)
 
 
-def serve_again(port, server):
-    """Takes the file descriptor for a connection from a server, and gives it back after three seconds."""
+def starve(port, server):
+    """Leaves a server no file descriptor for a connection for three seconds, and measures how long a client waits."""
     resource.prlimit(server.pid, resource.RLIMIT_NOFILE, (free_descriptor(server), 64))
-    # (the server reserved a descriptor for the next connection before the limit)
+    # Before the limit, the server had reserved a descriptor for the next connection. This request uses it.
     wait_until_it_serves(port)
-    client, before = Kept(port), processor_seconds(server)
+    client, before = Kept(port), cpu_seconds(server)
     threading.Timer(3, resource.prlimit, (server.pid, resource.RLIMIT_NOFILE, (64, 64))).start()
-    hold("from a server that has no file descriptor for 3 s", [waited(client)], 5)
+    check_times("a server without a file descriptor for 3 s", [wait_time(client)], 5)
     client.close()
-    used = processor_seconds(server) - before
+    used = cpu_seconds(server) - before
     if used > 0.5:
-        sys.exit(f"it used {used:.2f} s of a processor meanwhile")
+        sys.exit(f"meanwhile it used {used:.2f} s of CPU time")
 
 
-def without_descriptors(_):
-    """A server that has a file descriptor for its database, its log and its port, and none for a connection."""
+def measure_without_descriptors(_):
+    """A server has file descriptors for its database, its log and its port, but none for a connection."""
     port = free_port()
     with tempfile.TemporaryDirectory() as folder, open(f"{folder}/errors", "w+b") as errors:
         server = subprocess.Popen(
@@ -251,21 +252,21 @@ def without_descriptors(_):
             wait_until_it_serves(port)
             for _ in range(2):
                 time.sleep(0.5)
-                serve_again(port, server)
+                starve(port, server)
         finally:
             server.kill()
             server.wait()
         errors.seek(0)
-        told = errors.read()
-    if told != b"avroreg: cannot accept connections\n" * 2:
-        sys.exit(f"it printed {told}, and not one line each time that no connection could be accepted")
+        printed = errors.read()
+    if printed != b"avroreg: cannot accept connections\n" * 2:
+        sys.exit(f"it printed {printed}, instead of one line each time that it couldn't accept a connection")
 
 
 def wait_until_it_serves(port):
     for _ in range(100):
         client = Kept(port)
         try:
-            waited(client)
+            wait_time(client)
             client.close()
             return
         except ConnectionRefusedError:
@@ -273,8 +274,8 @@ def wait_until_it_serves(port):
     sys.exit("the server doesn't listen")
 
 
-PARTS = {"turns": in_turn, "asking": behind_asking, "dripping": behind_dripping, "uploads": uploads,
-         "pipelining": behind_pipelining, "descriptors": without_descriptors}
+PARTS = {"turns": measure_turns, "asking": measure_asking, "dripping": measure_dripping, "uploads": measure_uploads,
+         "pipelining": measure_pipelining, "descriptors": measure_without_descriptors}
 port, *names = sys.argv[1:]
 for name in names or PARTS:
     PARTS[name](int(port))

@@ -1,14 +1,20 @@
 #!/usr/bin/env bash
-# Files of layout 1, as the program before made them and by sqlite3, moved to layout 2 by the built program: each row has to
-# stay, and each retry key to get its kept reply, byte for byte. Ends at the first wrong answer, and says how many files were
-# moved.
+# Migrates files of layout 1 to layout 2 with the built program. The last program of layout 1 made some of the files, and
+# sqlite3 the others. Each row must stay, and each retry key must get its kept reply, byte for byte. The script ends at the
+# first wrong response, and prints how many files it migrated.
 #
 #   AVROREG=PROGRAM trials/migrate.sh [old|many|lines|memory|stops]..
-#   SEEDS=30 trials/migrate.sh stops     so many losses for each kill, in place of 5
+#   SEEDS=30 trials/migrate.sh stops     30 random losses for each kill, instead of 5
 #
-# The words choose what is tried, none all: the files in old-files; one with 3,000 keys; each line that migrate prints; each
-# request for memory refused in turn; a fault of the disk at each of its calls, or a kill there, which has to leave the one
-# layout or the other. migrate.py says what is compared.
+# The arguments choose the tests. Without arguments all run:
+#
+#   old      the files in old-files
+#   many     a file with 3,000 keys
+#   lines    each line that migrate prints
+#   memory   each allocation fails in turn
+#   stops    each disk call fails, or the program is killed in it; the file must have one layout or the other
+#
+# migrate.py describes the comparison.
 set -u
 source "$(dirname "$0")/../examples/serving.sh"
 need cc python3

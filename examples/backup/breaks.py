@@ -1,7 +1,7 @@
 #!/usr/bin/env python3
 """Makes a broken hot-copy, to see that certain.py detects it.
 
-    breaks.py               prints each break and the report that it has to cause, as a regular expression
+    breaks.py               prints each break and the report that it must cause, as a regular expression
     breaks.py NAME FILE     writes hot-copy with that break
 """
 
@@ -9,7 +9,7 @@ import sys
 from pathlib import Path
 
 COPIES = "    copy_file(source, target)\n    copy_file(log_of(source), log_of(target))\n"
-# A name: what is replaced, by what, and the cases that have to report it.
+# Each break: the replaced text, the new text, and the cases that must report it.
 BREAKS = {
     "log-first": (COPIES, "".join(reversed(COPIES.splitlines(keepends=True))), "a checkpoint between the files"),
     "header-not-compared": ("if valid_header(log_of(source)) == before == valid_header(log_of(target)):", "if True:",
@@ -33,7 +33,7 @@ def main() -> None:
     right, wrong, _ = BREAKS[sys.argv[1]]
     text = Path(__file__).resolve().with_name("hot-copy").read_text(encoding="utf-8")
     if text.count(right) != 1:
-        sys.exit(f"breaks.py: hot-copy no longer has, or has twice, what {sys.argv[1]} replaces")
+        sys.exit(f"breaks.py: hot-copy doesn't have the text that {sys.argv[1]} replaces, or has it twice")
     broken = Path(sys.argv[2])
     broken.write_text(text.replace(right, wrong), encoding="utf-8")
     broken.chmod(0o755)

@@ -1,9 +1,9 @@
 #!/usr/bin/env python3
-"""Tries hot-copy where only chance would: something happens at a chosen moment of a copy, and then the copy is checked.
+"""Interrupts hot-copy at chosen moments, which are rare under load, and checks the copies.
 
-A real server fills the registry. While hot-copy runs, between its two files or within one of
-them, the log begins anew, or a checkpoint copies the log into the database. hot-copy may reject
-such a copy or accept it. An accepted copy has to pass every check of checks.py.
+A real server fills the registry. Between hot-copy's two files, or within one of them, SQLite
+starts a new log, or a checkpoint copies the log into the database. hot-copy may reject such a
+copy or accept it. An accepted copy must pass every check of checks.py.
 
     certain.py FOLDER       an empty folder; AVROREG names the program, HOT_COPY the script
 """
@@ -17,12 +17,12 @@ from dataclasses import dataclass
 from pathlib import Path
 from unittest import mock
 
-from checks import HOT_COPY, PROGRAM, Server, Write, fault_of, remove, write_of
+from checks import HOT_COPY, PROGRAM, Server, Write, fault_of, remove, random_write
 
 HEADER_BYTES = 32
 PAGE_SIZE_BYTE = 10
 TRIES_SECONDS = 30
-# A process that is killed in a checkpoint: it has copied the log into the database, and the log's header is the old one.
+# A process that dies in a checkpoint: it has copied the log into the database, and the log still has its old header.
 CHECKPOINT = """
 import os, sqlite3, sys
 busy, frames, copied = sqlite3.connect(sys.argv[1]).execute("PRAGMA wal_checkpoint(PASSIVE)").fetchone()
@@ -68,7 +68,7 @@ class Registry:
     def __init__(self, file: Path):
         self.file = file
         self.server = Server(file)
-        self.server.ask("PUT", "/config", '{"compatibility":"NONE"}')
+        self.server.request("PUT", "/config", '{"compatibility":"NONE"}')
         self.acknowledged: list[Write] = []
         self.chance = random.Random(1)
         self.number = 0
@@ -76,20 +76,20 @@ class Registry:
     def write(self, count: int, digits: int = 6000) -> None:
         for _ in range(count):
             self.number += 1
-            write = self.server.send(write_of(1, self.number, self.chance, digits))
+            write = self.server.send(random_write(1, self.number, self.chance, digits))
             if write is None:
                 raise RuntimeError("a write failed")
             self.acknowledged.append(write)
 
     def begin_new_log(self) -> None:
-        """Writes until the log has begun anew, and then some more."""
+        """Writes until SQLite has started a new log, and then some more."""
         before = header_of(self.file)
         while header_of(self.file) == before:
             self.write(1, 30000)
         self.write(5, 30000)
 
     def write_and_checkpoint(self) -> None:
-        """Takes writes, and is killed in the checkpoint that follows."""
+        """Sends writes, kills the server, and then interrupts a checkpoint."""
         before, database = header_of(self.file), self.file.read_bytes()
         self.write(40, 1000)
         if header_of(self.file) != before:
@@ -100,12 +100,12 @@ class Registry:
             raise RuntimeError("this was no checkpoint")
 
     def close(self) -> None:
-        """Ends with the log copied into the database, and removed."""
+        """Kills the server. `avroreg list` then copies the log into the database, and removes it."""
         self.server.kill()
         subprocess.run([PROGRAM, "list", "--db", self.file, "subjects"], check=True, capture_output=True)
 
     def live_with_empty_log(self) -> None:
-        """Is served for some writes, closed, and opened by a program that is killed at once."""
+        """Serves some writes and closes. Then leaves an empty log, like a program that was killed right after its start."""
         log_of(self.file).unlink()
         self.server.start()
         self.write(40, 1000)
@@ -114,7 +114,7 @@ class Registry:
 
 
 class Cases:
-    """The cases, each with what it found wrong."""
+    """The cases, and how many were wrong."""
 
     def __init__(self, folder: Path):
         self.folder = folder
@@ -127,7 +127,7 @@ class Cases:
         print(f"WRONG: {name}: {fault}"[:300] if fault else f"{name}: {outcome}", flush=True)
 
     def attempt(self, name: str, event: Callable[[], None], within: Path | None = None) -> None:
-        """Copies with the event. The copy is rejected with nothing left, or it is right."""
+        """Copies with the event. hot-copy must reject the copy and leave nothing, or the copy must be right."""
         writes = list(self.registry.acknowledged)
         interruption = Interruption(event, within)
         with mock.patch.object(HOT_COPY, "copy_file", interruption):
@@ -142,14 +142,15 @@ class Cases:
         remove(self.copy)
 
     def calm(self, name: str) -> None:
-        """Copies while nothing happens: accepted, and right."""
+        """Copies without an event. hot-copy must accept the copy, and it must be right."""
         accepted = HOT_COPY.copy_once(self.registry.file, self.copy)
         fault = fault_of(self.copy, self.registry.acknowledged) if accepted else "rejected"
         self.report(name, "accepted, and right", fault)
         remove(self.copy)
 
     def damaged(self, name: str) -> None:
-        """A damaged header of the served log, which the server doesn't read: rejected, or right. A new log repairs it."""
+        """Damages the header of the served log, which the server doesn't read. The copy must be rejected or right. A new log
+        repairs the header."""
         with log_of(self.registry.file).open("r+b") as log:
             log.seek(PAGE_SIZE_BYTE)
             log.write(b"\xff")
@@ -161,7 +162,7 @@ class Cases:
         self.calm("a copy after the next log began")
 
     def tries_end(self) -> None:
-        """The script itself, on a log that is never valid: it ends after its tries, says how many, and leaves nothing."""
+        """Runs the script on a log that is never valid. It must end after its tries, print their number, and leave nothing."""
         damaged = self.folder / "endless.db"
         shutil.copyfile(self.registry.file, damaged)
         log_of(damaged).touch()

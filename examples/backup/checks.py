@@ -1,6 +1,6 @@
-"""What certain.py and trial.py share: a server to write to, hot-copy as a module, and the checks of a copy.
+"""Shared code of certain.py and trial.py: a server, hot-copy as a module, random writes, and the checks of a copy.
 
-AVROREG names the program, and HOT_COPY the script to try.
+AVROREG names the program, and HOT_COPY the script under test.
 """
 
 import http.client
@@ -38,7 +38,7 @@ HOT_COPY = load_tool()
 
 @dataclass(frozen=True)
 class Write:
-    """A write with its key, and the reply that it got."""
+    """A write with its key and its reply."""
 
     key: str
     method: str
@@ -48,8 +48,8 @@ class Write:
     reply: str = ""
 
 
-def write_of(client: int, number: int, chance: random.Random, digits: int = 6000) -> Write:
-    """A random write: mostly a new schema with up to so many hexadecimal digits, or else a deletion or a level."""
+def random_write(client: int, number: int, chance: random.Random, digits: int = 6000) -> Write:
+    """A random write: usually a new schema with fewer than `digits` hexadecimal digits, else a deletion or a level."""
     key, subject = f"client{client}-{number}", f"s{client}-{chance.randrange(20)}"
     kind = chance.random()
     if kind < 0.75:
@@ -82,7 +82,7 @@ class Server:
     def wait_for_answer(self) -> None:
         for _ in range(6000):
             try:
-                self.ask("GET", "/config")
+                self.request("GET", "/config")
                 return
             except OSError:
                 if self.process.poll() is not None:
@@ -90,8 +90,8 @@ class Server:
                 time.sleep(0.01)
         raise RuntimeError("the server doesn't answer")
 
-    def ask(self, method: str, path: str, body: str | None = None, key: str | None = None) -> tuple[int, str]:
-        """The status and the body of a reply, each on a connection of its own."""
+    def request(self, method: str, path: str, body: str | None = None, key: str | None = None) -> tuple[int, str]:
+        """Sends a request on its own connection. Returns the status and the body of the reply."""
         connection = http.client.HTTPConnection("127.0.0.1", self.port, timeout=120)
         try:
             headers = {"Connection": "close"} | ({"Registry-Retry-Key": key} if key else {})
@@ -102,8 +102,8 @@ class Server:
             connection.close()
 
     def send(self, write: Write) -> Write | None:
-        """The write with its reply, or None if the reply isn't final."""
-        status, reply = self.ask(write.method, write.path, write.body, write.key)
+        """Sends a write. Returns it with its reply, or None if the reply isn't final."""
+        status, reply = self.request(write.method, write.path, write.body, write.key)
         if status not in FINAL_STATUSES:
             return None
         return Write(write.key, write.method, write.path, write.body, status, reply)
@@ -114,13 +114,13 @@ class Server:
 
 
 def remove(copy: Path) -> None:
-    """Removes a copy, its log, and what a check made of them."""
+    """Removes a copy, its log, and the files that the checks made of them."""
     for file in copy.parent.glob(copy.name + "*"):
         file.unlink()
 
 
 def duplicate(copy: Path, suffix: str) -> Path:
-    """The copy once more, since a check may change the file that it opens."""
+    """Duplicates the copy, since a check may change the file that it opens."""
     target = copy.with_name(copy.name + suffix)
     for end in ("", "-wal"):
         shutil.copyfile(f"{copy}{end}", f"{target}{end}")
@@ -128,13 +128,13 @@ def duplicate(copy: Path, suffix: str) -> Path:
 
 
 def fault_of_audit(copy: Path) -> str:
-    """What `avroreg audit` says against the copy."""
+    """The output of a failed `avroreg audit` of the copy, or an empty text."""
     audit = subprocess.run([PROGRAM, "audit", "--db", duplicate(copy, ".audit")], capture_output=True, text=True)
     return "" if audit.returncode == 0 else f"audit: status {audit.returncode}, {audit.stdout}{audit.stderr}".strip()
 
 
 def versions_of(database: Path) -> list[tuple]:
-    """The rows of the versions."""
+    """The rows of the table `versions`."""
     connection = sqlite3.connect(database)
     try:
         return connection.execute("SELECT * FROM versions ORDER BY subject, version").fetchall()
@@ -143,7 +143,7 @@ def versions_of(database: Path) -> list[tuple]:
 
 
 def fault_of_rows(database: Path, writes: list[Write]) -> str:
-    """What sqlite3 finds wrong: damage, or an acknowledged write that is missing."""
+    """Damage that sqlite3 finds, or a missing acknowledged write; else an empty text."""
     connection = sqlite3.connect(database)
     try:
         if (check := connection.execute("PRAGMA integrity_check").fetchone()[0]) != "ok":
@@ -158,11 +158,11 @@ def fault_of_rows(database: Path, writes: list[Write]) -> str:
 
 
 def fault_of_retries(copy: Path, writes: list[Write], before: list[tuple]) -> str:
-    """What a server on the copy answers wrongly to retries, or whether they changed the versions."""
+    """A wrong reply to a retry at a server on the copy, or a change of the versions by the retries; else an empty text."""
     server = Server(copy)
     try:
         for write in writes[-SAMPLE:] + random.sample(writes, min(SAMPLE, len(writes))):
-            reply = server.ask(write.method, write.path, write.body, write.key)
+            reply = server.request(write.method, write.path, write.body, write.key)
             if reply != (write.status, write.reply):
                 return f"{write.key} retried: {reply}, first {write.status} {write.reply}"
     finally:
@@ -171,6 +171,6 @@ def fault_of_retries(copy: Path, writes: list[Write], before: list[tuple]) -> st
 
 
 def fault_of(copy: Path, writes: list[Write]) -> str:
-    """What is wrong with a copy that has to hold these acknowledged writes, or nothing. The checks change the copy."""
+    """What is wrong with a copy that must have these acknowledged writes, or an empty text. The checks change the copy."""
     rows = duplicate(copy, ".rows")
     return fault_of_audit(copy) or fault_of_rows(rows, writes) or fault_of_retries(copy, writes, versions_of(rows))

@@ -1,11 +1,11 @@
 #!/usr/bin/env python3
 """Copies a registry under write load again and again, and checks each copy with checks.py.
 
-    trial.py COPIES FOLDER..      so many copies in each folder, half of them with kills
+    trial.py COPIES FOLDER..      makes COPIES copies in each folder, half of them with kills
 
 Two clients write while hot-copy runs, and pause while a copy is checked. Every second copy reads
-as if from a slow disk, so that the log often begins anew meanwhile. With kills, the server is
-killed at random moments, also within a copy, and starts again. A registry is used for at most 25
+as if from a slow disk, so that SQLite often starts a new log meanwhile. With kills, the server is
+killed at random moments, also within a copy, and starts again. A registry serves for at most 25
 copies. AVROREG names the program, HOT_COPY the script.
 """
 
@@ -23,7 +23,7 @@ from dataclasses import dataclass, field
 from pathlib import Path
 from unittest import mock
 
-from checks import HOT_COPY, Server, Write, fault_of, remove, write_of
+from checks import HOT_COPY, Server, Write, fault_of, remove, random_write
 
 ROUND = 25
 TRIES = 100
@@ -36,7 +36,8 @@ KILL_SECONDS = (0.05, 0.6)
 
 @dataclass
 class Load:
-    """Clients that write, and perhaps a killer, while `runs` is set; and the acknowledged writes, in the order of their replies."""
+    """The clients, which write while `runs` is set, and the acknowledged writes in the order of their replies. A further thread
+    may kill the server."""
 
     server: Server
     acknowledged: list[Write] = field(default_factory=list)
@@ -51,7 +52,7 @@ class Load:
         chance, number = random.Random(client), 0
         while not self.stopped:
             number += 1
-            write = write_of(client, number, chance, DIGITS)
+            write = random_write(client, number, chance, DIGITS)
             while self.runs.wait() and not self.stopped:
                 try:
                     replied = self.server.send(write)
@@ -73,19 +74,19 @@ class Load:
                 self.server.start()
 
     def wait_for(self, count: int) -> None:
-        """Waits until so many more writes are acknowledged."""
+        """Waits until `count` more writes are acknowledged."""
         last, deadline = len(self.acknowledged) + count, time.monotonic() + LONGEST_SECONDS
         while len(self.acknowledged) < last and time.monotonic() < deadline:
             time.sleep(0.01)
 
-    def so_far(self) -> list[Write]:
+    def writes_so_far(self) -> list[Write]:
         with self.lock:
             return list(self.acknowledged)
 
 
 @dataclass
 class Counts:
-    """What a folder's copies came to."""
+    """The results of a folder's copies."""
 
     copies: int = 0
     wrong: int = 0
@@ -115,7 +116,7 @@ class SlowCopy:
 
 
 def copy_file_of(number: int, database: Path):
-    """How a copy reads: every second one slowly."""
+    """The function with which a copy reads: a slow one for every second copy."""
     if number % 2 == 0:
         return HOT_COPY.copy_file
     blocks = sum(file.stat().st_size for file in (database, HOT_COPY.log_of(database))) // HOT_COPY.BLOCK_BYTES + 2
@@ -123,12 +124,12 @@ def copy_file_of(number: int, database: Path):
 
 
 def copy_under_load(load: Load, copy: Path, number: int, counts: Counts) -> str:
-    """Copies while the load runs, and says what is wrong with the copy."""
+    """Copies while the load runs. Returns what is wrong with the copy, or an empty text."""
     database = load.server.file
     load.runs.set()
     load.wait_for(WRITES_BETWEEN_COPIES)
     for _ in range(TRIES):
-        acknowledged = load.so_far()
+        acknowledged = load.writes_so_far()
         load.copying = True
         with mock.patch.object(HOT_COPY, "copy_file", copy_file_of(number, database)):
             accepted = HOT_COPY.copy_once(database, copy)
@@ -147,11 +148,11 @@ def copy_under_load(load: Load, copy: Path, number: int, counts: Counts) -> str:
     return fault
 
 
-def round_of(folder: Path, copies: int, with_kills: bool, counts: Counts) -> None:
-    """Fills a new registry and copies it."""
+def run_round(folder: Path, copies: int, with_kills: bool, counts: Counts) -> None:
+    """Fills a new registry, and makes `copies` copies of it."""
     folder = Path(tempfile.mkdtemp(prefix="avroreg-trial-", dir=folder))
     load = Load(Server(folder / "registry.db"))
-    load.server.ask("PUT", "/config", '{"compatibility":"NONE"}')
+    load.server.request("PUT", "/config", '{"compatibility":"NONE"}')
     threads = [threading.Thread(target=load.write, args=(client,)) for client in (1, 2)]
     threads += [threading.Thread(target=load.kill)] if with_kills else []
     for thread in threads:
@@ -178,13 +179,13 @@ def round_of(folder: Path, copies: int, with_kills: bool, counts: Counts) -> Non
 
 
 def trial(folder: Path, copies: int) -> int:
-    """Half of the copies without kills, then the others with kills. How many are wrong."""
+    """Makes half of the copies without kills and half with kills. Returns how many are wrong."""
     kind = subprocess.run(["stat", "-f", "-c", "%T", folder], check=True, capture_output=True, text=True).stdout.strip()
     wrong = 0
     for with_kills, part in ((False, copies - copies // 2), (True, copies // 2)):
         counts = Counts()
         while counts.copies < part:
-            round_of(folder, min(ROUND, part - counts.copies), with_kills, counts)
+            run_round(folder, min(ROUND, part - counts.copies), with_kills, counts)
         print(f"{kind}, {'with' if with_kills else 'without'} kills: {counts}", flush=True)
         wrong += counts.wrong
     return wrong

@@ -3,10 +3,10 @@
 # acknowledged write, and retries at a server on the copy. In each folder, half of the copies are made while the server is
 # killed at random moments.
 #
-#   AVROREG=PROGRAM examples/backup/trial.sh COPIES FOLDER..     so many copies in each folder; README.md mounts folders
-#   HOT_COPY        the script to try; by default the one next to this file
+#   AVROREG=PROGRAM examples/backup/trial.sh COPIES FOLDER..     makes COPIES copies in each folder; README.md mounts folders
+#   HOT_COPY        the script under test; by default the one next to this file
 #
-# Ends with status 0 if all copies were right. Takes two to five seconds for a copy.
+# The status is 0 if all copies were right. A copy takes two to five seconds.
 set -u
 source "$(dirname "$0")/../serving.sh"
 need python3

@@ -1,10 +1,10 @@
 #!/usr/bin/env bash
-# Tries hot-copy and restore-drill: copies with a new log or a checkpoint at a chosen moment, copies under load with and
+# Tests hot-copy and restore-drill: copies with a new log or a checkpoint at a chosen moment, copies under load with and
 # without kill -9, and then a drill. trial.sh makes many more copies, on any file systems.
 #
-#   AVROREG=PROGRAM examples/backup/try.sh [COPIES]          so many copies under load, 4 by default
+#   AVROREG=PROGRAM examples/backup/try.sh [COPIES]          COPIES copies under load, 4 by default
 #   AVROREG=PROGRAM examples/backup/try.sh breaks [NAME]..   breaks hot-copy, and expects this script to detect it
-#   HOT_COPY        the script to try; by default the one next to this file
+#   HOT_COPY        the script under test; by default the one next to this file
 set -u
 source "$(dirname "$0")/../serving.sh"
 need python3 curl
@@ -13,7 +13,7 @@ here=$examples/backup
 AVROREG=$(realpath "$avroreg")
 export AVROREG HOT_COPY=${HOT_COPY:-$here/hot-copy}
 
-# try_breaks [NAME]..: each break, or each named one, has to fail in the case that is for it.
+# try_breaks [NAME]..: each break, or each named one, must fail in its case.
 try_breaks() {
   local name report found outcome tried=0 undetected=0
   while read -r name report; do

@@ -1,7 +1,7 @@
 #!/usr/bin/env bash
-# Sends the calls of clients for Java, JavaScript and Rust, in these languages, to servers that it starts, alone and behind
-# nginx, and checks what docs/clients.md says of requests. Installs what it needs. The status is 0 if each response is as it
-# has to be.
+# Sends the calls of clients for Java, JavaScript and Rust, in these languages, to avroreg alone and behind nginx. It also checks
+# the facts of docs/clients.md about requests. It starts the servers, and installs missing packages. The status is 0 if each
+# response is right.
 #
 #   AVROREG=PROGRAM examples/clients/replay.sh
 set -u

@@ -1,6 +1,6 @@
 #!/usr/bin/env bash
-# Installs Confluent's Python client and a Go client of Debian's packages, and runs both against a server that it
-# starts. Ends with status 0 where each got what it has to.
+# Installs Debian's packages of Confluent's Python client and of a Go client, and runs both with a server that it starts. The
+# status is 0 if both got the right responses.
 #
 #   AVROREG=PROGRAM examples/clients/run.sh
 set -u

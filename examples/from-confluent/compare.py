@@ -1,10 +1,10 @@
 #!/usr/bin/env python3
-"""Asks two registries for all that they show, and compares each answer.
+"""Sends the same reads to two registries, and compares each response.
 
     python3 examples/from-confluent/compare.py FROM TO PROGRAM [MOVED]
 
-FROM answers in Confluent's forms, or both are avroreg, whose answers are compared byte for byte. PROGRAM is avroreg, which
-tells the identity text of a schema. MOVED is what the mover printed, where it gave new ids.
+FROM returns the JSON of Confluent's registry. Or both are avroreg; then the script compares the responses byte for byte.
+PROGRAM is avroreg, which prints the identity text of a schema. MOVED is the mover's output, if it gave new ids.
 """
 import functools
 import http.client
@@ -23,7 +23,7 @@ class Server:
         self.connection = http.client.HTTPConnection(parts.hostname, parts.port, timeout=60)
 
     def ask(self, path, schema=None):
-        """Status and body of the answer, asked twice where the connection was closed meanwhile."""
+        """Sends a request, again if the server has closed the connection. Returns the status and the body of the response."""
         request = ("GET", path) if schema is None else ("POST", path, json.dumps({"schema": schema}).encode())
         try:
             self.connection.request(*request)
@@ -34,8 +34,8 @@ class Server:
             answer = self.connection.getresponse()
         return answer.status, answer.read()
 
-    def shown(self, path):
-        """What is shown, or an empty list."""
+    def get(self, path):
+        """The JSON at the path, or an empty list if the status isn't 200."""
         status, body = self.ask(path)
         return json.loads(body) if status == 200 else []
 
@@ -48,119 +48,119 @@ def identity(program, text):
         return subprocess.run([program, "text", file.name], check=True, capture_output=True).stdout.decode().rstrip("\n")
 
 
-def shown(value):
-    """What an answer says: lists without their order, of a fault the code."""
+def comparable(value):
+    """The comparable part of a response: a list without its order, the code of an error."""
     if isinstance(value, list):
         return sorted(value, key=str)
     return value["error_code"] if isinstance(value, dict) and "error_code" in value else value
 
 
 class Comparison:
-    def __init__(self, source, target, program, becomes):
-        self.source, self.target, self.program, self.becomes = source, target, program, becomes
+    def __init__(self, source, target, program, new_ids):
+        self.source, self.target, self.program, self.new_ids = source, target, program, new_ids
         self.is_exact = source.ask("/contexts")[0] == 404
-        self.asked = self.differing = 0
+        self.compared = self.differing = 0
 
     def expected(self, value):
-        """What avroreg has to show where the other registry shows this; of a fault, the code."""
+        """The JSON that avroreg must return if the other registry returns this."""
         if isinstance(value, list):
             return sorted(value, key=str)
         if isinstance(value, dict) and "error_code" not in value:
             found = dict(value)
             if "id" in found:
-                found["id"] = self.becomes.get(found["id"], found["id"])
+                found["id"] = self.new_ids.get(found["id"], found["id"])
             if "schema" in found:
                 found["schema"] = identity(self.program, found["schema"])
             return found
-        return shown(value)
+        return comparable(value)
 
-    def same(self, path, schema=None, at_target=None):
+    def compare(self, path, schema=None, at_target=None):
         first, second = self.source.ask(path, schema), self.target.ask(at_target or path, schema)
         if not self.is_exact:
             first = first[0], self.expected(json.loads(first[1]))
-            second = second[0], shown(json.loads(second[1]))
-        self.count(path, first, second)
+            second = second[0], comparable(json.loads(second[1]))
+        self.count_pair(path, first, second)
 
-    def same_schema(self, path):
-        """A schema by itself: its JSON, which is its identity text, or one of the same."""
+    def compare_schema(self, path):
+        """Compares the schema at a path. avroreg returns its identity text, and the other registry a text with this identity."""
         first, second = self.source.ask(path), self.target.ask(path)
         if not self.is_exact:
-            first = identity(self.program, first[1].decode()) if first[0] == 200 else shown(json.loads(first[1]))
-            second = second[1].decode() if second[0] == 200 else shown(json.loads(second[1]))
-        self.count(path, first, second)
+            first = identity(self.program, first[1].decode()) if first[0] == 200 else comparable(json.loads(first[1]))
+            second = second[1].decode() if second[0] == 200 else comparable(json.loads(second[1]))
+        self.count_pair(path, first, second)
 
-    def count(self, path, first, second):
-        self.asked += 1
+    def count_pair(self, path, first, second):
+        self.compared += 1
         if first != second:
             self.differing += 1
-            print(f"{path}: {first} at first, {second} here")
+            print(f"{path}: {first} at FROM, {second} at TO")
 
-    def settings(self, name=""):
+    def compare_settings(self, name=""):
         for kind in "config", "mode":
             path = f"/{kind}/{name}" if name else f"/{kind}"
-            self.same(path)
-            self.same(f"{path}?defaultToGlobal=true")
+            self.compare(path)
+            self.compare(f"{path}?defaultToGlobal=true")
 
-    def subject(self, name):
+    def compare_subject(self, name):
         quoted = urllib.parse.quote(name, safe="")
         path = f"/subjects/{quoted}/versions"
-        numbers = self.source.shown(f"{path}?deleted=true")
-        self.settings(quoted)
-        self.same(path)
-        self.same(f"{path}?deleted=true")
-        self.same(f"{path}/latest")
+        numbers = self.source.get(f"{path}?deleted=true")
+        self.compare_settings(quoted)
+        self.compare(path)
+        self.compare(f"{path}?deleted=true")
+        self.compare(f"{path}/latest")
         for number in range(1, max(numbers, default=0) + 2):
-            self.same(f"{path}/{number}")
-            self.same(f"{path}/{number}?deleted=true")
-            self.same_schema(f"{path}/{number}/schema")
+            self.compare(f"{path}/{number}")
+            self.compare(f"{path}/{number}?deleted=true")
+            self.compare_schema(f"{path}/{number}/schema")
         for number in numbers:
-            schema = self.source.shown(f"{path}/{number}?deleted=true")["schema"]
-            self.same(f"/subjects/{quoted}", schema)
-            self.same(f"/subjects/{quoted}?deleted=true", schema)
-        return [self.source.shown(f"{path}/{number}?deleted=true")["id"] for number in numbers]
+            schema = self.source.get(f"{path}/{number}?deleted=true")["schema"]
+            self.compare(f"/subjects/{quoted}", schema)
+            self.compare(f"/subjects/{quoted}?deleted=true", schema)
+        return [self.source.get(f"{path}/{number}?deleted=true")["id"] for number in numbers]
 
-    def identifier(self, number):
-        self.same(f"/schemas/ids/{number}")
-        self.same(f"/schemas/ids/{number}/versions")
-        self.same(f"/schemas/ids/{number}/versions?deleted=true")
+    def compare_id(self, number):
+        self.compare(f"/schemas/ids/{number}")
+        self.compare(f"/schemas/ids/{number}/versions")
+        self.compare(f"/schemas/ids/{number}/versions?deleted=true")
 
-    def new_identifiers(self, ids):
-        """Ids that were given anew: the schema of each, and the versions of those that became one together."""
+    def compare_new_ids(self, ids):
+        """Compares the schemas of changed ids, and the versions of the ids that became one."""
         olds = {}
         for number in sorted(ids):
-            olds.setdefault(self.becomes.get(number, number), []).append(number)
+            olds.setdefault(self.new_ids.get(number, number), []).append(number)
         for new, numbers in olds.items():
             for number in numbers:
-                self.same(f"/schemas/ids/{number}", at_target=f"/schemas/ids/{new}")
+                self.compare(f"/schemas/ids/{number}", at_target=f"/schemas/ids/{new}")
             for query in "", "?deleted=true":
-                first = [it for number in numbers for it in self.source.shown(f"/schemas/ids/{number}/versions{query}")]
-                second = self.target.shown(f"/schemas/ids/{new}/versions{query}")
-                self.count(f"/schemas/ids/{new}/versions{query}", sorted(first, key=str), sorted(second, key=str))
+                first = [it for number in numbers for it in self.source.get(f"/schemas/ids/{number}/versions{query}")]
+                second = self.target.get(f"/schemas/ids/{new}/versions{query}")
+                self.count_pair(f"/schemas/ids/{new}/versions{query}", sorted(first, key=str), sorted(second, key=str))
 
-    def all(self):
-        self.same("/subjects")
-        self.same("/subjects?deleted=true")
-        self.settings()
-        names = self.source.shown("/subjects?deleted=true")
-        ids = set(itertools.chain(*(self.subject(name) for name in [*names, "no such subject"])))
-        if self.becomes:
-            self.new_identifiers(ids)
+    def compare_all(self):
+        self.compare("/subjects")
+        self.compare("/subjects?deleted=true")
+        self.compare_settings()
+        names = self.source.get("/subjects?deleted=true")
+        ids = set(itertools.chain(*(self.compare_subject(name) for name in [*names, "no such subject"])))
+        if self.new_ids:
+            self.compare_new_ids(ids)
         else:
             for number in range(max(min(ids, default=1) - 50, 1), max(ids, default=0) + 2):
-                self.identifier(number)
+                self.compare_id(number)
         return len(names)
 
 
 def main():
     source, target, program = Server(sys.argv[1]), Server(sys.argv[2]), sys.argv[3]
-    becomes = {}
+    new_ids = {}
     if len(sys.argv) > 4:
         with open(sys.argv[4], encoding="utf-8") as moved:
-            becomes = {int(old): int(new) for old, new in re.findall(r"^id (\d+) becomes (\d+)$", moved.read(), re.M)}
-    comparison = Comparison(source, target, program, becomes)
-    subjects = comparison.all()
+            new_ids = {int(old): int(new) for old, new in re.findall(r"^id (\d+) becomes (\d+)$", moved.read(), re.M)}
+    comparison = Comparison(source, target, program, new_ids)
+    subjects = comparison.compare_all()
     kind = "byte for byte" if comparison.is_exact else "by their meaning"
-    print(f"{subjects} subjects, {comparison.asked} requests to both, compared {kind}: {comparison.differing} answers differ")
+    print(f"{subjects} subjects, {comparison.compared} requests to both, compared {kind}: {comparison.differing} responses differ")
     sys.exit(comparison.differing > 0)
 
 

@@ -1,5 +1,5 @@
 #!/usr/bin/env python3
-"""Compares the identity texts that from-confluent.py computes with those that the cases of tests/schemas have.
+"""Compares the identity texts that from-confluent.py computes with those in the cases of tests/schemas.
 
     python3 examples/from-confluent/identities.py
 """
@@ -15,7 +15,7 @@ from harness.reading import read_cases
 
 
 def mover():
-    """from-confluent.py, whose name no import can spell."""
+    """Loads from-confluent.py. An import statement can't, because of the hyphen in its name."""
     spec = importlib.util.spec_from_file_location("mover", ROOT / "examples" / "from-confluent.py")
     module = importlib.util.module_from_spec(spec)
     sys.modules["mover"] = module
@@ -24,7 +24,7 @@ def mover():
 
 
 def cases():
-    """Where each case stands, its text, and the identity text of the schema that it denotes."""
+    """The position of each case, its text, and the identity text of its schema."""
     for file in sorted((ROOT / "tests" / "schemas").iterdir()):
         for case in read_cases(file):
             for line in case.lines:
@@ -40,7 +40,7 @@ def main():
         found = identity(text)
         assert found == wanted, f"{where}: {found[:500]}"
         count += 1
-    print(f"{count} identity texts, each as tests/schemas has it")
+    print(f"{count} identity texts, each equal to that of tests/schemas")
 
 
 if __name__ == "__main__":

@@ -1,11 +1,11 @@
 #!/usr/bin/env python3
-"""A registry to read from, for trying: it answers in the forms of Confluent's, over what a past made up by chance has left.
+"""A read-only stand-in for Confluent's registry, for tests. Its contents are those after a random history of writes.
 
     python3 examples/from-confluent/standin.py PORT [options]
 
-It holds so many versions in so many subjects: some soft-deleted, some numbers without a version, schemas that were
-registered again, own levels. Each id is used and comes in order, unless --lost-ids says that versions may be deleted
-permanently. It lists all versions (GET /schemas) a page at a time. It takes no writes: all but GET and a lookup get 405.
+Some of its versions are soft-deleted, some numbers have no version, some schemas were registered again, and some subjects
+have their own level. Each id is in use, and ids are in order, unless --lost-ids allows permanent deletions. It lists all
+versions (GET /schemas) in pages. It accepts no writes: each request but GET and a lookup gets 405.
 """
 import argparse
 import base64
@@ -46,34 +46,34 @@ TWINS = ['{"type":"enum","name":"Twin","symbols":[]}', '{"symbols":[],"name":"Tw
 
 
 class Registry:
-    """Versions by subject and number, each with its id and whether it is soft-deleted; a schema is a text and members."""
+    """The versions by subject and number, each with its id and whether it is soft-deleted. A schema is a text and members."""
 
-    def __init__(self, words):
-        self.random = random.Random(words.seed)
-        self.first_id = words.first_id
-        self.ids, self.schemas, self.subjects, self.givers, self.registered = {}, {}, {}, set(), 0
+    def __init__(self, options):
+        self.random = random.Random(options.seed)
+        self.first_id = options.first_id
+        self.ids, self.schemas, self.subjects, self.first_versions, self.registered = {}, {}, {}, set(), 0
         self.level, self.levels, self.mode, self.modes = "FULL_TRANSITIVE", {}, "READWRITE", {}
-        names = NAMES[:words.subjects] + [f"topic-{at}-value" for at in range(len(NAMES), words.subjects)]
+        names = NAMES[:options.subjects] + [f"topic-{at}-value" for at in range(len(NAMES), options.subjects)]
         for name in names:
             self.register(name, self.schema())
-        while sum(map(len, self.subjects.values())) < words.versions:
-            self.happen(self.random.choice(names), words.lost_ids)
+        while sum(map(len, self.subjects.values())) < options.versions:
+            self.change_at_random(self.random.choice(names), options.lost_ids)
         for name in self.random.sample(names, len(names) // 5):
             self.levels[name] = self.random.choice(LEVELS)
-        if words.modes:
+        if options.modes:
             self.mode = "READONLY"
             self.modes = {name: self.random.choice(["READONLY", "READWRITE"]) for name in names[::10]}
-        for schema, name in zip(TWINS if words.twins else [], names):
+        for schema, name in zip(TWINS if options.twins else [], names):
             self.register(name, (schema, {}))
-        if words.foreign:
+        if options.foreign:
             self.add_foreign(names)
 
     def schema(self):
-        """A new schema, or one of those that many subjects have."""
-        known = self.random.random()
-        if known < 0.1:
+        """A new schema, or one that other subjects have, too."""
+        existing_id = self.random.random()
+        if existing_id < 0.1:
             return self.random.choice(SHARED), {}
-        if known < 0.25 and self.schemas:
+        if existing_id < 0.25 and self.schemas:
             return self.schemas[self.random.choice(list(self.schemas))]
         self.registered += 1
         return self.random.choice(FORMS).replace("_N", f"_{self.registered}"), {}
@@ -84,15 +84,15 @@ class Registry:
         if key not in self.ids:
             self.ids[key] = len(self.ids) + self.first_id
             self.schemas[self.ids[key]] = schema
-            self.givers.add((name, max(versions, default=0) + 1))
+            self.first_versions.add((name, max(versions, default=0) + 1))
         if [self.ids[key], False] not in versions.values():
             versions[max(versions, default=0) + 1] = [self.ids[key], False]
 
-    def happen(self, name, lost_ids):
-        """A version is registered, or deleted softly, or for good. One that gave an id stays, unless ids may be lost."""
+    def change_at_random(self, name, lost_ids):
+        """Registers a version, or deletes one softly or permanently. The first version of an id stays, unless ids may be lost."""
         number = self.random.choice(list(self.subjects[name]))
         version = self.subjects[name][number]
-        if version[1] and (lost_ids or (name, number) not in self.givers) and len(self.subjects[name]) > 1:
+        if version[1] and (lost_ids or (name, number) not in self.first_versions) and len(self.subjects[name]) > 1:
             del self.subjects[name][number]
         elif self.random.random() < 0.2:
             version[1] = True
@@ -102,7 +102,7 @@ class Registry:
             self.register(name, self.schema())
 
     def add_foreign(self, names):
-        """What avroreg doesn't take, one of each in a subject."""
+        """Adds versions that avroreg doesn't accept, one of each kind in a subject."""
         for name, schema in zip(names[20:], FOREIGN):
             self.register(name, schema)
         self.register(":.other:orders", ('"string"', {}))
@@ -116,8 +116,8 @@ class Fault(Exception):
 
 
 class Busy:
-    """Makes each so-many-th request fail as a busy registry would: 429 and 503 with Retry-After, 500, 502 without, and a
-    connection that closes. The one after it is answered, and has to come no sooner than Retry-After says."""
+    """Makes each `every`th request fail as at a busy registry: with 429 or 503 and Retry-After, with 500 or 502, or with a closed
+    connection. The next request succeeds. It counts the requests that come before the time of Retry-After."""
 
     def __init__(self, every):
         self.every, self.count, self.earliest, self.soon = every, 0, 0.0, 0
@@ -155,8 +155,8 @@ class Handler(http.server.BaseHTTPRequestHandler):
         names = self.registry.subjects
         return [name for name in names if deleted or not all(gone for _, gone in names[name].values())]
 
-    def shown(self, deleted, name):
-        """The versions of a subject that are shown, and at least one."""
+    def visible(self, deleted, name):
+        """The visible versions of a subject. Without one, an error."""
         versions = self.registry.subjects.get(name, {})
         found = {number: number_of for number, (number_of, gone) in sorted(versions.items()) if deleted or not gone}
         if not found:
@@ -164,10 +164,10 @@ class Handler(http.server.BaseHTTPRequestHandler):
         return found
 
     def versions(self, deleted, name):
-        return list(self.shown(deleted, name))
+        return list(self.visible(deleted, name))
 
     def version(self, deleted, name, number):
-        versions = self.shown(deleted, name)
+        versions = self.visible(deleted, name)
         if not re.fullmatch("latest|[1-9][0-9]{0,8}", number):
             raise Fault(42202, f"The specified version '{number}' is not a valid version id. Allowed values are between "
                                "[1, 2^31-1] and the string \"latest\"")
@@ -181,10 +181,10 @@ class Handler(http.server.BaseHTTPRequestHandler):
         return json.loads(self.version(deleted, name, number)["schema"])
 
     def schema(self, deleted, number):
-        text, members = self.registry.schemas[self.known(number)]
+        text, members = self.registry.schemas[self.existing_id(number)]
         return {**members, "schema": text}
 
-    def known(self, number):
+    def existing_id(self, number):
         rows = [row for versions in self.registry.subjects.values() for row in versions.values()]
         if not any(str(row[0]) == number for row in rows):
             raise Fault(40403, f"Schema {number} not found")
@@ -195,29 +195,29 @@ class Handler(http.server.BaseHTTPRequestHandler):
         wanted = self.query.get("subjectPrefix", [""])[0]
         offset, limit = (int(self.query.get(name, [otherwise])[0]) for name, otherwise in (("offset", 0), ("limit", -1)))
         rows = [self.version(deleted, name, str(number)) for name in sorted(self.subjects(deleted))
-                for number in self.shown(deleted, name) if wanted == ":*:" or name.startswith(wanted)]
-        page = self.words.page if limit < 0 else min(limit, self.words.page)
-        return rows[:page] if self.words.ignore_offset else rows[offset:offset + page]
+                for number in self.visible(deleted, name) if wanted == ":*:" or name.startswith(wanted)]
+        page = self.options.page if limit < 0 else min(limit, self.options.page)
+        return rows[:page] if self.options.ignore_offset else rows[offset:offset + page]
 
     def requests(self, deleted):
-        """How many requests came by now, of each kind, and how many came before the time of Retry-After."""
+        """The numbers of requests so far, of each kind, and of requests before the time of Retry-After."""
         return {**self.counts, "too soon": self.busy.soon}
 
     def versions_of(self, deleted, number):
-        number = self.known(number)
+        number = self.existing_id(number)
         return [{"subject": name, "version": version} for name, versions in self.registry.subjects.items()
                 for version, (identifier, gone) in versions.items() if identifier == number and (deleted or not gone)]
 
-    def setting(self, shown, own, code, kind):
+    def setting(self, visible, own, code, kind):
         def answer(deleted, name=None):
-            found = own().get(name) if name else shown()
+            found = own().get(name) if name else visible()
             if found is None and self.query.get("defaultToGlobal") != ["true"]:
                 raise Fault(code, f"Subject '{name}' does not have subject-level {kind} configured")
-            return {"mode" if kind == "mode" else "compatibilityLevel": found or shown()}
+            return {"mode" if kind == "mode" else "compatibilityLevel": found or visible()}
         return answer
 
     def look_up(self, deleted, name):
-        versions = self.shown(deleted, name)
+        versions = self.visible(deleted, name)
         schema = json.loads(self.body)["schema"]
         found = [number for number in versions if self.registry.schemas[versions[number]][0] == schema]
         if not found:
@@ -228,7 +228,7 @@ class Handler(http.server.BaseHTTPRequestHandler):
         registry = self.registry
         config = self.setting(lambda: registry.level, lambda: registry.levels, 40408, "compatibility")
         mode = self.setting(lambda: registry.mode, lambda: registry.modes, 40409, "mode")
-        lists = [] if self.words.no_list else [("GET", "/schemas", self.all_versions)]
+        lists = [] if self.options.no_list else [("GET", "/schemas", self.all_versions)]
         return [*lists, ("GET", "/requests", self.requests),
                 ("GET", "/subjects", self.subjects), ("GET", "/subjects/([^/]+)/versions", self.versions),
                 ("GET", "/subjects/([^/]+)/versions/([^/]+)", self.version),
@@ -273,7 +273,7 @@ class Handler(http.server.BaseHTTPRequestHandler):
     do_POST = do_PUT = do_DELETE = do_GET
 
     def handle(self):
-        with contextlib.suppress(ConnectionError):  # of a client that was killed
+        with contextlib.suppress(ConnectionError):  # if the client was killed
             super().handle()
 
     def log_message(self, *arguments):
@@ -286,24 +286,24 @@ def main():
     parser.add_argument("--versions", type=int, default=2000)
     parser.add_argument("--subjects", type=int, default=300)
     parser.add_argument("--seed", type=int, default=1)
-    parser.add_argument("--modes", action="store_true", help="it is READONLY, and subjects have modes of their own")
-    parser.add_argument("--lost-ids", action="store_true", help="ids that no version has any more, or that come late")
-    parser.add_argument("--foreign", action="store_true", help="at last versions and a mode that avroreg doesn't take")
-    parser.add_argument("--twins", action="store_true", help="two ids have schemas that are one for avroreg")
-    parser.add_argument("--password", metavar="USER:PASSWORD", help="asks for it")
-    parser.add_argument("--certificate", metavar="FILE", help="speaks https, by a file of a certificate and its key")
-    parser.add_argument("--first-id", type=int, default=1, help="ids begin here; Confluent Cloud's with 100,001")
-    parser.add_argument("--busy", metavar="N", type=int, default=0, help="each Nth request fails, and works if repeated")
+    parser.add_argument("--modes", action="store_true", help="the registry is READONLY, and some subjects have their own mode")
+    parser.add_argument("--lost-ids", action="store_true", help="some ids have no version any more, or come late")
+    parser.add_argument("--foreign", action="store_true", help="add versions and a mode that avroreg doesn't accept")
+    parser.add_argument("--twins", action="store_true", help="two ids have schemas that are the same for avroreg")
+    parser.add_argument("--password", metavar="USER:PASSWORD", help="require this user and password")
+    parser.add_argument("--certificate", metavar="FILE", help="use https, with this file of a certificate and its key")
+    parser.add_argument("--first-id", type=int, default=1, help="the first id; at Confluent Cloud it is 100,001")
+    parser.add_argument("--busy", metavar="N", type=int, default=0, help="each Nth request fails, and succeeds if repeated")
     parser.add_argument("--page", metavar="N", type=int, default=1000, help="GET /schemas lists at most N versions")
     parser.add_argument("--no-list", action="store_true", help="an older registry: GET /schemas gets 404")
     parser.add_argument("--ignore-offset", action="store_true", help="GET /schemas lists the first page, whatever the offset")
-    words = parser.parse_args()
-    Handler.registry, Handler.password = Registry(words), words.password
-    Handler.words, Handler.busy, Handler.counts = words, Busy(words.busy), {}
-    server = http.server.ThreadingHTTPServer(("127.0.0.1", words.port), Handler)
-    if words.certificate:
+    options = parser.parse_args()
+    Handler.registry, Handler.password = Registry(options), options.password
+    Handler.options, Handler.busy, Handler.counts = options, Busy(options.busy), {}
+    server = http.server.ThreadingHTTPServer(("127.0.0.1", options.port), Handler)
+    if options.certificate:
         context = ssl.SSLContext(ssl.PROTOCOL_TLS_SERVER)
-        context.load_cert_chain(words.certificate)
+        context.load_cert_chain(options.certificate)
         server.socket = context.wrap_socket(server.socket, server_side=True)
     server.serve_forever()
 

@@ -3,10 +3,10 @@
 
     python3 examples/from-confluent/used-ids.py FILE COUNT
 
-Use it before a copy from a registry whose ids begin later: Confluent Cloud's begin at 100,001. Each id gets a schema that no
-version has, so a request for it gets 40403. Then serve FILE, and call from-confluent.py with --used-ids COUNT.
+Use it before a copy from a registry whose ids begin later: Confluent Cloud's ids begin at 100,001. Each id gets a schema that
+no version has, so a request for it gets 40403. Then serve FILE, and run from-confluent.py with --used-ids COUNT.
 
-The tables are those of layout 2, by docs/avro-registry-profile.md. A file of the same name isn't touched.
+The tables are those of layout 2, by docs/avro-registry-profile.md. If FILE exists, the script fails and leaves it unchanged.
 """
 import sqlite3
 import sys

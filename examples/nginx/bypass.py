@@ -1,11 +1,11 @@
 #!/usr/bin/env python3
-"""Tries to bypass the roles of roles.conf: sends nginx thousands of odd messages, and judges what nginx forwards.
+"""Tries to bypass the roles of roles.conf: sends thousands of odd messages to nginx, and checks what nginx forwards.
 
     python3 examples/nginx/bypass.py UPSTREAM_PORT NGINX_PORT [--share N] [--first]
 
-This script listens on UPSTREAM_PORT in place of avroreg, and records each message as avroreg would read it. The users
-and their passwords are those of roles.sh. Status 1 if nginx forwarded a message that the user may not send, 2 if the
-messages say nothing, for example because nginx rejects the allowed ones too.
+This script listens on UPSTREAM_PORT instead of avroreg, and records each message as avroreg would read it. The users
+and their passwords are those of roles.sh. Status 1 if nginx forwarded a message that the user may not send. Status 2 if the
+result means nothing, for example because nginx rejects the allowed messages too.
 """
 import argparse
 import base64
@@ -22,7 +22,7 @@ from typing import NoReturn
 
 USERS = {"ci": "ci:c", "viewer": "viewer:v", "nobody": "nobody:n", "Admin": "Admin:y", "wrong password": "admin:x", "no user": None}
 ROLES = {"viewer": "read", "ci": "register"}
-# What each role may do: nginx has to forward it, or this script has the wrong passwords.
+# Requests that each role may send. If nginx doesn't forward them, this script has the wrong passwords.
 ALLOWED = {"viewer": [("GET", "/subjects"), ("POST", "/subjects/other")],
            "ci": [("GET", "/config"), ("POST", "/subjects/team-a.x/versions"), ("POST", "/subjects/team-a.y/versions?normalize=true")]}
 PREFIX = b"team-a."
@@ -52,7 +52,7 @@ SECONDS = 2  # to wait for a response
 
 
 class Recorder:
-    """Acts as avroreg: reads a head, a body by its length, and what follows; sends one response."""
+    """A server that replaces avroreg: reads a head, a body by its length, and the bytes after it, and sends one response."""
 
     def __init__(self, port: int):
         self.messages: list[tuple[bytes, bytes]] = []
@@ -90,8 +90,8 @@ class Recorder:
                 self.messages.append((got.partition(b"\r\n\r\n")[0], rest))
             self.closed += 1
 
-    def taken(self) -> list[tuple[bytes, bytes]]:
-        """The messages since the last call, when nginx has closed their connections."""
+    def take_messages(self) -> list[tuple[bytes, bytes]]:
+        """Waits until nginx has closed the connections. Returns the messages since the last call."""
         for _ in range(1200):
             time.sleep(0.05)
             if self.closed == self.opened:
@@ -110,7 +110,7 @@ def fault_of(role: str | None, head: bytes, rest: bytes) -> str | None:
     if rest:
         return f"bytes after the message: {rest[:60]!r}"
     if re.search(rb"(?im)^transfer-encoding", head) or len(re.findall(rb"(?im)^content-length", head)) > 1:
-        return "two ways to tell the length"
+        return "the length is given in two ways"
     if re.search(rb"(?im)^authorization", head):
         return "the password was forwarded"
     if role is None:
@@ -125,7 +125,7 @@ def fault_of(role: str | None, head: bytes, rest: bytes) -> str | None:
 
 
 def targets(target: str) -> Iterator[str]:
-    """The target, and others that a careless server takes for it."""
+    """The target, and others that a careless server treats as the same."""
     path, mark, query = target.partition("?")
     found = [path]
     for dots in ("%2f..%2f", "%2F%2e%2e%2F", "%2f.%2f..%2f", "/..%2f", "%2f../", "/../", "%5c..%5c", "/%2e%2e/"):
@@ -146,15 +146,15 @@ def authorization(credentials: str | None) -> bytes:
     return b"Authorization: Basic " + base64.b64encode(credentials.encode()) + b"\r\n" if credentials else b""
 
 
-def ending(credentials: str | None) -> bytes:
-    """What follows the request line of an ordinary request."""
+def rest_of_request(credentials: str | None) -> bytes:
+    """The rest of an ordinary request, after its request line."""
     return b"Host: x\r\nConnection: close\r\n" + authorization(credentials) + b"Content-Length: %d\r\n\r\n" % len(BODY) + BODY
 
 
 def messages(credentials: str | None, method: str, target: str) -> Iterator[bytes]:
     """Requests for the target in other forms, and requests that hide a second one."""
     host, end, length, name = b"Host: x\r\n", b"\r\n", b"Content-Length: %d\r\n" % len(BODY), authorization(credentials)
-    tail = ending(credentials)
+    tail = rest_of_request(credentials)
     for other in targets(target):
         yield f"{method} {other} HTTP/1.1\r\n".encode("latin-1") + tail
     for version in VERSIONS:
@@ -195,7 +195,7 @@ def messages(credentials: str | None, method: str, target: str) -> Iterator[byte
 
 
 def send(port: int, message: bytes) -> list[bytes]:
-    """Sends a message, and waits for the end of the responses. The statuses of the responses."""
+    """Sends a message, and waits for the end of the responses. Returns their statuses."""
     got = b""
     try:
         with socket.create_connection(("127.0.0.1", port), timeout=60) as connection:
@@ -208,7 +208,7 @@ def send(port: int, message: bytes) -> list[bytes]:
     return re.findall(rb"HTTP/1\.1 (\d+)", got)
 
 
-def give_up(text: str) -> NoReturn:
+def stop(text: str) -> NoReturn:
     print(f"bypass.py: {text}", file=sys.stderr)
     sys.exit(2)
 
@@ -224,25 +224,25 @@ def try_user(user: str, port: int, recorder: Recorder, share: int, first: bool) 
                 statuses.update(found or [b"none"])
             if not batch:
                 time.sleep(1)  # for messages that nginx forwards late
-            taken = recorder.taken()
-            forwarded += len(taken)
-            wrong += [(user, head.split(b"\r\n")[0], fault) for head, rest in taken if (fault := fault_of(ROLES.get(user), head, rest))]
+            recorded = recorder.take_messages()
+            forwarded += len(recorded)
+            wrong += [(user, head.split(b"\r\n")[0], fault) for head, rest in recorded if (fault := fault_of(ROLES.get(user), head, rest))]
             if wrong and first:
                 break
     print(f"{user}: {len(chosen)} messages, {forwarded} forwarded, {len(wrong)} wrong", flush=True)
     if statuses[b"429"] or statuses[b"none"] > len(chosen) // 2:
-        give_up(f"the messages of {user} say nothing: {statuses}")
+        stop(f"the messages of {user} mean nothing: {statuses}")
     return wrong
 
 
 def try_allowed(port: int, recorder: Recorder) -> None:
-    """Ends this script unless nginx forwards what the users may do."""
+    """Exits if nginx doesn't forward the allowed requests."""
     for user, requests in ALLOWED.items():
         for method, target in requests:
-            send(port, f"{method} {target} HTTP/1.1\r\n".encode() + ending(USERS[user]))
-            taken = recorder.taken()
-            if len(taken) != 1 or fault_of(ROLES[user], *taken[0]) not in (None, "the password was forwarded"):
-                give_up(f"{user} {method} {target} wasn't forwarded as it has to be: {taken}")
+            send(port, f"{method} {target} HTTP/1.1\r\n".encode() + rest_of_request(USERS[user]))
+            recorded = recorder.take_messages()
+            if len(recorded) != 1 or fault_of(ROLES[user], *recorded[0]) not in (None, "the password was forwarded"):
+                stop(f"{user} {method} {target} wasn't forwarded as it must be: {recorded}")
 
 
 def main() -> int:

@@ -1,11 +1,11 @@
 #!/usr/bin/env python3
-"""Eight clients at once: each registers, reads, checks and deletes at a steady rate on a connection that it keeps, and
-holds every answer to what it has to be.
+"""Runs eight clients at once. Each registers, reads, checks and deletes at a steady rate on one kept connection, and checks
+every response.
 
     python3 examples/nginx/eight.py PORT SECONDS [RATE]     RATE: requests a second and client, by default 20
 
-At the end each subject's versions are numbered without a gap, each schema has one id, and the ids are 1 to the
-count of the schemas. A request is lost where it gets no answer, or another one. The server has to be new.
+At the end, each subject's versions must be numbered without a gap. Each schema must have one id, and the ids must be 1 to
+the number of schemas. A request is lost if it gets no response, or a wrong one. The server must be new.
 """
 import http.client
 import json
@@ -24,7 +24,7 @@ def compact(value):
 
 
 def record(name, fields, required=False):
-    """A record's identity text; its last field has no default where it is required."""
+    """The identity text of a record. If `required`, it has a last field without a default."""
     members = [{"default": 0, "name": f"f{at}", "type": "long"} for at in range(fields)]
     if required:
         members.append({"name": "last", "type": "long"})
@@ -35,7 +35,7 @@ INCOMPATIBLE = (409, compact({"error_code": 409, "message": "Schema is incompati
 
 
 class Known:
-    """What all clients know: the id of each schema, and who registered what in the subjects that they share."""
+    """The shared knowledge of all clients: the id of each schema, and the schemas of the shared subjects."""
 
     def __init__(self):
         self.lock, self.ids, self.texts, self.shared, self.subjects = threading.Lock(), {}, {}, {}, {}
@@ -46,7 +46,7 @@ class Known:
             assert self.texts.setdefault(number, text) == text, (number, text, self.texts[number])
 
     def share(self, client, count):
-        """The subject and the next schema of those that are shared: they are registered by all clients in turn."""
+        """A shared subject, and the next schema for it. All clients register schemas in these subjects in turn."""
         with self.lock:
             place = f"shared-{len(self.shared) // 200}"
             text = compact({"fields": [{"default": 0, "name": f"f{client}x{count}", "type": "long"}],
@@ -63,7 +63,7 @@ class Client(threading.Thread):
         self.times, self.fault, self.random = [], None, random.Random(number)
 
     def ask(self, method, path, body=None, key=None):
-        """Sends a request when its turn comes, and gives status and body of its answer."""
+        """Waits for the request's turn, and sends it. Returns the status and the body of the response."""
         time.sleep(max(0, self.due - time.monotonic()))
         self.due = max(self.due + 1 / self.rate, time.monotonic() - 1)
         began = time.monotonic()
@@ -73,7 +73,7 @@ class Client(threading.Thread):
         self.times.append(time.monotonic() - began)
         return answer.status, body
 
-    def same(self, wanted, *request, **more):
+    def check_response(self, wanted, *request, **more):
         found = self.ask(*request, **more)
         assert found == wanted, f"{request}: wanted {wanted}, found {found}"
 
@@ -88,27 +88,27 @@ class Client(threading.Thread):
         self.known.learn(text, number)
         return number
 
-    def version(self, subject, name, at, live):
-        """One version of a subject that this client alone writes to: registered, read, checked, perhaps deleted."""
+    def use_version(self, subject, name, at, live):
+        """Registers, reads and checks one version, and deletes every fifth one. Only this client writes to the subject."""
         text = record(name, at)
         number = self.register(subject, text, f"{subject}-{at}")
         shown = (200, compact({"id": number, "schema": text, "subject": subject, "version": at}))
         live.append(at)
         path, body = f"/subjects/{subject}/versions", {"schema": text}
-        self.same(shown, "GET", f"{path}/latest")
-        self.same((200, compact({"schema": text})), "GET", f"/schemas/ids/{number}")
-        self.same(shown, "POST", f"/subjects/{subject}", body)
-        self.same((200, compact({"id": number})), "POST", path, body, f"{subject}-{at}")
-        self.same((200, compact(live)), "GET", path)
-        self.same(INCOMPATIBLE, "POST", path, {"schema": record(name, at, True)})
-        self.same((200, compact({"is_compatible": True})), "POST", f"/compatibility{path}/latest",
+        self.check_response(shown, "GET", f"{path}/latest")
+        self.check_response((200, compact({"schema": text})), "GET", f"/schemas/ids/{number}")
+        self.check_response(shown, "POST", f"/subjects/{subject}", body)
+        self.check_response((200, compact({"id": number})), "POST", path, body, f"{subject}-{at}")
+        self.check_response((200, compact(live)), "GET", path)
+        self.check_response(INCOMPATIBLE, "POST", path, {"schema": record(name, at, True)})
+        self.check_response((200, compact({"is_compatible": True})), "POST", f"/compatibility{path}/latest",
                   {"schema": text})
         with self.known.lock:
             other, text = self.random.choice(list(self.known.texts.items()))
-        self.same((200, compact({"schema": text})), "GET", f"/schemas/ids/{other}")
+        self.check_response((200, compact({"schema": text})), "GET", f"/schemas/ids/{other}")
         if at % 5 == 2:
             for _ in range(2):
-                self.same((200, str(at)), "DELETE", f"{path}/{at}", key=f"{subject}-{at}-gone")
+                self.check_response((200, str(at)), "DELETE", f"{path}/{at}", key=f"{subject}-{at}-gone")
             live.remove(at)
 
     def work(self):
@@ -117,11 +117,11 @@ class Client(threading.Thread):
             count += 1
             subject, live, at = f"own-{self.number}-{count}", [], 0
             name = f"R{self.number}x{count}" if count % 4 else "Common"
-            self.same((200, compact({"compatibility": "BACKWARD"})), "PUT", f"/config/{subject}",
+            self.check_response((200, compact({"compatibility": "BACKWARD"})), "PUT", f"/config/{subject}",
                       {"compatibility": "BACKWARD"})
             while at < VERSIONS and not self.is_out_of_time():
                 at += 1
-                self.version(subject, name, at, live)
+                self.use_version(subject, name, at, live)
                 with self.known.lock:
                     self.known.subjects[subject] = (at, list(live))
                 place, text = self.known.share(self.number, count * VERSIONS + at)
@@ -132,22 +132,22 @@ class Client(threading.Thread):
         self.end = self.due + self.seconds
         try:
             self.work()
-        except Exception as fault:  # a client that stops is a fault of the run, whatever stopped it
+        except Exception as fault:  # any exception of a client is a fault of the run
             self.fault = fault
 
 
 def check(port, known):
-    """Asks for all that was registered, and gives the count of subjects, versions and ids."""
+    """Reads all subjects, versions and ids, and checks them. Returns their numbers, and the number of reads."""
     client = Client(port, 0, 0, 500, known)
     client.due = time.monotonic()
     count = 0
     for subject, (versions, live) in known.subjects.items():
-        client.same((200, compact(list(range(1, versions + 1)))), "GET", f"/subjects/{subject}/versions?deleted=true")
-        client.same((200, compact(live)), "GET", f"/subjects/{subject}/versions")
+        client.check_response((200, compact(list(range(1, versions + 1)))), "GET", f"/subjects/{subject}/versions?deleted=true")
+        client.check_response((200, compact(live)), "GET", f"/subjects/{subject}/versions")
         count += versions
     for place in sorted(set(known.shared.values())):
         texts = [text for text, other in known.shared.items() if other == place]
-        client.same((200, compact(list(range(1, len(texts) + 1)))), "GET", f"/subjects/{place}/versions")
+        client.check_response((200, compact(list(range(1, len(texts) + 1)))), "GET", f"/subjects/{place}/versions")
         found = []
         for at in range(1, len(texts) + 1):
             status, body = client.ask("GET", f"/subjects/{place}/versions/{at}")
@@ -159,7 +159,7 @@ def check(port, known):
         count += len(texts)
     assert sorted(known.texts) == list(range(1, len(known.texts) + 1))
     for number, text in known.texts.items():
-        client.same((200, compact({"schema": text})), "GET", f"/schemas/ids/{number}")
+        client.check_response((200, compact({"schema": text})), "GET", f"/schemas/ids/{number}")
     return len(known.subjects) + len(set(known.shared.values())), count, len(known.texts), len(client.times)
 
 
@@ -181,7 +181,7 @@ def main():
     print(f"{CLIENTS} clients, {took:.0f} s: {len(times)} requests, none lost; {len(times) / took:.0f} a second; "
           f"half within {times[len(times) // 2] * 1000:.1f} ms, 99 of 100 within "
           f"{times[len(times) * 99 // 100] * 1000:.1f} ms, all within {times[-1] * 1000:.0f} ms")
-    print(f"{subjects} subjects, {versions} versions, {ids} ids: each number and id as it has to be ({reads} reads)")
+    print(f"{subjects} subjects, {versions} versions, {ids} ids: each number and id is right ({reads} reads)")
     print(f"requests: {len(times) + reads}")
 
 

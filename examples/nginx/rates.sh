@@ -12,7 +12,7 @@ rounds=${1:-7}
 seconds=${2:-2}
 
 cat >"$scratch/requests.lua" <<'LUA'
--- What a client asks: argument 1 is one of id, latest, lookup, known and new; argument 2 makes the names of a run its own.
+-- A client's requests. Argument 1 is their kind: id, latest, lookup, known or new. Argument 2 makes the names of a run unique.
 local kind, run, number, failed = nil, nil, 0, 0
 local function schema(name)
   local fields = {}
@@ -42,7 +42,7 @@ start_nginx rates "${url##*:}" 's/rate=200r/rate=900000r/; s/burst=400/burst=900
 through=http://127.0.0.1:$front
 
 runs=0
-# measure KIND ADDRESS CLIENTS: one figure, added to the file of its name.
+# measure KIND ADDRESS CLIENTS NAME: measures once, and appends the figure to the file KIND-NAME.
 measure() {
   local found
   runs=$((runs + 1))

@@ -1,6 +1,6 @@
 #!/usr/bin/env bash
-# Tries users and roles, rejected parameters, the cache, the limits, nginx's errors and its log, with a server. Tries to bypass
-# the roles with bypass.py, and checks that bypass.py sees a configuration whose roles can be bypassed.
+# Tests users and roles, rejected parameters, the cache, the limits, nginx's errors and its log, with a server. Tries to bypass
+# the roles with bypass.py, and checks that bypass.py detects broken configurations.
 #
 #   AVROREG=PROGRAM examples/nginx/roles.sh [SHARE]     SHARE 3 sends each third message of bypass.py; default: all
 set -u
@@ -23,15 +23,15 @@ bypass() {
   python3 "$here/bypass.py" "$upstream" "$front" "$@" >"$scratch/$name.out" 2>&1
 }
 
-# is_seen NAME EDIT: a configuration that sed's EDIT breaks, of which bypass.py has to say that the roles can be bypassed.
-is_seen() {
+# check_detected NAME EDIT: breaks the configuration with sed's EDIT, and checks that bypass.py detects it.
+check_detected() {
   bypass "$1" "$2" --first
-  [ $? = 1 ] || fail "bypass.py didn't see that $1: $(cat "$scratch/$1.out")"
+  [ $? = 1 ] || fail "bypass.py didn't detect $1: $(cat "$scratch/$1.out")"
 }
 
-# gets STATUS USER METHOD PATH [BODY] [CURL'S OPTIONS]..: what a user has to get. The head is in $scratch/head, the body in
-# $scratch/got.
-gets() {
+# check STATUS USER METHOD PATH [BODY] [CURL'S OPTIONS]..: sends a user's request, and checks the response. Its head is in
+# $scratch/head, its body in $scratch/got.
+check() {
   local wanted=$1 user=$2 method=$3 path=$4 body=${5:-} found
   shift $(($# < 5 ? $# : 5))
   found=$(curl -s -D "$scratch/head" -o "$scratch/got" -w '%{http_code}' ${user:+-u "$user"} -X "$method" ${body:+--data-binary "$body"} "$@" \
@@ -41,8 +41,8 @@ gets() {
   [ "$wanted" -lt 400 ] || jq -e '.error_code and .message' "$scratch/got" >/dev/null || fail "$method $path got no error in JSON"
 }
 
-# is_cached HIT|MISS|STALE|.. SCHEMA: what nginx says about its last response, and the schema in it.
-is_cached() {
+# check_cache HIT|MISS|STALE|.. SCHEMA: checks the cache status of the last response, and the schema in it.
+check_cache() {
   grep -qi "^x-cache-status: $1" "$scratch/head" || fail "the cache isn't $1: $(cat "$scratch/head")"
   [ "$(jq -r .schema "$scratch/got")" = "$2" ] || fail "the schema isn't $2: $(cat "$scratch/got")"
 }
@@ -61,8 +61,8 @@ reload() {
   done
 }
 
-# raw STATUS REQUEST: the error that nginx returns for the bytes of printf's REQUEST.
-raw() {
+# check_raw STATUS REQUEST: sends the bytes of printf's REQUEST, and checks the error.
+check_raw() {
   local reply wire
   exec {wire}<>"/dev/tcp/127.0.0.1/$front"
   # shellcheck disable=SC2059
@@ -76,13 +76,13 @@ raw() {
 try_bypass() {
   bypass plain "" --share "$1" || fail "a message got past the roles: $(cat "$scratch/plain.out")"
   cat "$scratch/plain.out"
-  is_seen roles_of_decoded_paths 's/request_uri" \$registry_action/uri" $registry_action/; s/request_uri" \$is_own_subject/uri" $is_own_subject/'
-  is_seen any_subject_is_registered 's/"~^register:register:1\$"/"~^register:register:"/'
-  is_seen the_prefix_is_looked_for_anywhere 's, /subjects/\\1", /subjects/[^/]*\\1",'
-  is_seen unknown_requests_are_reads 's/default  *other;/default read;/'
-  is_seen names_ignore_case 's/"~^admin\$"/admin/'
-  is_seen passwords_are_forwarded 's/proxy_set_header  *Authorization "";//'
-  echo "bypass.py: six broken configurations were seen"
+  check_detected roles_of_decoded_paths 's/request_uri" \$registry_action/uri" $registry_action/; s/request_uri" \$is_own_subject/uri" $is_own_subject/'
+  check_detected any_subject_is_registered 's/"~^register:register:1\$"/"~^register:register:"/'
+  check_detected the_prefix_is_looked_for_anywhere 's, /subjects/\\1", /subjects/[^/]*\\1",'
+  check_detected unknown_requests_are_reads 's/default  *other;/default read;/'
+  check_detected names_ignore_case 's/"~^admin\$"/admin/'
+  check_detected passwords_are_forwarded 's/proxy_set_header  *Authorization "";//'
+  echo "bypass.py: six broken configurations were detected"
 }
 
 int='{"schema":"\"int\""}'
@@ -90,33 +90,33 @@ string='{"schema":"\"string\""}'
 level='{"compatibility":"FULL"}'
 
 try_roles() {
-  gets 200 admin:a POST /subjects/other/versions "$int"
-  gets 200 ci:c POST /subjects/team-a.x/versions "$int" -H 'Registry-Retry-Key: secret-key'
-  gets 200 ci:c POST /subjects/team-a.x/versions "$int" -H 'Registry-Retry-Key: secret-key'
-  gets 200 ci:c POST /subjects/team-a.%2Fx/versions "$int" -H 'Registry-Retry-Key: other-key'
-  gets 403 ci:c POST /subjects/team-ab/versions "$int"
-  gets 403 ci:c POST /subjects/%74eam-a.x/versions "$int"
-  gets 403 ci:c DELETE /subjects/team-a.x
-  gets 403 ci:c PUT /config/team-a.x "$level"
-  gets 403 ci:c PUT /mode '{"mode":"READONLY"}'
-  gets 403 viewer:v POST /subjects/team-a.x/versions "$int"
-  gets 403 viewer:v DELETE /subjects/other/versions/1
-  gets 200 viewer:v GET /subjects
-  gets 200 viewer:v POST /subjects/other "$int"
-  gets 200 viewer:v POST /compatibility/subjects/other/versions/latest "$int"
-  gets 403 nobody:n GET /subjects
-  gets 403 Admin:y GET /subjects
-  gets 401 "" GET /subjects
-  gets 401 admin:wrong PUT /config "$level"
-  gets 200 admin:a PUT /config/other "$level"
-  gets 200 admin:a DELETE /subjects/team-a.%2Fx
+  check 200 admin:a POST /subjects/other/versions "$int"
+  check 200 ci:c POST /subjects/team-a.x/versions "$int" -H 'Registry-Retry-Key: secret-key'
+  check 200 ci:c POST /subjects/team-a.x/versions "$int" -H 'Registry-Retry-Key: secret-key'
+  check 200 ci:c POST /subjects/team-a.%2Fx/versions "$int" -H 'Registry-Retry-Key: other-key'
+  check 403 ci:c POST /subjects/team-ab/versions "$int"
+  check 403 ci:c POST /subjects/%74eam-a.x/versions "$int"
+  check 403 ci:c DELETE /subjects/team-a.x
+  check 403 ci:c PUT /config/team-a.x "$level"
+  check 403 ci:c PUT /mode '{"mode":"READONLY"}'
+  check 403 viewer:v POST /subjects/team-a.x/versions "$int"
+  check 403 viewer:v DELETE /subjects/other/versions/1
+  check 200 viewer:v GET /subjects
+  check 200 viewer:v POST /subjects/other "$int"
+  check 200 viewer:v POST /compatibility/subjects/other/versions/latest "$int"
+  check 403 nobody:n GET /subjects
+  check 403 Admin:y GET /subjects
+  check 401 "" GET /subjects
+  check 401 admin:wrong PUT /config "$level"
+  check 200 admin:a PUT /config/other "$level"
+  check 200 admin:a DELETE /subjects/team-a.%2Fx
   echo "roles: each user gets what it may"
 }
 
 try_prefix_of_all_subjects() {
   start_nginx all "${url##*:}" "$users; s/\"team-a\.\"/\"*\"/"
-  gets 200 ci:c POST /subjects/other/versions "$string"
-  gets 403 ci:c DELETE /subjects/other
+  check 200 ci:c POST /subjects/other/versions "$string"
+  check 403 ci:c DELETE /subjects/other
 }
 
 # Each parameter on each path, in each spelling, alone and next to other parameters.
@@ -125,74 +125,74 @@ try_parameters() {
   for query in verbose=true verbose=TRUE verbose=1 verbose= verbose 'verbose&normalize=true' 'normalize=true&verbose=true' \
     'verbose=false&verbose=true' 'verbose=true&verbose=false' %76erbose=true verbos%65=true 'normalize=true&%56erbose=true' \
     verbose=%74rue 'verbose=false%20' '&verbose=true' 'verbose=true#x'; do
-    gets 422 viewer:v POST "$check/latest?$query" "$int" --request-target "$check/latest?$query"
-    gets 422 viewer:v POST "$check?$query" "$int" --request-target "$check?$query"
+    check 422 viewer:v POST "$check/latest?$query" "$int" --request-target "$check/latest?$query"
+    check 422 viewer:v POST "$check?$query" "$int" --request-target "$check?$query"
   done
   for query in deletedOnly=true deletedOnly=True deletedOnly=1 deletedOnly= deletedOnly 'deleted=true&deletedOnly=true' \
     'deletedOnly=false&deletedOnly=true' deleted%4fnly=true %64eletedOnly=true subjectPrefix=team subjectPrefix=%74eam \
     'subjectPrefix=&subjectPrefix=team' 'deleted=true&subjectPrefix=:*:' subject%50refix=team subject%70refix=team SubjectPrefix=x; do
-    gets 422 viewer:v GET "/subjects?$query" "" --request-target "/subjects?$query"
-    gets 422 viewer:v GET "/subjects/other/versions?$query"
+    check 422 viewer:v GET "/subjects?$query" "" --request-target "/subjects?$query"
+    check 422 viewer:v GET "/subjects/other/versions?$query"
   done
   jq -e '.error_code == 422 and (.message | startswith("subjectPrefix"))' "$scratch/got" >/dev/null || fail "the message is another one"
-  gets 422 admin:a POST "/subjects/other/versions?verbose=true" "$int"
-  gets 422 admin:a DELETE "/subjects/other?deletedOnly=true"
+  check 422 admin:a POST "/subjects/other/versions?verbose=true" "$int"
+  check 422 admin:a DELETE "/subjects/other?deletedOnly=true"
   for query in verbose=false 'normalize=true&verbose=FALSE' 'x=verbose=true' verbosely=true notverbose=true normalize=%74rue; do
-    gets 200 viewer:v POST "$check/latest?$query" "$int"
+    check 200 viewer:v POST "$check/latest?$query" "$int"
   done
   for query in 'subjectPrefix=&deletedOnly=false' subjectPrefix deleted=true 'x=deletedOnly' ''; do
-    gets 200 viewer:v GET "/subjects?$query"
+    check 200 viewer:v GET "/subjects?$query"
   done
   echo "verbose=true, subjectPrefix and deletedOnly=true: 422 in each spelling"
 }
 
 # After a restore an id may have another schema: the cache keeps the old one until its key changes.
 try_cache() {
-  gets 200 viewer:v GET /schemas/ids/1
-  is_cached MISS '"int"'
-  gets 200 ci:c GET '/schemas/ids/1?fetchMaxId=false'
-  is_cached HIT '"int"'
-  gets 401 "" GET /schemas/ids/1
-  gets 403 nobody:n GET /schemas/ids/1
-  gets 404 viewer:v GET /schemas/ids/999
+  check 200 viewer:v GET /schemas/ids/1
+  check_cache MISS '"int"'
+  check 200 ci:c GET '/schemas/ids/1?fetchMaxId=false'
+  check_cache HIT '"int"'
+  check 401 "" GET /schemas/ids/1
+  check 403 nobody:n GET /schemas/ids/1
+  check 404 viewer:v GET /schemas/ids/999
   stop_server
   start_server "$scratch/restored.db" "${url##*:}"
-  gets 200 admin:a POST /subjects/other/versions "$string"
-  gets 200 viewer:v GET /schemas/ids/1
-  is_cached HIT '"int"'
+  check 200 admin:a POST /subjects/other/versions "$string"
+  check 200 viewer:v GET /schemas/ids/1
+  check_cache HIT '"int"'
   sed -i '/map "" $registry_cache_key/,/}/s/default 1;/default 2;/' "$scratch/roles/avroreg.conf"
   reload
-  gets 200 viewer:v GET /schemas/ids/1
-  is_cached MISS '"string"'
-  gets 200 viewer:v GET /schemas/ids/1
-  is_cached HIT '"string"'
-  echo "cache: an id is cached, and asked for again after the key changed"
+  check 200 viewer:v GET /schemas/ids/1
+  check_cache MISS '"string"'
+  check 200 viewer:v GET /schemas/ids/1
+  check_cache HIT '"string"'
+  echo "cache: an id is cached, and read again from avroreg after the key changed"
 }
 
 # An expired response is served while avroreg hangs or is down.
 try_stale() {
   start_nginx stale "${url##*:}" "$users; s/200 365d/200 1s/; s/\(proxy_read_timeout *\)60s/\12s/"
-  gets 200 viewer:v GET /schemas/ids/1
+  check 200 viewer:v GET /schemas/ids/1
   sleep 2
   kill -STOP "$server"
-  gets 200 viewer:v GET /schemas/ids/1
-  is_cached STALE '"string"'
-  gets 504 viewer:v GET /schemas/ids/2
+  check 200 viewer:v GET /schemas/ids/1
+  check_cache STALE '"string"'
+  check 504 viewer:v GET /schemas/ids/2
   stop_server KILL
-  gets 200 viewer:v GET /schemas/ids/1
-  is_cached STALE '"string"'
-  gets 502 viewer:v GET /schemas/ids/2
-  gets 502 viewer:v GET /subjects
+  check 200 viewer:v GET /schemas/ids/1
+  check_cache STALE '"string"'
+  check 502 viewer:v GET /schemas/ids/2
+  check 502 viewer:v GET /subjects
   echo "server killed: the cached schema is served, others get 502"
 }
 
 # Eleven requests are allowed here: one, and ten more at once.
 try_limit_of_requests() {
   start_nginx requests "${url##*:}" "$users; s,200r/s,1r/m,; s/burst=400/burst=10/"
-  for _ in $(seq 11); do gets 200 viewer:v GET /subjects; done
-  gets 429 viewer:v GET /subjects
-  gets 200 ci:c GET /subjects
-  gets 429 viewer:v GET /subjects
+  for _ in $(seq 11); do check 200 viewer:v GET /subjects; done
+  check 429 viewer:v GET /subjects
+  check 200 ci:c GET /subjects
+  check 429 viewer:v GET /subjects
   echo "requests: the twelfth of a user gets 429, another user doesn't"
 }
 
@@ -205,32 +205,32 @@ try_limit_of_connections() {
     wires+=("$wire")
   done
   sleep 1
-  gets 429 viewer:v GET /subjects
-  gets 200 ci:c GET /subjects
+  check 429 viewer:v GET /subjects
+  check 200 ci:c GET /subjects
   for wire in "${wires[@]}"; do exec {wire}>&-; done
   sleep 1
-  gets 200 viewer:v GET /subjects
+  check 200 viewer:v GET /subjects
   echo "connections: the fourth of a user gets 429, another user doesn't"
 }
 
 try_errors() {
   local close='Host: x\r\nConnection: close\r\n\r\n' long
   long=$(head -c 9000 /dev/zero | tr '\0' x)
-  raw 400 'hello\r\n\r\n'
-  raw 400 'GET /config HTTP/1.1\r\nConnection: close\r\n\r\n'
-  raw 400 "GET /../x HTTP/1.1\r\n$close"
-  raw 400 "GET /config/%%00 HTTP/1.1\r\n$close"
-  raw 400 "GET /config HTTP/1.1\r\nX: $long$long$long$long\r\n$close"
-  raw 405 "TRACE /config HTTP/1.1\r\n$close"
-  raw 414 "GET /$long HTTP/1.1\r\n$close"
-  raw 501 "POST /subjects/a HTTP/1.1\r\nTransfer-Encoding: gzip\r\n$close"
-  raw 505 "GET /config HTTP/9.9\r\n$close"
-  gets 404 admin:a GET /.error/400
+  check_raw 400 'hello\r\n\r\n'
+  check_raw 400 'GET /config HTTP/1.1\r\nConnection: close\r\n\r\n'
+  check_raw 400 "GET /../x HTTP/1.1\r\n$close"
+  check_raw 400 "GET /config/%%00 HTTP/1.1\r\n$close"
+  check_raw 400 "GET /config HTTP/1.1\r\nX: $long$long$long$long\r\n$close"
+  check_raw 405 "TRACE /config HTTP/1.1\r\n$close"
+  check_raw 414 "GET /$long HTTP/1.1\r\n$close"
+  check_raw 501 "POST /subjects/a HTTP/1.1\r\nTransfer-Encoding: gzip\r\n$close"
+  check_raw 505 "GET /config HTTP/9.9\r\n$close"
+  check 404 admin:a GET /.error/400
   head -c 1048576 /dev/zero >"$scratch/largest"
-  gets 400 admin:a PUT /config "@$scratch/largest" -H 'Expect:'
+  check 400 admin:a PUT /config "@$scratch/largest" -H 'Expect:'
   echo >>"$scratch/largest"
-  gets 413 admin:a PUT /config "@$scratch/largest" -H 'Expect:'
-  gets 413 ci:c POST /subjects/team-a.x/versions "@$scratch/largest" -H 'Expect:'
+  check 413 admin:a PUT /config "@$scratch/largest" -H 'Expect:'
+  check 413 ci:c POST /subjects/team-a.x/versions "@$scratch/largest" -H 'Expect:'
   echo "errors are JSON"
 }
 

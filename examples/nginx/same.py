@@ -1,6 +1,6 @@
 #!/usr/bin/env python3
-"""Asks a server alone and one behind nginx, both new, for the same, and compares the answers byte for byte; then
-asks the second one for what the first refuses or lets wait.
+"""Sends the same requests to avroreg alone and to avroreg behind nginx, and compares the responses byte for byte. Then it
+checks two differences: nginx accepts a chunked body, and a silent client delays nobody. Both registries must be new.
 
     python3 examples/nginx/same.py PORT NGINX_PORT
 """
@@ -16,7 +16,7 @@ NOTE = ',{"name":"note","type":"string","default":"é"}'
 TOTAL = ',{"name":"total","type":"double"}'
 KEY = "Registry-Retry-Key"
 VERSIONS = "/subjects/orders/versions"
-SHOWN = ("Content-Type", "Allow")
+COMPARED = ("Content-Type", "Allow")
 
 
 def schema(text, **more):
@@ -99,62 +99,62 @@ REQUESTS = [
 ]
 
 
-def asked(connection, method, target, fields, body):
-    """The answer to a request: status, the fields that are compared, body."""
-    with contextlib.suppress(BrokenPipeError, ConnectionResetError):  # of a body that was refused by its length
+def exchange(connection, method, target, fields, body):
+    """Sends a request. Returns the response's status, its compared header fields and its body."""
+    with contextlib.suppress(BrokenPipeError, ConnectionResetError):  # if the server rejects the body by its length
         connection.request(method, target, body, fields)
     answer = connection.getresponse()
-    return answer.status, [answer.headers[name] for name in SHOWN], answer.read()
+    return answer.status, [answer.headers[name] for name in COMPARED], answer.read()
 
 
-def once(port, *request):
-    """The answer on a connection of its own."""
+def request_once(port, *request):
+    """Sends a request on its own connection, and returns the response."""
     connection = http.client.HTTPConnection("127.0.0.1", port, timeout=60)
     try:
-        return asked(connection, *request)
+        return exchange(connection, *request)
     finally:
         connection.close()
 
 
 def compare(alone, behind):
     for request in REQUESTS:
-        first, second = once(alone, *request), once(behind, *request)
+        first, second = request_once(alone, *request), request_once(behind, *request)
         assert first == second, f"{request[:2]}: alone {first}, behind nginx {second}"
-    print(f"{len(REQUESTS)} requests: the same answers alone and behind nginx")
+    print(f"{len(REQUESTS)} requests: the same responses alone and behind nginx")
 
 
-def status_of_chunks(port):
-    """The status of the answer to a body in chunks."""
+def status_of_chunked(port):
+    """Sends a chunked body, and returns the status."""
     with socket.create_connection(("127.0.0.1", port), timeout=60) as connection:
         connection.sendall(b"POST /subjects/chunks/versions HTTP/1.1\r\nHost: x\r\nTransfer-Encoding: chunked\r\n\r\n"
                            b"a\r\n{\"schema\":\r\n"b"a\r\n\"\\\"int\\\"\"}\r\n0\r\n\r\n")
         return int(connection.recv(4096).split()[1])
 
 
-def chunks(alone, behind):
-    """A body in chunks is refused alone and taken behind nginx."""
-    found = status_of_chunks(alone), status_of_chunks(behind)
+def compare_chunked(alone, behind):
+    """Checks that avroreg alone rejects a chunked body, and accepts it behind nginx."""
+    found = status_of_chunked(alone), status_of_chunked(behind)
     assert found == (501, 200), found
-    print("a body in chunks: 501 alone, 200 behind nginx")
+    print("a chunked body: 501 alone, 200 behind nginx")
 
 
-def waited(port):
-    """How long a client waits while another one keeps its connection open and says nothing."""
+def wait_time(port):
+    """How long a client waits while another one keeps its connection open and sends nothing."""
     with socket.create_connection(("127.0.0.1", port)) as silent:
         silent.sendall(b"GET /config HTTP/1.1\r\nHost: x\r\n\r\n")
         silent.recv(1)
         began = time.monotonic()
-        assert once(port, "GET", "/config", {}, None)[0] == 200
+        assert request_once(port, "GET", "/config", {}, None)[0] == 200
         return time.monotonic() - began
 
 
 def main():
     alone, behind = map(int, sys.argv[1:])
     compare(alone, behind)
-    chunks(alone, behind)
-    first, second = waited(alone), waited(behind)
-    assert first > 0.2 and second < 1, (first, second)  # alone the silent one gives way after a quarter of a second
-    print(f"beside a silent client: {first:.3f} s alone, {second:.3f} s behind nginx")
+    compare_chunked(alone, behind)
+    first, second = wait_time(alone), wait_time(behind)
+    assert first > 0.2 and second < 1, (first, second)  # avroreg alone closes the silent connection after a quarter of a second
+    print(f"next to a silent client: {first:.3f} s alone, {second:.3f} s behind nginx")
 
 
 if __name__ == "__main__":

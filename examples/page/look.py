@@ -1,8 +1,8 @@
 #!/usr/bin/env python3
-"""Drives headless Chromium through the page, and compares what it shows with the registry's responses. try.sh calls it.
+"""Drives headless Chromium through the page, and compares its texts with the registry's responses. try.sh runs it.
 
-Each function that begins with `look` or `try` is one part. `main` has their order, because each finds the changes of the
-earlier ones. A fault is an AssertionError with the part's line.
+Each function that begins with `check` or `try` is one part. `main` has their order, because each part finds the changes of
+the earlier ones. A failed check is an AssertionError with the part's line.
 """
 import argparse
 import contextlib
@@ -51,8 +51,8 @@ HOSTILE_SCHEMA = {"type": "record", "name": "Hostile", "doc": HOSTILE, "fields":
 
 
 @contextlib.contextmanager
-def standing_still(server):
-    """The server takes requests meanwhile, and answers none before the end."""
+def stopped(server):
+    """Stops the server's process meanwhile: it receives requests, and answers them only after the end."""
     os.kill(server, signal.SIGSTOP)
     try:
         yield
@@ -65,7 +65,7 @@ def path(*parts):
 
 
 class Registry:
-    """The registry, asked without the page."""
+    """The registry, without the page."""
 
     def __init__(self, port):
         self.port = port
@@ -86,7 +86,7 @@ class Registry:
         assert status == 200, (subject, status, answer)
 
     def fill(self):
-        """2,000 subjects, of which one is soft-deleted, one has three versions, and some have names that are hard to show."""
+        """Registers 2,000 subjects: one is soft-deleted, one has three versions, and some have names that are hard to display."""
         names = ["orders", "gone", HOSTILE, "a/b?c#d%e&f=g+h", "größe \u202e x", "x" * 255]
         shops = ["billing", "catalogue", "delivery", "payments", "returns", "stock", "support", "tracking"]
         names += [f"{shops[at % 8]}.event-{at:04}-value" for at in range(SUBJECTS + 1 - len(names))]
@@ -113,8 +113,8 @@ class Page:
         self.origin, self.log, self.shots = f"http://127.0.0.1:{port}", log, shots
         options = webdriver.ChromeOptions()
         options.binary_location = "/usr/bin/chromium"
-        for word in ("--headless=new", "--no-sandbox", "--disable-gpu", "--disable-dev-shm-usage"):
-            options.add_argument(word)
+        for option in ("--headless=new", "--no-sandbox", "--disable-gpu", "--disable-dev-shm-usage"):
+            options.add_argument(option)
         options.set_capability("goog:loggingPrefs", {"browser": "ALL"})
         self.driver = webdriver.Chrome(service=Service("/usr/bin/chromedriver"), options=options)
         self.light(True)
@@ -135,13 +135,13 @@ class Page:
         self.driver.execute_cdp_cmd("Network.emulateNetworkConditions", conditions)
 
     def open(self, **parameters):
-        """Loads the page anew at a view."""
+        """Loads the page again at a view."""
         self.driver.get("about:blank")
         self.driver.get(f"{self.origin}/page/#{urllib.parse.urlencode(parameters)}")
         self.settle()
 
     def settle(self):
-        """Waits until the view stands and each row in view has what it asks for."""
+        """Waits until the view is complete and each visible row has its values."""
         self.until(lambda: self.run("return !document.querySelector('main[aria-busy]') && !!document.querySelector('h1')"))
         self.until(lambda: self.run("""return [...document.querySelectorAll('.subjects tbody tr')].every((row) => {
           const {top, bottom} = row.getBoundingClientRect();
@@ -150,11 +150,11 @@ class Page:
     def run(self, script, *arguments):
         return self.driver.execute_script(script, *arguments)
 
-    def until(self, holds, seconds=90, what="nothing came of it"):
+    def until(self, condition, seconds=90, what="this didn't happen"):
         end = time.monotonic() + seconds
         while time.monotonic() < end:
             try:
-                found = holds()
+                found = condition()
                 if found:
                     return found
             except StaleElementReferenceException:
@@ -174,22 +174,22 @@ class Page:
     def text(self, selector):
         return "\n".join(self.texts(selector))
 
-    def button(self, words, within=""):
-        return self.until(lambda: [each for each in self.all(f"{within} button") if each.text == words], what=f"no button {words}")[0]
+    def button(self, text, within=""):
+        return self.until(lambda: [each for each in self.all(f"{within} button") if each.text == text], what=f"no button {text}")[0]
 
     def choose(self, selector, value):
-        """Sets what a box of choices is for."""
+        """Chooses a value in a select box, and clicks its button."""
         self.run("arguments[0].value = arguments[1]", self.one(selector), value)
         self.one(f"{selector} + button").click()
 
-    def message(self, kind, words, within=""):
-        """Waits for a message of the kind that has the words."""
-        return self.until(lambda: [text for text in self.texts(f"{within} .message.{kind}") if words in text],
-                          what=f"no {kind} {words}")[0]
+    def message(self, kind, text, within=""):
+        """Waits for a message of this kind with this text."""
+        return self.until(lambda: [each for each in self.texts(f"{within} .message.{kind}") if text in each],
+                          what=f"no {kind} {text}")[0]
 
     def shot(self, name, at=None):
-        """Screenshots at both widths, light and dark, scrolled to what the selector `at` selects. No view is wider than its
-        window, and each text has contrast."""
+        """Makes screenshots at both widths, light and dark, scrolled to the selector `at`. Checks that no view is wider than its
+        window, and that each text has contrast."""
         for size, width in ((WIDE, "wide"), (PHONE, "phone")):
             self.size(size)
             self.settle()
@@ -207,7 +207,7 @@ class Page:
         self.size(WIDE)
 
     def lines(self):
-        """The requests that nginx has answered so far."""
+        """The lines of nginx's log so far."""
         time.sleep(0.1)
         with open(self.log, encoding="utf-8") as log:
             return log.read().splitlines()
@@ -216,7 +216,7 @@ class Page:
         ActionChains(self.driver).send_keys(*keys).perform()
 
     def tab_to(self, script, most=60, back=False):
-        """Presses Tab until the focus is on what the script says of `at`; what has it on the way is visibly so."""
+        """Presses Tab until the script is true of `at`, the element with the focus. Checks that the focus is always visible."""
         for _ in range(most):
             if back:
                 ActionChains(self.driver).key_down(Keys.SHIFT).send_keys(Keys.TAB).key_up(Keys.SHIFT).perform()
@@ -226,15 +226,15 @@ class Page:
             assert seen, self.run("return document.activeElement.outerHTML")
             if self.run(f"const at = document.activeElement; return {script}"):
                 return
-        raise AssertionError(f"the keyboard doesn't come to {script}")
+        raise AssertionError(f"the keyboard doesn't reach {script}")
 
     def press_at(self, script, keys, back=False):
-        """Goes by Tab to what the script says of `at`, and presses keys there."""
+        """Presses Tab until the script is true of `at`, and presses keys there."""
         self.tab_to(script, back=back)
         self.press(keys)
 
 
-# The texts whose contrast with what is behind them is less than 4.5 (WCAG 2.2, success criterion 1.4.3).
+# The texts with a contrast under 4.5 to their background (WCAG 2.2, success criterion 1.4.3).
 CONTRAST = """
 const parts = (color) => color.match(/[\\d.]+/g).map(Number);
 const light = ([r, g, b]) => [r, g, b].map((c) => c / 255).map((c) => c <= 0.04045 ? c / 12.92 : ((c + 0.055) / 1.055) ** 2.4)
@@ -255,7 +255,7 @@ return found;"""
 
 
 def type_text(kind):
-    """A type on one line, as the page has to show it."""
+    """The page's text for a type, on one line."""
     if isinstance(kind, str):
         return kind
     if isinstance(kind, list):
@@ -268,7 +268,7 @@ def type_text(kind):
 
 
 def records(kind):
-    """The records that a type defines, outermost and first ones first."""
+    """The records that a type defines, from the outside in, in the order of the text."""
     if isinstance(kind, list):
         return [found for branch in kind for found in records(branch)]
     if not isinstance(kind, dict):
@@ -278,7 +278,7 @@ def records(kind):
     return records(kind.get("items", kind.get("values")))
 
 
-def look_at_heads(page):
+def check_headers(page):
     status, head = 0, {}
     for name in ("", "page.css", "page.js"):
         connection = http.client.HTTPConnection(page.origin[7:], timeout=10)
@@ -292,12 +292,12 @@ def look_at_heads(page):
     print("the page, its style and its script: one origin, with a Content-Security-Policy of default-src 'self'")
 
 
-def look_at_subjects(page, registry):
-    """The first rows of 2,000 subjects, with few requests."""
+def check_subjects(page, registry):
+    """The first rows of 2,000 subjects take few requests."""
     before = len(page.lines())
     page.open()
-    asked = [line for line in page.lines()[before:] if " /page/" not in line and "favicon" not in line]
-    assert len(asked) <= 100, len(asked)
+    requests = [line for line in page.lines()[before:] if " /page/" not in line and "favicon" not in line]
+    assert len(requests) <= 100, len(requests)
     wanted = registry.get("/subjects")
     assert len(wanted) == SUBJECTS and f"{SUBJECTS:,} subjects" in page.text(".told"), page.text(".told")
     names = page.texts(".subjects tbody th a")
@@ -316,18 +316,18 @@ def look_at_subjects(page, registry):
         filled += 1
     assert filled >= 15, filled
     page.shot("subjects")
-    print(f"the first {filled} rows of {SUBJECTS:,} subjects, as the registry answers them: {len(asked)} requests")
+    print(f"the first {filled} rows of {SUBJECTS:,} subjects, equal to the registry's responses: {len(requests)} requests")
 
     page.open()
     page.until(lambda: page.run("""scrollTo(0, document.body.scrollHeight);
       return document.querySelectorAll('.subjects tbody tr').length""") == SUBJECTS)
     page.settle()
     assert page.texts(".subjects tbody th a") == wanted
-    print("all of them, when scrolled to the end")
+    print("all rows, after scrolling to the end")
 
 
-def look_for_subjects(page, registry):
-    """The search box, and the switch for soft-deleted ones."""
+def check_search(page, registry):
+    """The search box, and the switch for soft-deleted subjects."""
     page.open()
     page.one("#search").send_keys("ORDER")
     page.until(lambda: page.texts(".subjects tbody th a") == ["orders"])
@@ -348,10 +348,10 @@ def look_for_subjects(page, registry):
     page.one("#search").clear()
     page.one("#search").send_keys(Keys.BACKSPACE)
     page.until(lambda: f"{len(registry.get('/subjects?deleted=true')):,} subjects" in page.text(".told"))
-    print("search and the switch for soft-deleted ones")
+    print("search, and the switch for soft-deleted subjects")
 
 
-def look_at_fields(page, registry):
+def check_fields(page, registry):
     """A schema as tables of fields."""
     page.open(subject="orders")
     found = registry.get("/subjects/orders/versions/latest")
@@ -385,20 +385,20 @@ def look_at_fields(page, registry):
 
 
 def compact(text):
-    """A text that the page has indented, without what it put in."""
+    """An indented text of the page, without the indentation."""
     lines = [re.sub(r'^("(?:[^"\\]|\\.)*"): ', r"\1:", line.strip(" ")) for line in text.split("\n")]
     return "".join(lines)
 
 
-def look_at_json(page, registry):
+def check_json(page, registry):
     page.open(subject="orders", version=2, view="json")
     assert compact(page.text("pre")) == registry.get("/subjects/orders/versions/2")["schema"]
     assert json.loads(page.text("pre")) == json.loads(registry.get("/subjects/orders/versions/2")["schema"])
     page.shot("json")
-    print("JSON, byte for byte but for the indentation")
+    print("JSON, byte for byte except the indentation")
 
 
-def look_at_differences(page, registry):
+def check_differences(page, registry):
     page.open(subject="orders", version=3, view="compare", against=1)
     rows = page.run("""return [...document.querySelectorAll('.difference tbody tr')].map((row) =>
       [row.className, ...[...row.cells].map((cell) => cell.querySelector('code')?.textContent ?? null)])""")
@@ -406,7 +406,7 @@ def look_at_differences(page, registry):
         text = "\n".join(row[side] for row in rows if row[side] is not None)
         assert compact(text) == registry.get(f"/subjects/orders/versions/{version}")["schema"]
     assert all(name == ("same" if left == right else "differs") for name, left, right in rows)
-    # what version 3 has more than 1 is two fields: their lines are marked, and no other
+    # version 3 has two more fields than version 1: only their lines are marked
     marked = [row for row in rows if row[0] == "differs"]
     assert all(left is None for _, left, _ in marked) and len(marked) == 16, marked
     page.shot("compare")
@@ -415,8 +415,8 @@ def look_at_differences(page, registry):
     print(f"versions 1 and 3 side by side: {len(rows)} rows, {len(marked)} marked")
 
 
-def look_at_hostile_names(page, registry):
-    """Texts of the registry stay texts, in each place where they stand."""
+def check_hostile_names(page, registry):
+    """The page displays texts of the registry as text everywhere, never as HTML."""
     for name in (HOSTILE, "a/b?c#d%e&f=g+h", "größe \u202e x", "x" * 255):
         page.open()
         page.one("#search").send_keys(name)
@@ -442,11 +442,11 @@ def look_at_hostile_names(page, registry):
         page.open(subject=dots)
         assert "A browser can't request" in page.message("bad", "named")
     assert not page.all("img, iframe, object, body script")
-    print("a subject, a doc, a default and an attribute of HTML, and subjects of odd letters, are shown as they are")
+    print("a subject, a doc, a default and an attribute of HTML, and subjects with odd letters, are displayed unchanged")
 
 
 def try_new_versions(page, registry, server):
-    """Check and register, refused and not, and the level."""
+    """Check and register, rejected and accepted, and the level."""
     page.open(subject="orders")
     bad = {**ORDERS[2], "fields": ORDERS[2]["fields"] + [{"name": "needed", "type": "string"}]}
     good = {**ORDERS[2], "fields": ORDERS[2]["fields"] + [{"name": "extra", "type": "string", "default": "a\\nb"}]}
@@ -469,7 +469,7 @@ def try_new_versions(page, registry, server):
     page.button("Check").click()
     assert page.message("good", "Compatible: the level FULL accepts it.")
     before = len(page.lines())
-    with standing_still(server):
+    with stopped(server):
         ActionChains(page.driver).double_click(page.button("Register")).perform()
         page.run("arguments[0].click()", page.button("Register"))
         time.sleep(1)
@@ -480,7 +480,7 @@ def try_new_versions(page, registry, server):
     assert registry.get("/subjects/orders/versions") == [1, 2, 3, 4]
     assert json.loads(registry.get("/subjects/orders/versions/4")["schema"])["fields"][-1]["default"] == "a\\nb"
     page.shot("registered")
-    print("a schema is checked, refused with code and message, and registered; a double click sends one request")
+    print("a schema is checked, rejected with code and message, and registered; a double click sends one request")
 
     page.choose("#config-own", "BACKWARD")
     assert page.message("good", "Compatibility level is BACKWARD.")
@@ -496,8 +496,8 @@ def record_of(kind):
     return {"type": "record", "name": "Price", "fields": [{"name": "amount", "type": kind}]}
 
 
-def try_refusals(page, registry):
-    """A check or a registration that fails names each version that refuses the schema, and no other."""
+def try_rejections(page, registry):
+    """A failed check or registration names exactly the versions that are incompatible with the schema."""
     subject, kinds = "prices", ("int", "long", "string", "double")
     assert registry.ask("PUT", f"/config/{subject}", {"compatibility": "NONE"})[0] == 200
     for kind in kinds:
@@ -512,9 +512,9 @@ def try_refusals(page, registry):
         assert refusing == ([4] if level == "BACKWARD" else [3, 4]), refusing
         page.open(subject=subject)
         page.one("#new-schema").send_keys(schema["schema"])
-        for press, words in (("Check", "Not compatible."), ("Register", "409 Schema is incompatible")):
+        for press, text in (("Check", "Not compatible."), ("Register", "409 Schema is incompatible")):
             page.button(press).click()
-            assert page.message("bad", words, ".new").endswith(f"Refused by {wanted}."), page.text(".new .message")
+            assert page.message("bad", text, ".new").endswith(f"Refused by {wanted}."), page.text(".new .message")
     page.shot("refusing", ".new .outcome")
     page.all(".new .message a")[0].click()
     page.until(lambda: page.text("h2").startswith("Version 3 "))
@@ -524,11 +524,11 @@ def try_refusals(page, registry):
     page.button("Check").click()
     assert "Refused by versions 3 and 4." in page.message("bad", "Not compatible.")
     assert registry.get(f"/subjects/{subject}/versions") == live
-    print("a check and a registration that fail name each version that refuses the schema, with a link to it")
+    print("a failed check and a failed registration name each incompatible version, with a link to it")
 
 
-def try_questions(page, registry):
-    """NONE, and READONLY for everybody, ask first; other values don't."""
+def try_confirmations(page, registry):
+    """NONE and the global READONLY need a confirmation, other values don't."""
     for parameters, box, value, question in (
             ({"subject": "prices"}, "#config-own", "NONE", "Set the compatibility level of prices to NONE?"),
             ({}, "#config-all", "NONE", "Set the global compatibility level to NONE?"),
@@ -556,10 +556,10 @@ def try_questions(page, registry):
     assert page.message("good", "Global compatibility level is FORWARD.")
     assert page.texts(".setting label") == ["Global compatibility level", "Global mode"]
     assert page.texts(".switch") == ["Include soft-deleted"]
-    print("NONE, and READONLY for everybody, are set once a person has said yes; other values at once")
+    print("NONE and the global READONLY are set after a confirmation, other values at once")
 
 
-def look_up_ids(page, registry):
+def check_ids(page, registry):
     """A schema by its id, with the versions that have it."""
     page.open()
     page.all("header nav a")[2].click()
@@ -589,7 +589,7 @@ def look_up_ids(page, registry):
 
 
 def try_links(page, registry):
-    """The address has what is shown: loaded anew, it shows that again, and so does the browser's way back."""
+    """The address names the view: a reload shows the same view, and so does the browser's Back."""
     page.open()
     page.one("#search").send_keys("ORDER")
     page.until(lambda: page.run("return location.hash") == "#search=ORDER")
@@ -619,11 +619,11 @@ def try_links(page, registry):
 
 
 def try_lost_answers(page, registry, server):
-    """A response is lost, although the write was applied: sent again, also after a reload, it is applied exactly once."""
+    """A response is lost, although the write was applied. A retry, also after a reload, isn't applied again."""
     page.open(new="")
     page.one("#new-subject").send_keys("lost")
     page.one("#new-schema").send_keys('"int"')
-    with standing_still(server):
+    with stopped(server):
         page.button("Register").click()
         said = page.message("open", "The write may have been applied.")
     key = re.search("[0-9a-f]{32}", said)[0]
@@ -645,18 +645,18 @@ def try_lost_answers(page, registry, server):
     page.offline(False)
     page.button("Try again").click()
     page.until(lambda: page.all(".version"))
-    print("a lost response: the page says so, and sends the write again with its key, also after a reload: it is applied once")
+    print("a lost response: the page reports it, and retries with the same key, also after a reload: the write is applied exactly once")
 
 
 def try_reloads(page, registry, server):
-    """A write without a response keeps its key when the page is loaded anew."""
+    """A write without a response keeps its key after a reload."""
     page.open()
-    with standing_still(server):
+    with stopped(server):
         page.choose("#config-all", "FULL")
         said = page.message("open", "The write may have been applied.")
     key = re.search("[0-9a-f]{32}", said)[0]
     page.until(lambda: registry.get("/config") == {"compatibilityLevel": "FULL"})
-    # with another key, the write would be applied once more
+    # with another key, the write would be applied again
     assert registry.ask("PUT", "/config", {"compatibility": "FORWARD"})[0] == 200
     page.driver.refresh()
     page.settle()
@@ -692,7 +692,7 @@ def try_reloads(page, registry, server):
 
 
 def try_deletions(page, registry):
-    """A deletion asks first."""
+    """A deletion needs a confirmation."""
     page.open(subject="orders", version=2)
     page.button("Soft-delete version…").click()
     assert page.run("return document.activeElement.textContent") == "Cancel"
@@ -727,11 +727,11 @@ def try_deletions(page, registry):
     page.open(subject="orders")
     assert page.message("bad", "40401 Subject not found.")
     page.shot("not-found")
-    print("versions and subjects are soft-deleted and deleted permanently, once a person has said yes")
+    print("versions and subjects are soft-deleted and deleted permanently, after a confirmation")
 
 
 def try_keyboard(page, registry):
-    """All by the keyboard: a new subject, a second version, a fold, a comparison, a level, a mode, a deletion, an id."""
+    """With the keyboard alone: a new subject, a second version, a fold, a comparison, a level, a mode, a deletion, an id."""
     page.open()
     page.press_at("at.textContent === 'New subject'", Keys.ENTER)
     page.until(lambda: page.texts("h1") == ["New subject"])
@@ -783,12 +783,12 @@ def try_keyboard(page, registry):
     page.until(lambda: page.all(".version"))
     assert "event-0001" in page.text("h1")
     page.shot("keyboard")
-    print("all of that by the keyboard alone, with the focus always visible")
+    print("all of that with the keyboard alone, with the focus always visible")
 
 
 def try_modes(page, registry):
-    """Modes, a subject's own and the global one, are shown and set; what READONLY rejects gets its code and message."""
-    def forbidden(within):
+    """A subject's mode and the global one are displayed and set. A write that READONLY rejects gets its code and message."""
+    def check_forbidden(within):
         assert page.message("bad", "42205 Operation not permitted.", within)
 
     other = "a/b?c#d%e&f=g+h"
@@ -797,13 +797,13 @@ def try_modes(page, registry):
     assert "Sent once" in page.message("good", "Mode is READONLY.")
     assert registry.get(path("mode", HOSTILE)) == {"mode": "READONLY"} and registry.get("/mode") == {"mode": "READWRITE"}
     page.choose("#config-own", "FULL")
-    forbidden("form:has(#config-own)")
+    check_forbidden("form:has(#config-own)")
     assert page.text("#config-own option:checked") == "FORWARD (global)"
     page.one("#new-schema").send_keys(json.dumps(ORDERS[0]))
     page.button("Check").click()
     assert page.message("bad", "Not compatible.", ".new")
     page.button("Register").click()
-    forbidden(".new")
+    check_forbidden(".new")
     page.run("arguments[0].append(new Option('IMPORT'))", page.one("#mode-own"))
     page.choose("#mode-own", "IMPORT")
     assert page.message("bad", "42204 Invalid mode.", "form:has(#mode-own)")
@@ -811,7 +811,7 @@ def try_modes(page, registry):
         page.run("document.querySelector('main > .message')?.remove()")
         page.button(f"Soft-delete {what}…").click()
         page.button("Soft-delete", "dialog").click()
-        forbidden("main >")
+        check_forbidden("main >")
     page.shot("readonly")
     assert registry.get(path("subjects", HOSTILE, "versions")) == [1]
     page.open(subject=HOSTILE)
@@ -826,7 +826,7 @@ def try_modes(page, registry):
     page.button("Set READONLY", "dialog").click()
     assert page.message("good", "Global mode is READONLY.") and registry.get("/mode") == {"mode": "READONLY"}
     page.choose("#config-all", "FULL")
-    forbidden("form:has(#config-all)")
+    check_forbidden("form:has(#config-all)")
     page.settle()
     shown = page.run("""return [...document.querySelectorAll('.subjects tbody tr')].slice(0, 2).map((row) =>
       [row.cells[0].textContent, row.cells[4].textContent, row.cells[4].firstChild.className])""")
@@ -835,7 +835,7 @@ def try_modes(page, registry):
     page.open(subject=other)
     assert page.text("#mode-own option:checked") == "READONLY (global)"
     page.choose("#config-own", "BACKWARD")
-    forbidden("form:has(#config-own)")
+    check_forbidden("form:has(#config-own)")
     page.open(subject=HOSTILE)
     page.choose("#config-own", "FULL")
     assert page.message("good", "Compatibility level is FULL.")
@@ -843,14 +843,14 @@ def try_modes(page, registry):
     page.one("#new-subject").send_keys("writable")
     page.one("#new-schema").send_keys('"int"')
     page.button("Register").click()
-    forbidden(".new")
+    check_forbidden(".new")
     assert registry.ask("PUT", "/mode", {"mode": "READWRITE"})[0] == 200
     page.button("Register").click()
     assert page.message("good", "Version 1 of writable has this schema")
-    print("a subject's mode and the global one: shown and set; READONLY rejects writes with its code, READWRITE accepts them again")
+    print("a subject's mode and the global one: displayed and set; READONLY rejects writes with its code, READWRITE accepts them again")
 
 
-def look_at_nothing(page, registry):
+def check_empty_registry(page, registry):
     """A registry without subjects."""
     for name in registry.get("/subjects"):
         assert registry.ask("DELETE", path("subjects", name))[0] == 200
@@ -871,29 +871,29 @@ def main():
     registry.fill()
     page = Page(given.page, given.log, given.shots)
     try:
-        look_at_heads(page)
-        look_at_subjects(page, registry)
-        look_for_subjects(page, registry)
-        look_at_fields(page, registry)
-        look_at_json(page, registry)
-        look_at_differences(page, registry)
-        look_at_hostile_names(page, registry)
+        check_headers(page)
+        check_subjects(page, registry)
+        check_search(page, registry)
+        check_fields(page, registry)
+        check_json(page, registry)
+        check_differences(page, registry)
+        check_hostile_names(page, registry)
         try_new_versions(page, registry, given.server)
-        try_refusals(page, registry)
-        try_questions(page, registry)
-        look_up_ids(page, registry)
+        try_rejections(page, registry)
+        try_confirmations(page, registry)
+        check_ids(page, registry)
         try_links(page, registry)
         try_lost_answers(page, registry, given.server)
         try_deletions(page, registry)
         try_keyboard(page, registry)
         try_modes(page, registry)
-        look_at_nothing(page, registry)
-        told = [entry for entry in page.driver.get_log("browser") if "Failed to load resource" not in entry["message"]]
-        assert not told, told
+        check_empty_registry(page, registry)
+        browser_errors = [entry for entry in page.driver.get_log("browser") if "Failed to load resource" not in entry["message"]]
+        assert not browser_errors, browser_errors
         try:
             raise AssertionError(page.driver.switch_to.alert.text)
         except NoAlertPresentException:
-            print("no text ran as a script, and the browser had nothing to complain of")
+            print("no text ran as a script, and the browser logged no error")
     except AssertionError:
         page.driver.save_screenshot(f"{given.shots}/failed.png")
         raise

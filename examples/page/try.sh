@@ -1,17 +1,17 @@
 #!/usr/bin/env bash
-# Serves a new registry of 2,000 subjects and the page, and drives Chromium through the page as a person would. It installs
-# what it needs. The status is 0 if the page showed the registry's responses and did what it has to.
+# Serves a new registry of 2,000 subjects and the page, and drives Chromium through the page like a person. It installs missing
+# packages. The status is 0 if the page displays the registry's responses and works.
 #
-#   AVROREG=PROGRAM [SHOTS=FOLDER] examples/page/try.sh     screenshots go to the folder, else to a temporary one that stays
+#   AVROREG=PROGRAM [SHOTS=FOLDER] examples/page/try.sh     SHOTS: the folder for screenshots; default: a temporary one that stays
 set -u
 source "$(dirname "$0")/../serving.sh"
 packages nginx curl jq chromium chromium-driver python3-selenium
-getent hosts localhost >/dev/null || fail "localhost has no address here, and selenium asks chromedriver there; /etc/hosts wants a line 127.0.0.1 localhost"
+getent hosts localhost >/dev/null || fail "localhost has no address here, and selenium needs it for chromedriver; add the line 127.0.0.1 localhost to /etc/hosts"
 here=$examples/page
 shots=${SHOTS:-$(mktemp -d "${TMPDIR:-/tmp}/avroreg-page.XXXXXX")}
 mkdir -p "$shots"
 
-# nginx reads the page as another user than the owner of this folder, and answers 504 sooner than by default.
+# nginx isn't run by the owner of this folder, so it needs a copy of the page. It returns 504 after 10 seconds, not 60.
 mkdir "$scratch/page"
 cp "$here"/index.html "$here"/page.css "$here"/page.js "$scratch/page/"
 sed "s,/usr/local/share/avroreg/page,$scratch/page," "$here/page.conf" >"$scratch/page.conf"
@@ -20,7 +20,7 @@ with_page="s,^    location / {,    include $scratch/page.conf;\n&,; s,\(proxy_re
 start_server "$scratch/page.db"
 start_nginx front "${url##*:}" "$with_page"
 /usr/bin/python3 -u "$here/look.py" --registry "${url##*:}" --server "$server" --page "$front" \
-  --log "$scratch/front/access.log" --shots "$shots" || fail "the page isn't as it has to be"
+  --log "$scratch/front/access.log" --shots "$shots" || fail "a check of the page failed"
 
 # Each write of the page that reached avroreg has a retry key.
 jq -e -s '[.[] | select(.upstream_status != "" and (.method == "PUT" or .method == "DELETE" or (.method == "POST" and (.path | test("^/subjects/[^/?]+/versions")))))]

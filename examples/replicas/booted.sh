@@ -1,6 +1,6 @@
 #!/usr/bin/env bash
-# Boots three Debians 12 under systemd, sets them up by the commands of docs/running.md and README.md, and tries the units and
-# the operations on them. Prints a line for each check; the last line is 'N passed, M failed'.
+# Boots three trees of Debian 12 under systemd, and sets them up with the commands of docs/running.md and README.md. Tests the
+# units and the operations on them. Prints a line for each check. The last line is 'N passed, M failed'.
 #
 #   AVROREG=PROGRAM examples/replicas/booted.sh
 #   BASE      a tree of Debian 12 with these packages to copy; by default debootstrap makes one, which needs the network
@@ -34,13 +34,13 @@ clean_nodes() {
 trap clean_nodes EXIT
 trap 'exit 130' INT TERM
 
-# block FILE HEADING: the first block of shell commands after that line of a page.
+# block FILE HEADING: prints the first block of shell commands after this line of a page.
 block() {
   awk -v heading="$2" 'index($0, heading) == 1 { on = 1 } on && /^```$/ { exit } inside { print } on && /^```sh$/ { inside = 1 }' "$top/$1" |
     grep . || echo "echo 'no commands under $2 in $1'; exit 1"
 }
 
-# tree NODE: a Debian with the repository's files, the node's certificate, and a script of the pages' commands.
+# tree NODE: makes a tree of Debian with the repository's files, the node's certificate, and a script of the pages' commands.
 tree() {
   local node=$1 to=$scratch/$1/root/avroreg
   cp -a "$BASE" "$scratch/$node"
@@ -63,7 +63,7 @@ ENV
   } >"$to/set-up.sh"
 }
 
-# boot NODE: boots its tree.
+# boot NODE: boots the node's tree.
 boot() {
   local outcome
   boot_tree "avrboot-$1" "$scratch/$1" "$scratch/$1.log" --network-bridge="$bridge"
@@ -72,26 +72,27 @@ boot() {
   return $outcome
 }
 
-# off NODE: takes its power away.
+# off NODE: kills the node, like a power failure.
 off() {
   [ -z "${containers[$1]:-}" ] || kill -9 "${leaders[$1]:-${containers[$1]}}" 2>/dev/null
   wait "${containers[$1]:-}" 2>/dev/null
   unset "containers[$1]"
 }
 
-# on NODE COMMAND..: a command in its booted tree.
+# on NODE COMMAND..: runs a command in the node's booted tree.
 on() { in_tree "${leaders[$1]}" "${@:2}"; }
 
-# asks NODE STATUS TEXT CURL'S ARGUMENT..: whether the node's relay answers so; the last argument is the path.
-asks() {
+# responds NODE STATUS TEXT CURL'S ARGUMENT..: whether the node's relay responds with this status and text. The last argument is
+# the path.
+responds() {
   local node=$1 status=$2 text=$3 found
   shift 3
   found=$(on "$node" curl -s -m 60 -w '\n%{http_code}' "${@:1:$#-1}" "http://127.0.0.1:8080${*: -1}")
   echo "$found"
   [[ $found == *"$text"* && ${found##*$'\n'} == "$status" ]]
 }
-register() { asks "$1" 200 "{\"id\":$3}" -H "Registry-Retry-Key: $2" -d "{\"schema\":\"{\\\"type\\\":\\\"fixed\\\",\\\"name\\\":\\\"F\\\",\\\"size\\\":$3}\"}" "/subjects/$2/versions"; }
-# cluster NODE ARGUMENT..: avroreg-cluster on a node; if it fails, what avroreg wrote.
+register() { responds "$1" 200 "{\"id\":$3}" -H "Registry-Retry-Key: $2" -d "{\"schema\":\"{\\\"type\\\":\\\"fixed\\\",\\\"name\\\":\\\"F\\\",\\\"size\\\":$3}\"}" "/subjects/$2/versions"; }
+# cluster NODE ARGUMENT..: runs avroreg-cluster on a node. If it fails, prints avroreg's journal.
 cluster() {
   local node=$1
   shift
@@ -120,7 +121,7 @@ for node in n1 n2 n3; do
   set_ups+=($!)
 done
 for node in n1 n2 n3; do
-  check "$node is set up by the commands of the pages" wait "${set_ups[${node#n} - 1]}" || tail -n 5 "$scratch/$node.set-up"
+  check "the commands of the pages set up $node" wait "${set_ups[${node#n} - 1]}" || tail -n 5 "$scratch/$node.set-up"
 done
 for node in n1 n2 n3; do
   check "$node is healthy" eventually 120 is_healthy "$node"
@@ -133,15 +134,15 @@ for node in n1 n2 n3; do
 done
 check "a write at n1" eventually 60 register n1 a 1
 check "a write at n2" register n2 b 2
-check "a read at n3" asks n3 200 '[1]' -H 'Cache-Control: no-cache' /subjects/a/versions
+check "a read at n3" responds n3 200 '[1]' -H 'Cache-Control: no-cache' /subjects/a/versions
 for service in etcd avroreg avroreg-relay; do
   check "$service of n1 is killed, and systemd starts it" on n1 systemctl kill -s KILL "$service"
   check "n1 is healthy again" eventually 120 is_healthy n1
 done
 off n1
-check "n1 has no power, and n2 takes a write" eventually 60 register n2 c 3
+check "n1 has no power, and n2 accepts a write" eventually 60 register n2 c 3
 check "n1 boots" boot n1 || exit 1
-sleep 12  # its address may come late
+sleep 12  # its network interface may come up late
 on n1 bash -c 'ip addr add 10.78.0.1/24 dev host0; ip link set host0 up'
 check "n1 is healthy without a command" eventually 120 is_healthy n1
 check "the nodes are equal" fingerprints
@@ -160,7 +161,7 @@ check "a write at n3" eventually 60 register n3 d 4
 check "entries are trimmed" cluster n3 trim
 check "the nodes are equal" fingerprints
 check "the relay ends by SIGTERM with its position saved" on n1 systemctl stop avroreg-relay
-check "and nginx may read from avroreg no more" on n1 test ! -e /run/avroreg-relay/local-reads
+check "and nginx may no longer read from avroreg" on n1 test ! -e /run/avroreg-relay/local-reads
 check "its journal says so" on n1 bash -c "journalctl -u avroreg-relay -o cat | grep -q 'ended at revision'"
-counts
+print_counts
 [ "$failures" = 0 ]

@@ -1,7 +1,8 @@
-# What trial.sh, odd.sh and operations.sh share: it breaks the relay or nginx.conf, and runs a script that has to detect that. It is sourced, not run.
+# A function for trial.sh, odd.sh and operations.sh: it breaks the relay or nginx.conf, and runs a script that must detect it.
+# Source this file; don't run it.
 
-# try_breaks KIND "NAME.." COMMAND..: for each break of the kind, or each named one, runs the command with --relay BROKEN. It
-# has to end with status 1 and the report of the break. Ends with status 1 if a break wasn't detected.
+# try_breaks KIND "NAME.." COMMAND..: for each break of the kind, or each named one, runs the command with --relay BROKEN. The
+# command must end with status 1 and the report of the break. Returns 1 if a break wasn't detected.
 try_breaks() {
   local kind=$1 names=$2 name report found outcome tried=0 undetected=0
   shift 2

@@ -1,11 +1,11 @@
 #!/usr/bin/env bash
-# Makes the certificates of a cluster: an authority, and for each node a certificate with its key. etcd's members show them
-# to each other, and the nodes' nginxes too.
+# Makes the certificates of a cluster: an authority, and for each node a certificate with its key. etcd's members and the
+# nodes' nginxes authenticate each other with them.
 #
-#   certificates.sh FOLDER NODE=ADDRESS..     as certificates.sh /etc/avroreg/tls n1=10.0.0.1 n2=10.0.0.2 n3=registry-3.example.org
+#   certificates.sh FOLDER NODE=ADDRESS..     such as certificates.sh /etc/avroreg/tls n1=10.0.0.1 n2=10.0.0.2 n3=registry-3.example.org
 #
-# It keeps an authority that is there, so it makes the certificate of one more node too. The authority's key, ca.key, belongs
-# on no node: keep it elsewhere.
+# It keeps an existing authority, so it can also make the certificate of a further node. Don't leave the authority's key, ca.key,
+# on a node: keep it elsewhere.
 set -eu
 [ $# -ge 2 ] || {
   sed -n '2,8s/^# \{0,1\}//p' "$0" >&2

@@ -1,9 +1,9 @@
 #!/usr/bin/env bash
 # Sends odd requests to one relay of three, and compares the nodes: no request may be applied past the log, and none may hide
-# another one. Installs what it needs.
+# another one. Installs missing packages.
 #
-#   AVROREG=PROGRAM examples/replicas/odd.sh [COUNT [SEED]]    2000 random requests, seed 1
-#   AVROREG=PROGRAM examples/replicas/odd.sh breaks [NAME]..   breaks the relay, and expects that to be detected
+#   AVROREG=PROGRAM examples/replicas/odd.sh [COUNT [SEED]]    default: 2000 random requests, seed 1
+#   AVROREG=PROGRAM examples/replicas/odd.sh breaks [NAME]..   breaks the relay, and expects the script to detect it
 set -u
 source "$(dirname "$0")/../serving.sh"
 source "$examples/replicas/breaks.sh"

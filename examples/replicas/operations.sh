@@ -1,8 +1,8 @@
 #!/usr/bin/env bash
-# Tests each operation of README.md on three nodes of this machine's loopback. Installs what it needs.
+# Tests each operation of README.md on three nodes of this machine's loopback. Installs missing packages.
 #
 #   AVROREG=PROGRAM examples/replicas/operations.sh [NAME]..
-#   AVROREG=PROGRAM examples/replicas/operations.sh breaks [NAME]..   breaks the relay or nginx.conf, and expects that to be detected
+#   AVROREG=PROGRAM examples/replicas/operations.sh breaks [NAME]..   breaks the relay or nginx.conf, and expects the script to detect it
 set -u
 source "$(dirname "$0")/../serving.sh"
 source "$examples/replicas/breaks.sh"

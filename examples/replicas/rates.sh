@@ -1,7 +1,7 @@
 #!/usr/bin/env bash
-# Measures writes and reads a second, of a single avroreg and of three nodes in turn. Installs what it needs.
+# Measures writes and reads a second, of a single avroreg and of three nodes in turn. Installs missing packages.
 #
-#   AVROREG=PROGRAM examples/replicas/rates.sh [SECONDS [ROUNDS]]     3 rounds of 2 seconds for each figure: five minutes
+#   AVROREG=PROGRAM examples/replicas/rates.sh [SECONDS [ROUNDS]]     default: 3 rounds of 2 seconds for each figure, five minutes in all
 set -u
 source "$(dirname "$0")/../serving.sh"
 packages python3 etcd-server openssl nginx

@@ -1,12 +1,13 @@
 #!/usr/bin/env bash
-# Three nodes in three network namespaces, eight clients, and faults: kills, pauses, partitions, full disks. Then it compares
-# what was acknowledged with the log, and the nodes' tables with two folds of it. Needs root. Installs what it needs.
+# Runs three nodes in three network namespaces, eight clients, and faults: kills, pauses, partitions, full disks. Then it
+# compares the acknowledged writes with the log, and the nodes' tables with two folds of the log. Needs root. Installs missing
+# packages.
 #
-#   AVROREG=PROGRAM examples/replicas/trial.sh [SECONDS [RATE [SEED]]]     60 seconds, 4 writes a second and client, seed 1
+#   AVROREG=PROGRAM examples/replicas/trial.sh [SECONDS [RATE [SEED]]]     default: 60 seconds, 4 writes a second and client, seed 1
 #   AVROREG=PROGRAM examples/replicas/trial.sh breaks [NAME]..             breaks the relay, and expects the trial to fail
 #
-# Ends with status 0 if there were no losses, duplicates or differences, and with breaks if each was detected. Each node
-# with its processes is on one machine here, so a fault takes part of it, never all.
+# The status is 0 if there were no losses, duplicates or differences, or if each break was detected. All nodes are on one
+# machine here, so no fault affects everything.
 set -u
 source "$(dirname "$0")/../serving.sh"
 source "$examples/replicas/breaks.sh"

@@ -1,6 +1,6 @@
 #!/usr/bin/env bash
 # Starts three nodes on this machine's loopback, registers, kills a node, registers, brings the node back, and compares all
-# three. Installs what it needs. Ends with status 0 if no acknowledged write is missing anywhere and the nodes are equal.
+# three. Installs missing packages. The status is 0 if no node lacks an acknowledged write and the nodes are equal.
 #
 #   AVROREG=PROGRAM examples/replicas/try.sh
 set -u
@@ -17,7 +17,7 @@ stop_nodes() {
 }
 trap stop_nodes EXIT
 
-# url NODE, admin NODE: where a node's relay answers clients, and where it answers /health.
+# url NODE, admin NODE: print the addresses of a node's relay, for clients and for /health.
 url() { sed -n 's,^listen = "\(.*\)",http://\1,p' "$cluster/$1/relay.toml"; }
 admin() { sed -n 's,^admin = "\(.*\)",http://\1,p' "$cluster/$1/relay.toml"; }
 
@@ -29,18 +29,18 @@ ask() {
     [ "$status" != 503 ] && break
     sleep 0.5
   done
-  [ "$status" = 200 ] || fail "$2 $3 at $1 was answered $status: $(cat "$scratch/response")"
+  [ "$status" = 200 ] || fail "$2 $3 at $1 got $status: $(cat "$scratch/response")"
   cat "$scratch/response"
 }
 
-# register NODE SUBJECT FIELDS: registers a record of so many fields.
+# register NODE SUBJECT FIELDS: registers a record with FIELDS fields.
 register() {
   local fields
   fields=$(for at in $(seq "$3"); do printf ',{\\"name\\":\\"f%d\\",\\"type\\":\\"long\\",\\"default\\":0}' "$at"; done)
   ask "$1" POST "/subjects/$2/versions" "{\"schema\":\"{\\\"type\\\":\\\"record\\\",\\\"name\\\":\\\"R\\\",\\\"fields\\\":[${fields#,}]}\"}"
 }
 
-# expect WANTED FOUND WHAT
+# expect WANTED FOUND TEXT: fails if they differ.
 expect() {
   [ "$1" = "$2" ] || fail "$3: $2 instead of $1"
   echo "$3: $2"

@@ -1,5 +1,5 @@
 #!/usr/bin/env bash
-# Tries watch: with a server that is up, with an old backup, with the server killed, and with a full disk. Checks that the
+# Tests watch: with a server that is up, with an old backup, with the server killed, and with a full disk. Checks that the
 # dashboard and the alert rules name only metrics that watch writes, and that docs/running.md has a row for each rule. The full
 # disk needs root and a mount of tmpfs.
 #
@@ -14,14 +14,14 @@ watch() {
   python3 "$here/watch" "$url" "$1" "$metrics" --backups "$scratch/backups" --access-log "$scratch/access.log" --timeout 300 || fail "watch failed"
 }
 
-# shows SAMPLE VALUE: what the metrics have to have; VALUE `none` if there must be no such sample.
-shows() {
+# check SAMPLE VALUE: checks a sample of the metrics. If VALUE is `none`, the sample must be missing.
+check() {
   local found
   found=$(sed -n "s/^avroreg_$1 //p" "$metrics")
   [ "${found:-none}" = "$2" ] || fail "avroreg_$1 is ${found:-none}, not $2"
 }
 
-# age: seconds since the last good backup, as the rule AvroregBackupOld reckons.
+# age: prints the seconds since the last good backup, as the rule AvroregBackupOld computes them.
 age() {
   echo $(($(date +%s) - $(sed -n 's/^avroreg_backup_good_timestamp_seconds //p' "$metrics")))
 }
@@ -43,20 +43,20 @@ LOG
 start_server "$scratch/registry.db"
 for subject in a b; do [ "$(register $subject 10)" = 200 ] || fail "nothing was registered: $(cat "$scratch/reply")"; done
 watch "$scratch/registry.db"
-shows up 1
-shows store_failed 0
-shows subjects 2
-shows backup_good_timestamp_seconds 0
-shows 'requests{user="ci",status="200"}' 2
-shows 'requests{user="ci",status="409"}' 1
-shows 'requests{user="-",status="401"}' 1
-shows 'requests{user="-",status="403"}' 1
-shows 'file_bytes{file="database"}' "$(stat -c %s "$scratch/registry.db")"
+check up 1
+check store_failed 0
+check subjects 2
+check backup_good_timestamp_seconds 0
+check 'requests{user="ci",status="200"}' 2
+check 'requests{user="ci",status="409"}' 1
+check 'requests{user="-",status="401"}' 1
+check 'requests{user="-",status="403"}' 1
+check 'file_bytes{file="database"}' "$(stat -c %s "$scratch/registry.db")"
 AVROREG=$avroreg "$examples/backup/nightly" "$scratch/registry.db" "$scratch/backups" || fail "no backup"
 watch "$scratch/registry.db"
-shows backup_subjects 2
-shows backup_versions 2
-shows backup_schemas 1
+check backup_subjects 2
+check backup_versions 2
+check backup_schemas 1
 [ "$(age)" -lt 3600 ] || fail "the new backup is $(age) seconds old"
 echo "up: the metrics are right"
 python3 "$here/watch" "$url" "$scratch/registry.db" "$scratch/named.prom" --backups "$scratch/backups" --registry orders || fail "watch failed"
@@ -70,7 +70,7 @@ done
 rules=$(sed -n 's/.*- alert: //p' "$here/alerts.yml" | sort)
 rows=$(sed -n 's/^| `\(Avroreg[A-Za-z]*\)` |.*/\1/p' "$examples/../docs/running.md" | sort)
 [ -n "$rules" ] && [ "$rules" = "$rows" ] || fail "docs/running.md has rows for other rules: $rows"
-jq -e '.panels | length == 6' "$here/dashboard.json" >/dev/null || fail "the dashboard isn't as it was"
+jq -e '.panels | length == 6' "$here/dashboard.json" >/dev/null || fail "the dashboard hasn't six panels"
 
 jq -c '.time -= 37 * 3600' "$scratch/backups/last-good.json" >"$scratch/old.json"
 mv "$scratch/old.json" "$scratch/backups/last-good.json"
@@ -80,9 +80,9 @@ echo "backup too old: seen"
 
 stop_server KILL
 watch "$scratch/registry.db"
-shows up 0
-shows store_failed 0
-shows subjects none
+check up 0
+check store_failed 0
+check subjects none
 echo "killed: seen"
 
 mkdir "$scratch/small"
@@ -92,9 +92,9 @@ if [ "$(id -u)" = 0 ] && mount -t tmpfs -o size=700k tmpfs "$scratch/small" 2>/d
   for number in $(seq 100); do [ "$(register "s$number" $((20000 + number)))" = 200 ] || break; done
   grep -q 50001 "$scratch/reply" || fail "the disk didn't get full: $(cat "$scratch/reply")"
   watch "$scratch/small/registry.db"
-  shows up 0
-  shows store_failed 1
+  check up 0
+  check store_failed 1
   echo "disk full: seen"
 else
-  echo "disk full: not tried, since this machine doesn't let it mount"
+  echo "disk full: not tried, since mounting needs root and isn't allowed here"
 fi

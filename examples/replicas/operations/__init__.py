@@ -1,1 +1,1 @@
-"""The commands of avroreg-cluster: what an operator does to a cluster, and to one node of it."""
+"""The commands of avroreg-cluster: an operator's work on a cluster, and on one of its nodes."""

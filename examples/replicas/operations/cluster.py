@@ -1,4 +1,4 @@
-"""What concerns all nodes: positions, pauses, trimming, members."""
+"""Operations on the cluster: positions, pauses, trimming, members."""
 import asyncio
 import time
 from typing import Any
@@ -9,11 +9,11 @@ from relay.etcd import Etcd, Json
 from relay.faults import Unavailable
 from relay.log import Base, Log
 
-REMOVED = 100  # entries in one transaction; etcd takes up to 128 operations
+REMOVED = 100  # entries in one transaction; etcd allows up to 128 operations
 
 
 class Failed(Exception):
-    """A step of an operation can't be done; nothing was changed by it."""
+    """A step of an operation failed, and changed nothing."""
 
 
 class Cluster:
@@ -51,7 +51,7 @@ class Cluster:
         print("writes go on")
 
     async def trim(self) -> None:
-        """Removes the entries that every node has applied and saved, and frees their room in this node's etcd."""
+        """Removes the entries that every node has applied and saved, and frees their space in this node's etcd."""
         positions = await self.log.positions()
         if not positions:
             raise Failed("no node has published a position")
@@ -67,7 +67,7 @@ class Cluster:
         await self.defragment()
 
     async def record_trimmed(self, upto: int) -> None:
-        """Records how far entries may be removed, before any is. The record never goes back."""
+        """Records up to which revision entries may be removed, before it removes any. The recorded revision never decreases."""
         found = await self.log.value(log.TRIMMED)
         if found and upto < int(found[1]):
             raise Failed(f"a node is at {upto}, and the log was trimmed up to {int(found[1])}: rebuild or forget that node first")
@@ -78,7 +78,7 @@ class Cluster:
             raise Failed("another node trims the log now")
 
     async def defragment(self) -> None:
-        """Drops etcd's history, frees its room in this node's etcd, and ends the alarm of a full quota."""
+        """Drops etcd's history, frees its space in this node's etcd, and ends the alarm of a full quota."""
         revision = (await self.etcd.call("/v3/kv/range", {"key": etcd.encode(log.NEWEST)}))["header"]["revision"]
         try:
             await self.etcd.call("/v3/kv/compaction", {"revision": revision, "physical": True}, 60)
@@ -93,11 +93,11 @@ class Cluster:
 
     @staticmethod
     def removable(upto: int) -> Json:
-        """The range of the keys of entries up to a revision, so many at once."""
+        """The range of the keys of entries up to a revision, LISTED in one response."""
         return {**etcd.below(log.ENTRIES), "keys_only": True, "max_mod_revision": str(upto), "limit": str(log.LISTED)}
 
     async def begin_from(self, digest: str) -> Base:
-        """Has the log begin after a file with this digest, unless it began so already."""
+        """Makes the log begin after a file with this digest, if it hasn't begun."""
         begin = {"request_put": etcd.put(log.BASE, digest.encode())}
         empty = [etcd.is_missing(it) for it in (log.BASE, log.NEWEST)]
         await self.etcd.call("/v3/kv/txn", {"compare": empty, "success": [begin]})
@@ -119,15 +119,15 @@ class Cluster:
         for member in members:
             if member.get("name") == node:
                 await self.etcd.call("/v3/cluster/member/remove", {"ID": member["ID"]}, 30)
-        await self.until_added(peer_url)
+        await self.add_member(peer_url)
         await self.forget(node)
         others = [f"{it['name']}={it['peerURLs'][0]}" for it in members if it.get("name") not in (node, None, "")]
         print("start etcd there, with an empty data folder, by")
         print(f"  --name={node} --initial-cluster-state=existing --initial-cluster={','.join([*others, f'{node}={peer_url}'])}")
         print("then, on that node: avroreg-cluster restore BACKUP, with the backup of another node")
 
-    async def until_added(self, peer_url: str) -> None:
-        """etcd refuses a new member for some seconds after another one was lost."""
+    async def add_member(self, peer_url: str) -> None:
+        """Adds a member. etcd rejects a new one for some seconds after another one was lost, so it tries again."""
         for _ in range(30):
             found = (await self.etcd.call("/v3/cluster/member/list", {})).get("members", [])
             if any(peer_url in it.get("peerURLs", []) for it in found):

@@ -1,7 +1,7 @@
-"""A hash of all that a node's avroreg shows: of two nodes at one revision it is the same, unless a file was changed.
+"""A hash of all responses of a node's avroreg to reads. Two nodes at one revision have the same hash, unless a file was changed.
 
-The digest covers what avroreg answered to writes. It doesn't see a changed row that no later write depends on; this does,
-if a request can show it.
+The digest covers avroreg's responses to writes. It misses a changed row that no later write depends on. The hash detects
+that row, if a read returns it.
 """
 import hashlib
 import http.client
@@ -24,37 +24,37 @@ class Reader:
         return response.status, response.read()
 
 
-def shown(reader: Reader) -> Iterator[tuple[str, int, bytes]]:
-    """Each target that shows a part of the registry, with its response."""
+def all_reads(reader: Reader) -> Iterator[tuple[str, int, bytes]]:
+    """The target of each read, with its response."""
 
-    def asked(target: str) -> tuple[str, int, bytes]:
+    def read(target: str) -> tuple[str, int, bytes]:
         return target, *reader.get(target)
 
-    subjects = asked("/subjects?deleted=true")
+    subjects = read("/subjects?deleted=true")
     yield subjects
-    yield from map(asked, ("/config", "/mode", "/subjects"))
+    yield from map(read, ("/config", "/mode", "/subjects"))
     ids = set()
     for name in json.loads(subjects[2]):
         subject = urllib.parse.quote(name, safe="")
-        yield from (asked(f"/{it}/{subject}?defaultToGlobal=true") for it in ("config", "mode"))
-        versions = asked(f"/subjects/{subject}/versions?deleted=true")
+        yield from (read(f"/{it}/{subject}?defaultToGlobal=true") for it in ("config", "mode"))
+        versions = read(f"/subjects/{subject}/versions?deleted=true")
         yield versions
-        yield asked(f"/subjects/{subject}/versions")
+        yield read(f"/subjects/{subject}/versions")
         for number in json.loads(versions[2]):
-            version = asked(f"/subjects/{subject}/versions/{number}?deleted=true")
+            version = read(f"/subjects/{subject}/versions/{number}?deleted=true")
             yield version
             ids.add(json.loads(version[2])["id"])
     for number in sorted(ids):
-        yield asked(f"/schemas/ids/{number}")
-        yield asked(f"/schemas/ids/{number}/versions?deleted=true")
+        yield read(f"/schemas/ids/{number}")
+        yield read(f"/schemas/ids/{number}/versions?deleted=true")
 
 
 def fingerprint(config: Config) -> tuple[int, str]:
-    """The revision and the hash. It reads again if an entry was applied meanwhile."""
+    """The revision and the hash. If an entry was applied meanwhile, it reads again."""
     for _ in range(ATTEMPTS):
         before = revision(config.admin)
         found = hashlib.sha256()
-        for target, status, body in shown(Reader(config.listen)):
+        for target, status, body in all_reads(Reader(config.listen)):
             for part in (target.encode(), b"%d" % status, body):
                 found.update(b"%d:%s" % (len(part), part))
         if revision(config.admin) == before:

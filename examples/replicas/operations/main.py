@@ -14,21 +14,21 @@ DESCRIPTION = """Operations of a replicated avroreg, run on a node. Ends with st
 configuration or a position file is unusable."""
 
 
-def parsed() -> argparse.Namespace:
+def parse_arguments() -> argparse.Namespace:
     parser = argparse.ArgumentParser(description=DESCRIPTION)
     parser.add_argument("--config", type=pathlib.Path, default=CONFIG, help=f"the relay's configuration ({CONFIG})")
     commands = parser.add_subparsers(dest="command", required=True, metavar="COMMAND")
     commands.add_parser("status", help="print each node's position and the state of the log")
     pause = commands.add_parser("pause", help="stop all writes, and wait until every node has applied the log; reads go on")
     pause.add_argument("--seconds", type=float, default=60, help="how long to wait for a node (60)")
-    commands.add_parser("resume", help="let writes go on")
+    commands.add_parser("resume", help="allow writes again")
     commands.add_parser("trim", help="remove the entries that every node has applied")
-    commands.add_parser("defragment", help="free the room of removed entries in this node's etcd, and end the alarm of a full quota")
+    commands.add_parser("defragment", help="free the space of removed entries in this node's etcd, and end the alarm of a full quota")
     forget = commands.add_parser("forget", help="stop waiting for a node that won't come back")
     forget.add_argument("node")
     replace = commands.add_parser("replace", help="put a new member of etcd in the place of a lost node's")
     replace.add_argument("node")
-    replace.add_argument("peer_url", help="where the new member's peers reach it, as https://10.0.0.3:2380")
+    replace.add_argument("peer_url", help="the new member's address for its peers, such as https://10.0.0.3:2380")
     backup = commands.add_parser("backup", help="copy this node's database and position into a new folder")
     backup.add_argument("folder", type=pathlib.Path)
     restore = commands.add_parser("restore", help="put a backup of any node of this cluster in place on this node")
@@ -38,7 +38,7 @@ def parsed() -> argparse.Namespace:
     upgrade = commands.add_parser("upgrade", help="replace this node's avroreg, while writes are paused")
     upgrade.add_argument("program", type=pathlib.Path)
     upgrade.add_argument("--migrate", action="store_true", help="run the new program's migrate on the database")
-    commands.add_parser("fingerprint", help="print the revision and a hash of all that this node shows, to compare with other nodes")
+    commands.add_parser("fingerprint", help="print the revision and a hash of all of this node's responses to reads, to compare with other nodes")
     return parser.parse_args()
 
 
@@ -72,7 +72,7 @@ async def run(options: argparse.Namespace, settings: config.Config) -> None:
 
 
 def main() -> None:
-    options = parsed()
+    options = parse_arguments()
     try:
         asyncio.run(run(options, config.load(options.config)))
     except Misconfigured as fault:

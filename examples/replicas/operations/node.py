@@ -1,4 +1,4 @@
-"""What concerns one node: its database, its position, its program. Run on that node, as root."""
+"""Operations on one node: its database, its position, its program. They run on that node, as root."""
 import asyncio
 import hashlib
 import json
@@ -35,7 +35,7 @@ class Node:
             raise Failed(f"{' '.join(words)}: {done.stderr.strip() or done.stdout.strip() or done.returncode}")
 
     def stop(self) -> None:
-        """The relay first: then its position isn't newer than the database."""
+        """Stops the relay first, so that its position isn't newer than the database."""
         self.run(*self.config.services.stop_relay)
         self.run(*self.config.services.stop_registry)
 
@@ -44,14 +44,14 @@ class Node:
         self.run(*self.config.services.start_relay)
 
     def merge(self, database: pathlib.Path) -> None:
-        """Has avroreg copy the write-ahead log into the database. Nothing else has the file open."""
+        """Makes avroreg copy the write-ahead log into the database. Nothing else has the file open."""
         if wal(database).exists():
             self.run(str(self.config.program), "list", "--db", str(database), "subjects")
 
     def install(self, source: pathlib.Path, at: Position) -> None:
-        """Puts a whole database and its position in place, while the services are stopped.
+        """Installs a database and its position, while the services are stopped.
 
-        The old position goes first. So after a crash in between, no position is newer than its database.
+        It removes the old position first. So after a crash, no position is newer than its database.
         """
         self.config.position.unlink(missing_ok=True)
         new = self.config.database.with_name(self.config.database.name + ".new")
@@ -65,7 +65,7 @@ class Node:
         self.save_position(at)
 
     def save_position(self, at: Position) -> None:
-        """The file belongs to the relay's user, as its folder does."""
+        """Saves a position. The file gets the owner of its folder, the relay's user."""
         position.save(self.config.position, at)
         if self.config.owner:
             folder = self.config.position.parent.stat()
@@ -74,7 +74,7 @@ class Node:
     # --- Operations
 
     async def backup(self, folder: pathlib.Path) -> None:
-        """Copies the database and its position. This node's services stand still for the copy, the others go on."""
+        """Copies the database and its position. This node's services are stopped during the copy; the other nodes go on."""
         folder.mkdir(mode=0o700)
         copy = folder / "registry.db"
         self.stop()
@@ -91,7 +91,7 @@ class Node:
         print(f"backup of {self.config.node} at revision {at.revision}: {folder}")
 
     async def restore(self, folder: pathlib.Path) -> None:
-        """Puts a backup of this cluster in place, this node's or another one's. The relay applies the entries after it."""
+        """Restores a backup of any node of this cluster. The relay applies the later entries."""
         at = position.load(folder / "position")
         facts = json.loads((folder / "backup.json").read_text())
         if digest_of(folder / "registry.db") != facts["sha256"] or facts["revision"] != at.revision:
@@ -107,8 +107,8 @@ class Node:
         print(f"{self.config.node} goes on from revision {at.revision}")
 
     async def adopt(self, database: pathlib.Path) -> None:
-        """Starts this node of a new cluster from a database: a single avroreg's, or the one of a backup. Each node adopts
-        the same file. The log must be empty, since its entries come after the file."""
+        """Starts this node of a new cluster from a database: that of a single avroreg, or of a backup. Each node adopts the
+        same file. The log must be empty, since its entries come after the file."""
         self.stop()
         try:
             self.merge(database)
@@ -123,7 +123,7 @@ class Node:
         print(f"{self.config.node} began from {database}, digest {base.digest}")
 
     async def upgrade(self, program: pathlib.Path, is_migrated: bool) -> None:
-        """Replaces this node's avroreg. Writes must be paused on all nodes: no entry is applied by two versions."""
+        """Replaces this node's avroreg. Writes must be paused on all nodes, so that two versions never apply the same entry."""
         if not await self.cluster.log.value(log.PAUSE):
             raise Failed("writes aren't paused: avroreg-cluster pause")
         newest = await self.cluster.log.newest()
@@ -146,5 +146,5 @@ class Node:
         print(f"{self.config.node} has the new program, at revision {at.revision}")
 
     async def show_fingerprint(self) -> None:
-        """Prints a hash of all that this node's avroreg shows, and the revision it belongs to."""
+        """Prints the revision, and a hash of all responses of this node's avroreg to reads."""
         print(*await asyncio.to_thread(fingerprint, self.config))

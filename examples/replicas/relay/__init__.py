@@ -1,1 +1,1 @@
-"""The relay of one node of a replicated avroreg. ../README.md says what it promises, and what that rests on."""
+"""The relay of one node of a replicated avroreg. ../README.md has its guarantees and assumptions."""

@@ -1,7 +1,7 @@
 """Appends writes to the log in batches, one transaction at a time.
 
-The writes that come while a transaction is under way go together into the next one. So a lone write waits for nothing,
-and many writes share one commit of etcd.
+The writes that arrive during a transaction go together into the next one. So a lone write waits for no other one, and
+many writes share one commit of etcd.
 """
 import asyncio
 import collections
@@ -27,11 +27,11 @@ class Appender:
         self.log, self.patience = log, patience_seconds
         self.batch_messages, self.batch_bytes = batch_messages, batch_bytes
         self.waiting: collections.deque[Write] = collections.deque()
-        self.appended: dict[bytes, list[Write]] = {}  # the batches whose responses are due, by name
+        self.appended: dict[bytes, list[Write]] = {}  # the batches without responses yet, by name
         self.has_work = asyncio.Event()
 
     async def response_to(self, message: bytes) -> Response:
-        """Appends a message and waits until this node's avroreg has answered it."""
+        """Appends a message, and waits for the response of this node's avroreg."""
         write = Write(message, asyncio.get_running_loop().create_future())
         self.waiting.append(write)
         self.has_work.set()
@@ -42,13 +42,13 @@ class Appender:
             raise Unavailable("no response yet") from fault
 
     def answer(self, entry: Entry, responses: list[Response]) -> None:
-        """The responses to an entry that this node has applied."""
+        """Delivers the responses to an entry that this node has applied."""
         for write, response in zip(self.appended.pop(entry.name, []), responses):
             if not write.response.done():
                 write.response.set_result(response)
 
     async def run(self) -> None:
-        """Appends batch after batch, without an end."""
+        """Appends batch after batch, until it is canceled."""
         while True:
             await self.has_work.wait()
             if batch := self.next_batch():
@@ -84,7 +84,7 @@ class Appender:
                 is_unsure = True
                 await asyncio.sleep(RETRY_SECONDS)
             except Refused as refusal:
-                # An earlier attempt may still be under way, and be applied once the pause has ended.
+                # An earlier attempt may still be in progress, and be applied after the pause.
                 self.fail(name, Unavailable("no response yet") if is_unsure else refusal)
                 return
         self.forget_later(name)

@@ -1,4 +1,4 @@
-"""Fresh reads: a wait until this node has applied every write that any node acknowledged before the read came."""
+"""Fresh reads: they wait until this node has applied every write that was acknowledged by any node before the read arrived."""
 import asyncio
 from typing import Awaitable, Callable
 
@@ -8,7 +8,7 @@ RETRY_SECONDS = 0.1
 
 
 class Barrier:
-    """`ask_newest` returns the revision of the newest entry, as a majority has it."""
+    """`ask_newest` returns the revision of the newest entry on a majority of etcd's members."""
 
     def __init__(self, ask_newest: Callable[[], Awaitable[int]], applied: int) -> None:
         self.ask_newest, self.applied = ask_newest, applied
@@ -16,8 +16,8 @@ class Barrier:
         self.next_query: asyncio.Task[int] | None = None
         self.waiting: list[tuple[int, asyncio.Future[None]]] = []
 
-    def reached(self, revision: int) -> None:
-        """This node has applied the entries up to a revision."""
+    def set_applied(self, revision: int) -> None:
+        """Records that this node has applied the entries up to a revision."""
         self.applied = revision
         for wanted, future in self.waiting:
             if wanted <= revision and not future.done():
@@ -25,12 +25,12 @@ class Barrier:
         self.waiting = [it for it in self.waiting if not it[1].done()]
 
     async def wait(self, seconds: float) -> None:
-        """Returns once this node has applied the entry that is the newest now, or a later one."""
+        """Waits until this node has applied the entry that is the newest now."""
         try:
             async with asyncio.timeout(seconds):
                 await self.until_applied(await self.newest())
         except TimeoutError as fault:
-            raise Unavailable("no majority of etcd answers, or this node is behind it") from fault
+            raise Unavailable("no majority of etcd answers, or this node lags behind it") from fault
 
     async def newest(self) -> int:
         while True:
@@ -40,7 +40,7 @@ class Barrier:
                 await asyncio.sleep(RETRY_SECONDS)
 
     async def shared_query(self) -> int:
-        """Reads share a query that begins after each of them came: the one under way is too old for a read that comes now."""
+        """Reads share a query that begins after each of them arrived. The query in progress is too old for a read that arrives now."""
         if self.next_query is None:
             self.next_query = asyncio.create_task(self.query())
         return await asyncio.shield(self.next_query)

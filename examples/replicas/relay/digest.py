@@ -1,6 +1,6 @@
-"""The digest of all that a node's avroreg answered, and its comparison with the other nodes' digests.
+"""The digest of all responses of a node's avroreg, and its comparison with the other nodes' digests.
 
-Two nodes at one revision have one digest if their avroregs answered every message of the log alike. A digest covers all
+Two nodes at one revision have one digest if their avroregs returned the same response to every message of the log. A digest covers all
 earlier ones, so nodes that differed once differ from then on.
 """
 import collections
@@ -10,7 +10,7 @@ from typing import Any, Mapping
 REMEMBERED = 10000  # revisions whose digests a node keeps in memory, to compare with slower nodes
 
 
-def extended(digest: str, revision: int, message: bytes, status: int, body: bytes) -> str:
+def extend(digest: str, revision: int, message: bytes, status: int, body: bytes) -> str:
     """The digest after one more message and its response."""
     parts = (digest.encode(), b"%d" % revision, message, b"%d" % status, body)
     return hashlib.sha256(b"".join(b"%d:%s" % (len(part), part) for part in parts)).hexdigest()[:32]

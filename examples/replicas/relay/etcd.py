@@ -1,4 +1,4 @@
-"""etcd's JSON gateway: keys and values in base64, numbers as strings, and what is 0, false or empty is missing."""
+"""etcd's JSON gateway: keys and values are in base64, numbers are strings, and members that are 0, false or empty are missing."""
 import asyncio
 import base64
 import contextlib
@@ -52,7 +52,7 @@ class Connection:
         self.writer.close()
 
     async def send(self, path: str, document: Json) -> tuple[int, bytes]:
-        """Sends a request. Returns the status and the head of the response; the body is still to be read."""
+        """Sends a request. Returns the status and the head of the response. Read its body next."""
         body = json.dumps(document).encode()
         head = f"POST {path} HTTP/1.1\r\nHost: etcd\r\nContent-Type: application/json\r\nContent-Length: {len(body)}\r\n\r\n"
         self.writer.write(head.encode() + body)
@@ -87,7 +87,7 @@ class Etcd:
         self.idle: list[Connection] = []
 
     async def call(self, path: str, document: Json, seconds: float = 4.0) -> Json:
-        """The response to a request. After `Unavailable` the caller may repeat the request, which may then act twice."""
+        """The response to a request. After `Unavailable` the caller may repeat the request, which may then be applied twice."""
         connection: Connection | None = None
         try:
             async with asyncio.timeout(seconds):
@@ -107,7 +107,7 @@ class Etcd:
         return dict(found)
 
     async def lines(self, path: str, document: Json) -> AsyncGenerator[bytes, None]:
-        """The lines of a response that doesn't end."""
+        """The lines of an endless response."""
         try:
             async with asyncio.timeout(4.0):
                 connection = await Connection.open(self.address)

@@ -1,4 +1,4 @@
-"""The ways in which a step may fail."""
+"""The errors of the relay."""
 
 
 class Unavailable(Exception):
@@ -6,7 +6,7 @@ class Unavailable(Exception):
 
 
 class Compacted(Exception):
-    """etcd has dropped the history that a watch asked for. Every entry of the log is still there."""
+    """etcd has dropped the history that a watch needs. The log still has every entry."""
 
 
 class Broken(Exception):
@@ -18,7 +18,7 @@ class Misconfigured(Exception):
 
 
 class Refused(Exception):
-    """The relay answers a request itself. The status is the first three digits of the code."""
+    """The relay rejects a request. The status is the first three digits of the code."""
 
     def __init__(self, code: int, message: str) -> None:
         super().__init__(message)

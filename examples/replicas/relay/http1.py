@@ -1,4 +1,4 @@
-"""HTTP/1.1 as the relay reads and writes it. A request that two readers could read in two ways is refused."""
+"""HTTP/1.1 as the relay reads and writes it. The relay rejects requests that two parsers could read differently."""
 import asyncio
 import http
 import json
@@ -7,8 +7,8 @@ from typing import NamedTuple
 
 from relay.faults import Refused, Unavailable
 
-MAX_HEAD = 16384 - 256  # avroreg takes heads of 16384 bytes; the relay's own fields are shorter than 256
-MAX_BODY = 1048576  # as avroreg has it
+MAX_HEAD = 16384 - 256  # avroreg accepts heads of 16384 bytes; the relay's own fields are shorter than 256
+MAX_BODY = 1048576  # avroreg's own limit
 JSON_TYPE = b"application/vnd.schemaregistry.v1+json"
 
 NAME = rb"[!#-'*+.^-z|~0-9A-Z-]+"
@@ -17,7 +17,7 @@ FIELD = re.compile(rb"(" + NAME + rb"):[ \t]*([\t -~\x80-\xff]*?)[ \t]*\r\n")
 
 
 class Request(NamedTuple):
-    line: bytes  # the method and the target, as they came
+    line: bytes  # the method and the target, unchanged
     keys: tuple[bytes, ...]
     body: bytes
     is_fresh: bool  # Cache-Control: no-cache
@@ -36,7 +36,7 @@ def has_token(fields: dict[bytes, list[bytes]], name: bytes, token: bytes) -> bo
 
 
 async def read_head(reader: asyncio.StreamReader) -> list[bytes]:
-    """The lines of a head without the empty one, none at the end of the input. A line ends with CR LF."""
+    """The lines of a head without the empty one. No line at the end of the input. Each line must end with CR LF."""
     lines: list[bytes] = []
     size = 0
     try:
@@ -78,7 +78,7 @@ def body_length(fields: dict[bytes, list[bytes]]) -> int:
 
 
 async def read_request(reader: asyncio.StreamReader) -> Request | None:
-    """The next request of a connection; none if the connection ended before it."""
+    """The next request of a connection, or None if the connection ended."""
     lines = await read_head(reader)
     if not lines:
         return None
@@ -105,7 +105,7 @@ def json_response(status: int, document: object, kind: bytes = JSON_TYPE) -> Res
 
 
 def refusal(fault: Refused) -> Response:
-    """A refusal in the form that avroreg's have."""
+    """The response to a rejected request, in the form of avroreg's errors."""
     return json_response(int(str(fault.code)[:3]), {"error_code": fault.code, "message": fault.message})
 
 

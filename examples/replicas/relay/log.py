@@ -1,7 +1,7 @@
 """The log: entries in one order for all nodes, each appended once.
 
-An entry is a batch of messages under a key of its own in etcd, which is written once. So its revision is its place in the
-log, and etcd's compaction loses no entry. Only trimming removes entries, and records first how far.
+An entry is a batch of messages. It has its own key in etcd, which is written once. So its revision is its position in the
+log, and etcd's compaction loses no entry. Only trimming removes entries. It first records up to which revision.
 """
 import contextlib
 import json
@@ -17,7 +17,7 @@ NAME = b"avroreg/name"  # the random name of this log. A new etcd of the same me
 NEWEST = b"avroreg/newest"  # written in the transaction that appends an entry
 TRIMMED = b"avroreg/trimmed"  # every entry up to this revision may be gone
 BASE = b"avroreg/base"  # the digest of the file from which a cluster began; missing if it began from nothing
-PAUSE = b"avroreg/pause"  # while it is there, nothing is appended
+PAUSE = b"avroreg/pause"  # while this key exists, nothing is appended
 NODES = b"avroreg/node/"
 
 LISTED = 10000  # keys in one response
@@ -45,10 +45,10 @@ class Log:
         self.is_followed = False
 
     async def append(self, name: bytes, batch: bytes) -> None:
-        """Appends an entry under a name of its own. After `Unavailable` the caller repeats it: the entry is there once.
+        """Appends an entry under a name of its own. After `Unavailable` the caller repeats it: the log gets the entry once.
 
-        A member loses what it sent to a leader that has failed, and says so only after seven seconds. So this call waits
-        less and leaves the repetition to its caller.
+        If the leader has failed, a member loses its request to it, and reports this only after seven seconds. So this call
+        waits less, and its caller repeats it.
         """
         key = ENTRIES + name
         found = await self.etcd.call(
@@ -65,21 +65,21 @@ class Log:
             raise Refused(50304, "Writes are paused")
 
     async def newest(self) -> int:
-        """The revision of the newest entry, as a majority of etcd's members has it now."""
+        """The revision of the newest entry on a majority of etcd's members."""
         found = await self.etcd.pairs({"key": etcd.encode(NEWEST)}, etcd.SOON)
         return max((int(pair["mod_revision"]) for pair in found), default=0)
 
     async def entries(self, after: int) -> AsyncGenerator[Entry, None]:
-        """The entries after a revision, in order and without an end."""
+        """The entries after a revision, in order and endlessly."""
         start = after + 1
         while True:
             try:
-                async with contextlib.aclosing(self.watched(start)) as watched:
+                async with contextlib.aclosing(self.watch(start)) as watched:
                     async for entry in watched:
                         after = entry.revision
                         yield entry
             except Compacted:
-                found = await self.listed(after)
+                found = await self.list_keys(after)
                 await self.check_trimmed(after)
                 names = found.get("kvs", [])
                 for first in range(0, len(names), READ):
@@ -88,16 +88,16 @@ class Log:
                         yield entry
                 start = 1 + (after if found.get("more") else int(found["header"]["revision"]))
 
-    async def listed(self, after: int) -> Json:
+    async def list_keys(self, after: int) -> Json:
         """The keys of the first entries after a revision, in order, without their values.
 
-        etcd reads and sorts all entries for each such request, however few it returns. So this one returns many.
+        etcd reads and sorts all entries for each such request, even if it returns few. So this one returns many.
         """
         wanted = {"min_mod_revision": str(after + 1), "sort_order": "ASCEND", "sort_target": "MOD", "limit": str(LISTED), "keys_only": True}
         return await self.etcd.call("/v3/kv/range", {**etcd.below(ENTRIES), **wanted}, 60)
 
     async def read(self, names: list[Json], after: int) -> list[Entry]:
-        """The entries of these keys, which come after a revision. Fails if one was removed."""
+        """The entries of these keys, which are after a revision. Fails if one was removed."""
         found = await self.etcd.call("/v3/kv/txn", {"success": [{"request_range": {"key": it["key"]}} for it in names]}, 60)
         pairs = [pair for it in found["responses"] for pair in it["response_range"].get("kvs", [])]
         if len(pairs) < len(names):
@@ -106,12 +106,12 @@ class Log:
         return [entry_of(pair) for pair in pairs]
 
     async def check_trimmed(self, after: int) -> None:
-        """Fails if trimming may have removed an entry after a revision. Trimming records how far it goes before it removes any."""
+        """Fails if trimming may have removed an entry after a revision. Trimming records its last revision before it removes an entry."""
         trimmed = await self.trimmed()
         if after < trimmed:
             raise Broken(f"the log was trimmed up to {trimmed}, and this node is at {after}: restore another node's backup")
 
-    async def watched(self, start: int) -> AsyncGenerator[Entry, None]:
+    async def watch(self, start: int) -> AsyncGenerator[Entry, None]:
         watch = {**etcd.below(ENTRIES), "start_revision": str(start), "filters": ["NODELETE"], "fragment": True}
         try:
             async with contextlib.aclosing(self.etcd.lines("/v3/watch", {"create_request": watch})) as lines:
@@ -134,7 +134,7 @@ class Log:
         return (int(found[0]["mod_revision"]), etcd.decode(found[0].get("value", ""))) if found else None
 
     async def name(self) -> str:
-        """The name of this log, which no other log has. It gets one when it is first asked for."""
+        """The name of this log, which no other log has. The first call creates it."""
         new = secrets.token_hex(8)
         found = await self.etcd.call(
             "/v3/kv/txn",
@@ -155,7 +155,7 @@ class Log:
         return Base(found[0], found[1].decode()) if found else None
 
     async def publish(self, node: str, revision: int, digest: str) -> None:
-        """Publishes a position that this node has on its disk."""
+        """Publishes a position that this node has saved on its disk."""
         value = json.dumps({"revision": revision, "digest": digest}).encode()
         found = await self.etcd.call("/v3/kv/put", etcd.put(NODES + node.encode(), value))
         if int(found["header"]["revision"]) < revision:

@@ -36,7 +36,7 @@ async def run(settings: Config) -> None:
     logger.info("node %s at revision %d, for clients at %s:%d", settings.node, replica.position.revision, *settings.listen)
     stopping = asyncio.create_task(until(stop))
     try:
-        # The work has no end of its own, except in a node that stopped: that one goes on answering 503.
+        # The tasks don't end by themselves, except in a stopped node, which still answers 503.
         while not stop.is_set():
             await asyncio.wait([stopping, *work], return_when=asyncio.FIRST_COMPLETED)
             for task in [it for it in work if it.done()]:

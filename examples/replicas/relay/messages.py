@@ -1,15 +1,15 @@
-"""The messages that avroreg is sent: what is a write, and how the log spells it.
+"""The messages to avroreg: which requests are writes, and their form in the log.
 
-A message has a request line, three fields that the relay writes itself, and the body. Nothing else of a client's head
-goes on. So a message is one request to every reader of HTTP, and one batch is several of them, one after the other.
+A message has a request line, three fields that the relay writes itself, and the body. It has nothing else of a client's
+head. So every parser of HTTP reads it as one request, and a batch as several requests in a row.
 """
 import re
 from typing import Iterator
 
 KEY = re.compile(rb"[A-Za-z0-9._-]{1,64}")
 
-# avroreg refuses every write with this key (40001), and doesn't examine the key of a read. The relay sends it with each
-# request that it doesn't append. So a request that avroreg takes for a write and the relay doesn't is refused.
+# avroreg rejects every write with this key (40001), and ignores the key of a read. The relay sends it with each request that
+# it doesn't append. So avroreg rejects a request that is a write for avroreg but not for the relay.
 NO_KEY = b"?"
 
 WRITE = re.compile(

@@ -6,7 +6,7 @@ from typing import Mapping
 PREFIX = "avroreg_relay_"
 BOUNDS = (0.001, 0.002, 0.005, 0.01, 0.02, 0.05, 0.1, 0.2, 0.5, 1.0, 2.0, 5.0, 10.0)
 HELP = {
-    "applied_total": ("counter", "Messages of the log that avroreg has answered, repeats included."),
+    "applied_total": ("counter", "Messages of the log that avroreg has answered, including repeats."),
     "revision": ("gauge", "The revision of the last entry that this node has applied."),
     "saved_revision": ("gauge", "The revision in the position file."),
     "waiting_writes": ("gauge", "Writes that aren't in the log yet."),
@@ -24,7 +24,7 @@ class Metrics:
         self.seconds: dict[str, list[float]] = {}
         self.buckets: dict[str, list[int]] = {}
 
-    def answered(self, kind: str, status: int, began: float) -> None:
+    def count_response(self, kind: str, status: int, began: float) -> None:
         seconds = time.monotonic() - began
         self.responses[kind, status] += 1
         self.seconds.setdefault(kind, [0.0, 0.0])

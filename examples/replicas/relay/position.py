@@ -1,7 +1,7 @@
-"""The position file: how far this node has applied the log.
+"""The position file: the last entry of the log that this node has applied.
 
-It may be older than the database, never newer: the relay writes a position after avroreg has committed everything up to
-it. The relay applies entries again from an older position, which changes nothing.
+It may be older than the database, never newer: the relay writes a position after avroreg has committed all entries up to
+it. From an older position, the relay applies entries again, which changes nothing.
 """
 import dataclasses
 import json
@@ -19,7 +19,7 @@ class Position:
 
 
 def load(path: pathlib.Path) -> Position:
-    """The saved position, or that of an empty log if there is no file."""
+    """The saved position, or the position of an empty log if there is no file."""
     try:
         found = json.loads(path.read_text())
         position = Position(**found)

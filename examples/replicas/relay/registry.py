@@ -1,9 +1,8 @@
 """This node's avroreg.
 
-avroreg serves one connection at a time, and nginx reads from it too. So the relay has at most one connection, and closes it
-once it has nothing more to send, or after a short turn: a kept one would delay nginx's next read by a quarter of a second.
-It sends a message after the response to the one before, and nothing ahead: if avroreg answers a write 50001, no later write
-may be applied before that write is.
+avroreg serves one connection at a time, and nginx reads from it too. So the relay has at most one connection. It closes it
+when it has nothing more to send, or after a short turn: a kept one would delay nginx's next read by a quarter of a second.
+It never pipelines messages: if avroreg returns 50001 for a write, no later write may be applied before that write.
 """
 import asyncio
 import time
@@ -15,7 +14,7 @@ from relay.http1 import Response
 
 LIMIT = 65536  # a response head is far shorter
 SECONDS = 60.0  # a check of two large schemas takes six
-TURN_SECONDS = 0.01  # a connection is kept so long while messages follow: reads of nginx wait no longer
+TURN_SECONDS = 0.01  # the longest use of one connection while messages follow; reads of nginx wait for it
 BACKEND_FAULT = 500
 
 
@@ -28,10 +27,10 @@ class Registry:
         self.turn_ends = 0.0
 
     async def ask(self, message: bytes, is_followed: bool = False) -> Response:
-        """The response to a message that may be sent twice: a read, a write that has a key, or one that is refused.
+        """The response to a message that may be sent twice: a read, a write with a key, or a rejected write.
 
-        `is_followed` says that another message comes at once. avroreg may close a kept connection between two messages at any
-        time, so a failure on one is no failure yet.
+        `is_followed` means that another message follows at once. avroreg may close a kept connection between two messages at
+        any time, so after a failure on a kept connection the message is sent again.
         """
         self.asking += 1
         try:
@@ -70,7 +69,7 @@ class Registry:
             self.close()
         if response.status == BACKEND_FAULT:
             self.close()
-            raise Unavailable("avroreg: it answers 50001: memory was refused or its disk failed; then start it anew")
+            raise Unavailable("avroreg returned 50001: an allocation or its disk failed; restart avroreg")
         return response
 
     def close(self) -> None:

@@ -39,13 +39,13 @@ class Replica:
         self.history.add(self.position.revision, self.position.digest)
         self.metrics = Metrics()
         self.broken: str | None = None
-        self.troubles: dict[str, str] = {}  # what doesn't work now, by the part that found it
+        self.troubles: dict[str, str] = {}  # the current errors, by part
         self.end_local_reads()  # a relay that was killed has left the file
 
     # --- Applying the log
 
     async def follow(self) -> None:
-        """Applies the log's entries, without an end."""
+        """Applies the log's entries until this node stops."""
         while not self.broken:
             try:
                 await self.check_log()
@@ -59,7 +59,7 @@ class Replica:
                 self.stop(str(fault))
 
     async def check_log(self) -> None:
-        """The log has to be that of the position, and to have all entries after it. etcd may have been set up anew."""
+        """Checks that the log is that of the position, and has all entries after it. Somebody may have set up a new etcd."""
         name, base = await self.log.name(), await self.log.base()
         if self.position.log not in ("", name):
             raise Broken("this isn't the log of this node's position: etcd was set up anew")
@@ -68,21 +68,21 @@ class Replica:
             raise Broken("this cluster began from a file: adopt that file, or restore another node's backup")
 
     async def apply(self, entry: Entry) -> None:
-        """Sends each message of an entry until avroreg answers it. A message that was applied before changes nothing."""
+        """Sends each message of an entry until avroreg answers it. A message that was applied earlier changes nothing."""
         seen = self.position.digest
         responses = []
         batch = batch_of(entry)
         for message in batch:
-            response = await self.until_answered(message, message is not batch[-1])
-            seen = digest.extended(seen, entry.revision, message, response.status, response.body)
+            response = await self.send_until_answered(message, message is not batch[-1])
+            seen = digest.extend(seen, entry.revision, message, response.status, response.body)
             responses.append(response)
         self.position = Position(self.position.log, entry.revision, seen)
         self.history.add(entry.revision, seen)
         self.metrics.applied += len(responses)
         self.appender.answer(entry, responses)
-        self.barrier.reached(entry.revision)
+        self.barrier.set_applied(entry.revision)
 
-    async def until_answered(self, message: bytes, is_followed: bool) -> Response:
+    async def send_until_answered(self, message: bytes, is_followed: bool) -> Response:
         while True:
             try:
                 response = await self.registry.ask(message, is_followed)
@@ -97,7 +97,7 @@ class Replica:
     # --- Position and comparison
 
     async def keep_books(self) -> None:
-        """Saves the position, then publishes it, then compares the nodes' digests, each second and without an end."""
+        """Saves the position, then publishes it, then compares the nodes' digests, each second."""
         published = None
         while not self.broken:
             await asyncio.sleep(BOOKS_SECONDS)
@@ -116,7 +116,7 @@ class Replica:
                 self.stop(str(fault))
 
     def save_position(self) -> None:
-        """Saves the position. A thread of its own does it while requests go on, since a disk may take its time."""
+        """Saves the position. It runs in its own thread, so that a slow disk doesn't delay requests."""
         with self.saving:
             at = self.position
             if at != self.saved:
@@ -144,7 +144,7 @@ class Replica:
         self.end_local_reads()
 
     def allow_local_reads(self) -> None:
-        """Makes the file that has nginx send reads to avroreg itself, if this node follows the log and hasn't stopped."""
+        """If this node follows the log and hasn't stopped, creates the file that makes nginx send reads directly to avroreg."""
         if self.log.is_followed and not self.broken:
             self.config.local_reads.touch()
 
@@ -162,7 +162,7 @@ class Replica:
         return b"", await self.read(request)
 
     async def write(self, request: Request) -> tuple[bytes, Response]:
-        """Appends a write. It gets its key before it is first appended, so every repeat of it has the same one."""
+        """Appends a write. It gets its key before the first attempt, so every retry has the same key."""
         key = request.keys[0] if request.keys else secrets.token_hex(16).encode()
         if len(request.keys) > 1 or not messages.KEY.fullmatch(key):
             raise Refused(40001, "Malformed request")
@@ -175,7 +175,7 @@ class Replica:
         return key, http1.refusal(refused)
 
     async def read(self, request: Request) -> Response:
-        """Asks this node's avroreg. A fresh read, and one that finds nothing, first waits for the newest entry."""
+        """Reads from this node's avroreg. A fresh read first waits for the newest entry, and so does a read that found nothing."""
         message = messages.message(request.line, messages.NO_KEY, request.body)
         if not request.is_fresh:
             response = await self.registry.ask(message)
@@ -187,12 +187,12 @@ class Replica:
     # --- State
 
     def all_troubles(self) -> dict[str, str]:
-        """What doesn't work now, by part."""
+        """The current errors, by part."""
         return self.troubles if self.log.is_followed else {**self.troubles, "log": "it isn't followed"}
 
     def health(self) -> dict[str, object]:
         troubles, at = self.all_troubles(), self.position
-        # That another node contradicts this one is that node's trouble, until a majority does.
+        # If a minority of the nodes contradicts this one, that is their trouble.
         status = "stopped" if self.broken else "trouble" if troubles.keys() - {"digest"} else "ok"
         return {
             "node": self.config.node,

@@ -16,7 +16,7 @@ logger = logging.getLogger("avroreg-relay")
 
 
 class Server:
-    """Serves connections by a handler, each request after the response to the one before."""
+    """Serves connections. On each connection it answers one request after the other."""
 
     def __init__(self, replica: Replica) -> None:
         self.replica, self.config = replica, replica.config
@@ -30,7 +30,7 @@ class Server:
             self.listeners.append(await asyncio.start_server(serve, *address, limit=LIMIT, backlog=BACKLOG))
 
     async def close(self) -> None:
-        """Accepts nothing more, and lets the requests under way end."""
+        """Accepts no more connections, and waits for the requests in progress."""
         self.is_closing = True
         for listener in self.listeners:
             listener.close()
@@ -69,13 +69,13 @@ class Server:
             began, is_last = time.monotonic(), request.is_last or self.is_closing
             kind = kind_of(request)
             key, response = await self.replica.answer(request)
-            if request.line.startswith(b"HEAD "):  # avroreg answers it with a body, which HTTP doesn't allow
+            if request.line.startswith(b"HEAD "):  # avroreg's response to HEAD has a body, which HTTP doesn't allow
                 response = response._replace(body=b"")
         except Refused as refused:
             response = http1.refusal(refused)
         except Unavailable as fault:
             response = http1.refusal(Refused(50302, f"This node can't answer now: {fault}"))
-        self.replica.metrics.answered(kind, response.status, began)
+        self.replica.metrics.count_response(kind, response.status, began)
         writer.write(http1.write_response(response, key, is_last))
         await writer.drain()
         self.busy.discard(task)

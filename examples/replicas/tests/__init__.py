@@ -5,9 +5,9 @@ from typing import Callable
 
 
 async def eventually(condition: Callable[[], bool]) -> None:
-    """Waits until a condition holds, on however busy a machine."""
+    """Waits until a condition is true, at most 30 seconds, since the machine may be busy."""
     until = time.monotonic() + 30
     while not condition():
         if time.monotonic() > until:
-            raise AssertionError("it doesn't hold after thirty seconds")
+            raise AssertionError("it isn't true after 30 seconds")
         await asyncio.sleep(0.005)

@@ -1,4 +1,4 @@
-"""Batches: what goes together, what is repeated, what is given up."""
+"""Batches: which writes they have, when an append is repeated, and when it ends."""
 import asyncio
 import unittest
 
@@ -100,5 +100,5 @@ class Appending(unittest.IsolatedAsyncioTestCase):
             await self.appender.response_to(b"w")
         self.assertEqual(found.exception.code, 50304)
         self.assertEqual(self.log.batches, {})
-        with self.assertRaises(Unavailable):  # its first attempt may still be under way
+        with self.assertRaises(Unavailable):  # its first attempt may still be in progress
             await self.appender.response_to(b"w")

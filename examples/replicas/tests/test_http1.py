@@ -1,4 +1,4 @@
-"""What the relay reads as a request, and what it refuses."""
+"""Which requests the relay accepts, and which it rejects."""
 import asyncio
 import unittest
 
@@ -6,7 +6,7 @@ from relay import http1
 from relay.faults import Refused, Unavailable
 
 
-async def parsed(text: bytes) -> http1.Request | None:
+async def parse(text: bytes) -> http1.Request | None:
     reader = asyncio.StreamReader(limit=65536)
     reader.feed_data(text)
     reader.feed_eof()
@@ -16,24 +16,24 @@ async def parsed(text: bytes) -> http1.Request | None:
 class Requests(unittest.IsolatedAsyncioTestCase):
     async def test_a_request(self) -> None:
         text = b"PUT /config/s?x=1 HTTP/1.1\r\nhost: h\r\nRegistry-Retry-Key:  k \r\nCONTENT-LENGTH: 2\r\nCache-Control: a, No-Cache\r\n\r\n{}rest"
-        self.assertEqual(await parsed(text), http1.Request(b"PUT /config/s?x=1", (b"k",), b"{}", True, False))
+        self.assertEqual(await parse(text), http1.Request(b"PUT /config/s?x=1", (b"k",), b"{}", True, False))
 
     async def test_the_end_of_the_input(self) -> None:
-        self.assertIsNone(await parsed(b""))
+        self.assertIsNone(await parse(b""))
         for text in (b"GET / HTT", b"GET / HTTP/1.1\r\n", b"GET / HTTP/1.1\r\nContent-Length: 3\r\n\r\nab"):
             with self.assertRaises(ConnectionError):
-                await parsed(text)
+                await parse(text)
 
     async def test_last_requests(self) -> None:
         for head in (b"GET / HTTP/1.0\r\n\r\n", b"GET / HTTP/1.1\r\nConnection: x, Close\r\n\r\n"):
-            found = await parsed(head)
+            found = await parse(head)
             self.assertTrue(found and found.is_last)
-        found = await parsed(b"GET / HTTP/1.1\r\nConnection: closed\r\n\r\n")
+        found = await parse(b"GET / HTTP/1.1\r\nConnection: closed\r\n\r\n")
         self.assertFalse(found and found.is_last)
 
     async def refused(self, head: bytes, code: int) -> None:
         with self.assertRaises(Refused, msg=repr(head)) as found:
-            await parsed(head + b"\r\nGET /second HTTP/1.1\r\n\r\n")
+            await parse(head + b"\r\nGET /second HTTP/1.1\r\n\r\n")
         self.assertEqual(found.exception.code, code, head)
 
     async def test_what_could_be_read_in_two_ways(self) -> None:

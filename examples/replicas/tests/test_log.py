@@ -1,4 +1,4 @@
-"""The log over a stand-in for etcd: order, compaction, trimming, what is appended once."""
+"""The log over a stand-in for etcd: order, compaction, trimming, repeated appends."""
 import asyncio
 import json
 import unittest
@@ -13,7 +13,7 @@ from relay.log import Entry, Log
 
 
 class StandIn(Etcd):
-    """Keys and values in memory, with the requests that the log makes."""
+    """Keys and values in memory, with the requests of the log."""
 
     def __init__(self) -> None:
         super().__init__(Address("127.0.0.1", 1))
@@ -73,7 +73,7 @@ class StandIn(Etcd):
         await asyncio.sleep(1000)
 
 
-NAMES = [b"%c" % it for it in b"zyxwvutsrq"]  # their order isn't the log's
+NAMES = [b"%c" % it for it in b"zyxwvutsrq"]  # their order differs from the log's
 
 
 class Entries(unittest.IsolatedAsyncioTestCase):
@@ -168,7 +168,7 @@ class Writing(unittest.IsolatedAsyncioTestCase):
     async def test_nothing_is_appended_in_a_pause(self) -> None:
         await self.log.append(b"a", b"batch")
         self.etcd.put(log.PAUSE)
-        await self.log.append(b"a", b"batch")  # it was appended before
+        await self.log.append(b"a", b"batch")  # it is in the log already
         with self.assertRaises(Refused):
             await self.log.append(b"b", b"batch")
 

@@ -1,4 +1,4 @@
-"""What is a write, and how batches are joined and split."""
+"""Which requests are writes, and how batches are joined and split."""
 import unittest
 
 from relay import messages

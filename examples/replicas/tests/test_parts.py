@@ -20,11 +20,11 @@ def at(revision: int, seen: str) -> dict[str, object]:
 
 class Digest(unittest.TestCase):
     def test_each_part_counts(self) -> None:
-        wanted = digest.extended("d", 1, b"message", 200, b"body")
+        wanted = digest.extend("d", 1, b"message", 200, b"body")
         others = [("e", 1, b"message", 200, b"body"), ("d", 2, b"message", 200, b"body"), ("d", 1, b"messageb", 200, b"ody"),
                   ("d", 1, b"message", 201, b"body"), ("d", 1, b"message", 200, b"bodi")]  # fmt: skip
-        self.assertEqual(wanted, digest.extended("d", 1, b"message", 200, b"body"))
-        self.assertEqual(len({wanted, *(digest.extended(*other) for other in others)}), 6)
+        self.assertEqual(wanted, digest.extend("d", 1, b"message", 200, b"body"))
+        self.assertEqual(len({wanted, *(digest.extend(*other) for other in others)}), 6)
 
     def test_who_contradicts(self) -> None:
         history = digest.History()
@@ -73,7 +73,7 @@ class Configuration(unittest.TestCase):
             path.write_text(text)
             return config.load(path)
 
-    def test_the_file_beside(self) -> None:
+    def test_the_repository_file(self) -> None:
         found = config.load(RELAY_TOML)
         self.assertEqual((found.node, found.listen.port, found.services.stop_relay[0]), ("n1", 8080, "systemctl"))
 
@@ -89,7 +89,7 @@ class Configuration(unittest.TestCase):
 class MetricsText(unittest.TestCase):
     def test_text(self) -> None:
         metrics = Metrics()
-        metrics.answered("write", 200, 0.0)
+        metrics.count_response("write", 200, 0.0)
         text = metrics.text({"revision": 7}, {"etcd": "away"})
         for line in ("avroreg_relay_revision 7", 'avroreg_relay_trouble{part="etcd"} 1', 'avroreg_relay_seconds_count{kind="write"} 1',
                      'avroreg_relay_responses_total{kind="write",status="200"} 1', "# TYPE avroreg_relay_seconds histogram"):  # fmt: skip
@@ -113,20 +113,20 @@ class Barriers(unittest.IsolatedAsyncioTestCase):
         barrier, self.newest = Barrier(self.ask, 5), 7
         waiting = asyncio.create_task(barrier.wait(30))
         await eventually(lambda: bool(barrier.waiting))
-        barrier.reached(6)
+        barrier.set_applied(6)
         later = asyncio.create_task(barrier.wait(30))
         await eventually(lambda: len(barrier.waiting) == 2)
         await asyncio.sleep(0)
         self.assertFalse(waiting.done())
         self.assertFalse(later.done())
-        barrier.reached(7)
+        barrier.set_applied(7)
         await asyncio.gather(waiting, later)
 
     async def test_reads_share_a_query_that_begins_after_each(self) -> None:
         barrier = Barrier(self.ask, 5)
         first = asyncio.create_task(barrier.wait(30))
         await eventually(lambda: self.queries == 1)
-        self.newest = 9  # acknowledged after the first query began: the second one has to see it
+        self.newest = 9  # acknowledged after the first query began: the second query must return it
         later = [asyncio.create_task(barrier.wait(1)) for _ in range(10)]
         await first
         found = await asyncio.gather(*later, return_exceptions=True)

@@ -1,4 +1,4 @@
-"""The relay and a stand-in for avroreg: what is repeated, and that no write passes one without a response."""
+"""The relay with a stand-in for avroreg: which messages it repeats, and that no write overtakes one without a response."""
 import asyncio
 import pathlib
 import tempfile
@@ -21,7 +21,7 @@ RELAY_TOML = pathlib.Path(__file__).parent.parent / "relay.toml"
 
 
 class StandIn:
-    """An avroreg that keeps the lines of the messages it got, and misbehaves as `moods` says, a word a message."""
+    """A stand-in for avroreg. It keeps the lines of its messages, and misbehaves by one word of `moods` for each message."""
 
     def __init__(self) -> None:
         self.got: list[bytes] = []
@@ -124,10 +124,10 @@ class Asking(unittest.IsolatedAsyncioTestCase):
 
 
 class StandInLog(Log):
-    """A log of entries that a test puts there."""
+    """A log with the entries of a test."""
 
     def __init__(self, entries: list[Entry], newest: int = 0) -> None:
-        self.all, self.last, self.asked = entries, newest, 0
+        self.all, self.last, self.queries = entries, newest, 0
         self.is_followed = True
         self.published: list[tuple[int, int]] = []
         self.others: dict[str, dict[str, object]] = {}
@@ -151,7 +151,7 @@ class StandInLog(Log):
         return self.start
 
     async def newest(self) -> int:
-        self.asked += 1
+        self.queries += 1
         return self.last
 
     async def publish(self, node: str, revision: int, seen: str) -> None:
@@ -163,7 +163,7 @@ class StandInLog(Log):
 
 
 def entries(*sizes: int) -> list[Entry]:
-    """Entries of so many messages each, at the revisions 10, 20 ..: message N is write N."""
+    """Entries with these numbers of messages, at the revisions 10, 20 ..: message N is write N."""
     found, number = [], 0
     for at, size in enumerate(sizes):
         found.append(Entry(10 * at + 10, b"%d" % at, b"".join(write(it) for it in range(number, number + size))))
@@ -212,7 +212,7 @@ class Applying(unittest.IsolatedAsyncioTestCase):
         for revision, numbers, first in ((10, (0, 1), 0), (20, (2, 3, 4), 3)):
             for at, number in enumerate(numbers):
                 body = b"1" if number == 0 else b"%d" % (first + at + (4 if revision == 10 else 3))
-                seen = digest.extended(seen, revision, write(number), 200, body)
+                seen = digest.extend(seen, revision, write(number), 200, body)
         self.assertEqual(replica.position, Position("c", 20, seen))
 
     async def test_it_goes_on_from_its_position(self) -> None:
@@ -280,8 +280,8 @@ class Applying(unittest.IsolatedAsyncioTestCase):
         self.assertEqual(replica.health()["status"], "stopped")
 
     async def test_when_nginx_may_read_from_avroreg(self) -> None:
-        """Once the node follows the log and no majority contradicts it, until it stops or ends."""
-        self.local_reads.touch()  # a relay that was killed has left it
+        """nginx may read from avroreg after the node follows the log without a contradicting majority, until it stops or ends."""
+        self.local_reads.touch()  # left by a killed relay
         log = StandInLog(entries(1))
         log.is_followed = False
         replica = self.replica(log)
@@ -292,7 +292,7 @@ class Applying(unittest.IsolatedAsyncioTestCase):
         await eventually(self.local_reads.exists)
         replica.stop("it is to be rebuilt")
         self.assertFalse(self.local_reads.exists())
-        replica.allow_local_reads()  # a comparison that was under way
+        replica.allow_local_reads()  # a comparison that was in progress
         self.assertFalse(self.local_reads.exists())
 
     async def test_a_relay_that_ends_leaves_no_file(self) -> None:
@@ -308,12 +308,12 @@ class Applying(unittest.IsolatedAsyncioTestCase):
         replica = self.replica(log)
         read = Request(b"GET /schemas/ids/1", (), b"", False, False)
         self.assertEqual((await replica.answer(read))[1].status, 200)
-        self.assertEqual(log.asked, 0)
+        self.assertEqual(log.queries, 0)
         self.avroreg.moods = ["missing", "answer"]
         self.assertEqual((await replica.answer(read))[1].status, 200)
-        self.assertEqual(log.asked, 1)
+        self.assertEqual(log.queries, 1)
         self.assertEqual((await replica.answer(read._replace(is_fresh=True)))[1].status, 200)
-        self.assertEqual(log.asked, 2)
+        self.assertEqual(log.queries, 2)
         log.last = 10  # an entry that this node hasn't applied
         self.avroreg.moods = ["missing"]
         with self.assertRaises(Unavailable):

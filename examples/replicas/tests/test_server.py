@@ -50,7 +50,7 @@ class Serving(unittest.IsolatedAsyncioTestCase):
         await self.server.close()
 
     async def responses(self, text: bytes) -> bytes:
-        """All that comes until the server closes the connection. The client's side stays open."""
+        """All bytes until the server closes the connection. The client's side stays open."""
         reader, writer = await asyncio.open_connection(*self.address)
         writer.write(text)
         found = await asyncio.wait_for(reader.read(), 30)

@@ -1,4 +1,4 @@
-"""What the trial compares with: that it sees what it has to see."""
+"""The checks of the trial: they detect the errors that they must detect."""
 import unittest
 
 from relay import messages

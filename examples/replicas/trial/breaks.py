@@ -1,8 +1,8 @@
 #!/usr/bin/env python3
-"""Copies the relay and nginx.conf with one break, which a script has to detect: trial.sh the breaks of the log, odd.sh those of
-requests, operations.sh those of reads through nginx.
+"""Copies the relay and nginx.conf with one break, which a script must detect. trial.sh detects breaks of the log, odd.sh those
+of requests, and operations.sh those of reads through nginx.
 
-    breaks.py trial|odd|clients             prints the name of each break and what the script has to report, a regular expression
+    breaks.py trial|odd|clients             prints the name of each break, and a regular expression for the script's report
     breaks.py trial|odd|clients NAME FOLDER copies both with that break into a new folder
 """
 import pathlib
@@ -14,7 +14,7 @@ HERE = pathlib.Path(__file__).resolve().parent.parent
 
 
 class Edit(NamedTuple):
-    """One text of one file of the relay, or of nginx.conf, and what stands there instead."""
+    """A text in a file of the relay or in nginx.conf, and its replacement."""
 
     file: str
     text: str
@@ -22,7 +22,7 @@ class Edit(NamedTuple):
 
 
 class Break(NamedTuple):
-    """A script that fails for another reason than the report hasn't detected the break."""
+    """The edits, and the report of a script that detects them. A script that fails with another report hasn't detected them."""
 
     report: str
     edits: tuple[Edit, ...]
@@ -47,7 +47,7 @@ APPLY_BEFORE_APPEND = Edit(
     f"            await self.appender.response_to({REQUEST})\n"
     "            return key, response\n",
 )
-# A client gets its response once the write is in the log, before avroreg has answered it.
+# A client gets a response when the write is in the log, before avroreg's response.
 ANSWER_BEFORE_APPLY = Edit(
     "appender.py",
     "                break\n            except Unavailable:\n                is_unsure",
@@ -67,13 +67,13 @@ TRIAL = {
     "answer-before-apply": Break("responses that the log doesn't give: [1-9]", (ANSWER_BEFORE_APPLY,)),
     "trust-an-old-position": Break("a node that needs entries that were trimmed stops", (TRUST_AN_OLD_POSITION,)),
     "drop-the-digest": Break("a node whose avroreg was written to past the log stops", (DROP_THE_DIGEST,)),
-    # The nodes themselves don't notice these two, so the trial's comparison has to.
+    # The nodes themselves don't detect these two, so the trial's comparison must.
     "skip-an-entry-unnoticed": Break(TABLES, (SKIP_AN_ENTRY, DROP_THE_DIGEST)),
     "apply-before-append-unnoticed": Break(TABLES, (APPLY_BEFORE_APPEND, DROP_THE_DIGEST)),
 }
 
 ODD = {
-    # The relay doesn't take a change of a mode for a write, and sends avroreg a key with it.
+    # The relay doesn't treat a change of a mode as a write, and sends it to avroreg with a valid key.
     "forward-a-write": Break(
         "a write is past the log: PUT /mode/s1",
         (Edit("messages.py", "(config|mode)(/", "(config)(/"), Edit("messages.py", 'NO_KEY = b"?"', 'NO_KEY = b"no-key"')),
@@ -83,12 +83,12 @@ ODD = {
         "what could be read in two ways",
         (Edit("http1.py", '    if b"transfer-encoding" in fields:\n', '    if b"transfer-encodings" in fields:\n'),),
     ),
-    # Of two lengths the relay takes the first.
+    # If there are two lengths, the relay uses the first one.
     "take-the-first-length": Break(
         "what could be read in two ways",
         (Edit("http1.py", "    if len(lengths) > 1 or not re.", "    if not re."),),
     ),
-    # After a head that it can't read, the relay goes on with what follows.
+    # After a malformed head, the relay reads on.
     "read-on": Break(
         "what could be read in two ways",
         (Edit("server.py", 'time.monotonic(), "faulty", b"", True\n', 'time.monotonic(), "faulty", b"", False\n'),),
@@ -101,12 +101,12 @@ ANY_GET = Edit("nginx.conf", '"$request_method:$http_cache_control"', '"$request
 ANY_METHOD = Edit("nginx.conf", '    default 1;\n    "GET:"  0;', "    default 0;")
 
 CLIENTS = {
-    # nginx passes on the 404 of its own avroreg.
+    # nginx forwards the 404 of its own avroreg.
     "answer-404-alone": Break(
         "Wrong..and a read of what n1 doesn.t know",
         (Edit("nginx.conf", "        error_page 404 ", "        error_page 418 "),),
     ),
-    # nginx reads from its own avroreg whatever Cache-Control says.
+    # nginx ignores Cache-Control, and reads from its own avroreg.
     "read-fresh-locally": Break("Wrong..a fresh read is not", (ANY_GET,)),
     # nginx reads from its own avroreg though the relay has stopped.
     "read-from-a-stopped-node": Break(OTHERS, (Edit("nginx.conf", "if (!-f ", "if (-d "),)),
@@ -115,7 +115,7 @@ CLIENTS = {
         OTHERS,
         (Edit("replica.py", "        self.broken = reason\n        self.end_local_reads()\n", "        self.broken = reason\n"),),
     ),
-    # nginx sends writes to its own avroreg. With the key that nginx gives them, avroreg refuses them.
+    # nginx sends writes to its own avroreg, which rejects them because of the key that nginx sets.
     "send-writes-past-the-log": Break("Wrong..a write at n1 is answered Found.status=400", (ANY_METHOD,)),
     # The relay keeps its connection, so avroreg doesn't serve nginx for a quarter of a second.
     "keep-the-connection": Break(

@@ -1,4 +1,4 @@
-"""The trial's clients: what they mean to write, what they were answered, and what they read."""
+"""The trial's clients: their writes, the responses, and their reads."""
 import collections
 import dataclasses
 import http.client
@@ -19,7 +19,7 @@ KINDS = {"register": 52, "version": 12, "subject": 5, "level": 12, "mode": 4, "i
 
 
 def ask(node: Node, method: str, target: str, body: bytes = b"", key: str | None = None, seconds: float = 10, is_fresh: bool = False) -> Any:
-    """Status, key and body of a response."""
+    """Sends a request. Returns the status, the key and the body of the response."""
     connection = http.client.HTTPConnection(node.host, node.ports["relay"], timeout=seconds)
     try:
         fields = {"Connection": "close", **({KEY: key} if key else {}), **({"Cache-Control": "no-cache"} if is_fresh else {})}
@@ -32,7 +32,7 @@ def ask(node: Node, method: str, target: str, body: bytes = b"", key: str | None
 
 @dataclasses.dataclass(eq=False)
 class Write:
-    """A write that a client means once, with all responses that it got."""
+    """A write of a client, which must be applied once, with all its responses."""
 
     method: str
     target: str
@@ -50,7 +50,7 @@ class Write:
 
 
 class Client(threading.Thread):
-    """Writes, mostly in subjects of its own, retries what got no response, and reads after its writes."""
+    """Writes, mostly in its own subjects. Retries a write without a response, and reads after its writes."""
 
     def __init__(self, nodes: list[Node], number: int, rate: float, seed: int) -> None:
         super().__init__(daemon=True)
@@ -62,7 +62,7 @@ class Client(threading.Thread):
         self.wrong: list[str] = []
         self.seconds: list[float] = []
         self.counts: collections.Counter[str] = collections.Counter()
-        self.frozen: str | None = None
+        self.read_only_path: str | None = None
 
     def run(self) -> None:
         try:
@@ -71,13 +71,13 @@ class Client(threading.Thread):
                 if self.random.random() < 0.02:
                     self.race()
                 write = self.next_write()
-                self.carry_out(write)
+                self.send_until_answered(write)
                 if write.responses:
                     self.read_after(write)
                     if self.random.random() < 0.1:
-                        self.once(self.random.choice(self.writes), self.random.choice(self.nodes), 6)
+                        self.send_once(self.random.choice(self.writes), self.random.choice(self.nodes), 6)
                 self.stop.wait(max(0, due - time.monotonic()))
-        except Exception as fault:  # whatever stops a client is a fault of the trial
+        except Exception as fault:  # any exception of a client is a fault of the trial
             self.wrong.append(f"client {self.number} stopped: {fault!r}")
 
     def new_key(self) -> str:
@@ -99,8 +99,8 @@ class Client(threading.Thread):
         is_own = pick.random() < 0.6
         subject = f"own-{self.number}-{self.count // 60}-{pick.randrange(3)}" if is_own else f"shared-{pick.randrange(6)}"
         maybe = key if is_own or pick.random() < 0.5 else None
-        if self.frozen:
-            target, self.frozen = self.frozen, None
+        if self.read_only_path:
+            target, self.read_only_path = self.read_only_path, None
             return Write("PUT", target, b'{"mode":"READWRITE"}', key)
         kind = pick.choices(list(KINDS), list(KINDS.values()))[0]
         if kind == "register":
@@ -111,8 +111,8 @@ class Client(threading.Thread):
         if kind == "subject":
             return Write("DELETE", f"/subjects/{subject}" + pick.choice(("", "?permanent=true")), b"", maybe)
         if kind == "mode":
-            self.frozen = f"/mode/{subject}"
-            return Write("PUT", self.frozen, b'{"mode":"READONLY"}', maybe)
+            self.read_only_path = f"/mode/{subject}"
+            return Write("PUT", self.read_only_path, b'{"mode":"READONLY"}', maybe)
         if kind == "invalid":
             return Write("POST", f"/subjects/{subject}/versions", b'{"schema":"nonsense"}', maybe)
         if kind == "malformed":
@@ -121,13 +121,13 @@ class Client(threading.Thread):
             used = pick.choice(self.writes).key
             return Write("PUT", f"/config/reuse-{self.number}-{self.count}", b'{"compatibility":"FULL"}', used)
         if kind == "global" and self.number == 0 and pick.random() < 0.3:
-            self.frozen = "/mode"
+            self.read_only_path = "/mode"
             return Write("PUT", "/mode", b'{"mode":"READONLY"}', key)
         level = "MOST" if kind == "no level" else pick.choice(LEVELS)
         return Write("PUT", "/config" if kind == "global" else f"/config/{subject}", compact({"compatibility": level}).encode(), maybe)
 
-    def once(self, write: Write, node: Node, seconds: float) -> bool:
-        """Sends a write once. Returns whether it got a response that says what became of it."""
+    def send_once(self, write: Write, node: Node, seconds: float) -> bool:
+        """Sends a write once. Returns whether its response is final."""
         write.tries += 1
         began = time.monotonic()
         try:
@@ -143,15 +143,15 @@ class Client(threading.Thread):
         write.responses.append((status, body))
         return True
 
-    def carry_out(self, write: Write) -> None:
-        """Sends a write to node after node until it is answered; one without a key only once."""
+    def send_until_answered(self, write: Write) -> None:
+        """Sends a write to node after node until it gets a response. A write without a key is sent only once."""
         nodes = self.random.sample(self.nodes, len(self.nodes))
         if write.key and self.random.random() < 0.07:
-            self.at_once([(write, it) for it in nodes[:2]])
+            self.send_all_at_once([(write, it) for it in nodes[:2]])
             self.counts["sent to two nodes at once"] += 1
         while not write.responses and (write.tries == 0 or write.key):
             write.node = nodes[write.tries % len(nodes)]
-            if not self.once(write, write.node, self.random.uniform(1, 6)):
+            if not self.send_once(write, write.node, self.random.uniform(1, 6)):
                 self.counts["retried or given up"] += 1
                 if self.give_up.wait(0.1):
                     break
@@ -164,29 +164,29 @@ class Client(threading.Thread):
         else:
             self.unanswered.append(write)
 
-    def at_once(self, pairs: list[tuple[Write, Node]]) -> None:
-        threads = [threading.Thread(target=self.once, args=(write, node, 6)) for write, node in pairs]
+    def send_all_at_once(self, pairs: list[tuple[Write, Node]]) -> None:
+        threads = [threading.Thread(target=self.send_once, args=(write, node, 6)) for write, node in pairs]
         for it in threads:
             it.start()
         for it in threads:
             it.join()
 
     def race(self) -> None:
-        """Two requests under one key at two nodes at once: one is carried out, the other gets 42290."""
+        """Sends two requests with one key to two nodes at once: one must be executed, the other must get 42290."""
         self.count += 1
         pair = [Write("PUT", f"/config/race-{self.number}", compact({"compatibility": it}).encode(), self.new_key()) for it in ("FULL", "NONE")]
         nodes = self.random.sample(self.nodes, 2)
-        self.at_once(list(zip(pair, nodes)))
+        self.send_all_at_once(list(zip(pair, nodes)))
         for write in pair:
             while not write.responses and not self.give_up.is_set():
-                self.once(write, self.random.choice(self.nodes), 6)
+                self.send_once(write, self.random.choice(self.nodes), 6)
             self.keep(write)
         if all(it.responses for it in pair) and sorted(it.responses[0][0] for it in pair) not in ([200, 422], [422, 422]):
             self.wrong.append(f"a race for a key: {[it.responses for it in pair]}")
         self.counts["races for a key"] += 1
 
     def read_after(self, write: Write) -> None:
-        """A fresh read at another node gives what a read at the answering node gives, in subjects that this client alone writes to."""
+        """Checks that a fresh read at another node equals a read at the node of the write. Only this client writes to the subject."""
         subject = re.search("own-[0-9-]+", write.target)
         if not subject or not write.node or self.random.random() < 0.5:
             return

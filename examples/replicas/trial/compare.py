@@ -1,4 +1,4 @@
-"""What the nodes hold, and what two folds of the log say that they have to hold."""
+"""The contents of the nodes, and the expected contents by two folds of the log."""
 import base64
 import collections
 import json
@@ -43,13 +43,13 @@ Rows = dict[str, list[tuple[Any, ...]]]
 
 
 def dump(node: SpaceNode, upto: int) -> list[tuple[int, bytes]]:
-    """The messages of the log up to a revision, as a node's etcd has them."""
+    """The messages of the log up to a revision, from a node's etcd."""
     lines = node.inside(sys.executable, "-c", DUMP, str(HERE), str(upto), seconds=1800).splitlines()
     return [(revision, base64.b64decode(text)) for revision, text in map(json.loads, lines)]
 
 
 def rows(node: SpaceNode, program: pathlib.Path) -> tuple[Rows, str]:
-    """The rows of a node's tables and the outcome of its audit, from copies; its services are stopped."""
+    """The rows of a node's tables and the verdict of an audit, from copies. The node's services are stopped."""
     with tempfile.TemporaryDirectory() as folder:
         for suffix in ("", "-wal"):
             source = node.database.with_name(node.database.name + suffix)
@@ -65,7 +65,7 @@ def rows(node: SpaceNode, program: pathlib.Path) -> tuple[Rows, str]:
 
 
 def responses_of(output: bytes) -> Iterator[tuple[int, str]]:
-    """Status and body of each response that `avroreg run` wrote."""
+    """The status and the body of each response of `avroreg run`."""
     start = 0
     while start < len(output):
         body = output.index(b"\r\n\r\n", start) + 4
@@ -77,13 +77,13 @@ def responses_of(output: bytes) -> Iterator[tuple[int, str]]:
 
 
 def output_of_run(messages: list[bytes], program: pathlib.Path) -> bytes:
-    """What `avroreg run` answers, with a database in memory: its registry without a file takes long for many versions."""
+    """The output of `avroreg run`, with a file in /dev/shm: without a file it is slow for many versions."""
     with tempfile.TemporaryDirectory(dir="/dev/shm") as folder:
         return subprocess.run([program, "run", "--db", f"{folder}/F"], input=b"".join(messages), capture_output=True).stdout
 
 
 def out_of_order(messages: list[bytes], writes: list[Write]) -> int:
-    """How many writes the log has after one that began when they were acknowledged already."""
+    """How many writes are in the log after a write that began after their acknowledgment."""
     places: dict[bytes, int] = {}
     for at, message in enumerate(messages):
         places.setdefault(message, at)
@@ -100,13 +100,13 @@ class Fold:
     def __init__(self, log: list[tuple[int, bytes]], program: pathlib.Path) -> None:
         self.log, self.machine = log, Machine()
         self.responses: dict[bytes, set[tuple[int, str]]] = collections.defaultdict(set)
-        told = []
+        replies = []
         for _, message in log:
-            told.append(self.machine.answer(message))
-            self.responses[message].add(told[-1])
+            replies.append(self.machine.answer(message))
+            self.responses[message].add(replies[-1])
         found = list(responses_of(output_of_run([message for _, message in log], program)))
         self.differing = [
-            (revision, message, mine, its) for (revision, message), mine, its in zip(log, told, found) if mine != its
+            (revision, message, mine, its) for (revision, message), mine, its in zip(log, replies, found) if mine != its
         ]
         self.is_whole = len(found) == len(log)
 
@@ -114,8 +114,8 @@ class Fold:
         """The acknowledged writes that aren't in the log."""
         return [it for it in writes if it.message() not in self.responses]
 
-    def wrongly_answered(self, writes: list[Write]) -> list[tuple[Write, int, str]]:
-        """The responses that clients got and the log doesn't give."""
+    def wrong_responses(self, writes: list[Write]) -> list[tuple[Write, int, str]]:
+        """The responses to clients that the fold of the log doesn't give."""
         return [
             (write, status, body.decode())
             for write in writes

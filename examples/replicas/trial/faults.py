@@ -1,4 +1,4 @@
-"""The faults that the trial makes, each with its beginning and its end."""
+"""The faults of the trial, each with its beginning and its end."""
 import signal
 import time
 from functools import partial
@@ -11,7 +11,7 @@ Step = Callable[[SpaceNode], None]
 
 
 def fill(node: SpaceNode) -> None:
-    """Takes all room of the node's disk."""
+    """Fills the node's disk."""
     with open(node.disk / "filler", "wb", buffering=0) as stream:
         try:
             while stream.write(bytes(4096)) == 4096:
@@ -21,7 +21,7 @@ def fill(node: SpaceNode) -> None:
 
 
 def empty(node: SpaceNode) -> None:
-    """Makes room again. avroreg answers 50001 until it is started anew, which an operator does."""
+    """Makes room again, and restarts avroreg like an operator, since it returns 50001 until a restart."""
     (node.disk / "filler").unlink()
     node.kill("registry")
     node.run("registry")
@@ -34,7 +34,7 @@ def kill_slowly(node: SpaceNode) -> None:
 
 
 def kill_and_compact(nodes: list[SpaceNode], node: SpaceNode) -> None:
-    """Kills a node, and compacts etcd's history at another one meanwhile, as etcd's own compaction may."""
+    """Kills a node, and then compacts etcd's history at another one, as etcd's own compaction may."""
     node.kill()
     time.sleep(1)
     running = [it for it in nodes if it.process("etcd")]

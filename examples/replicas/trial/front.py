@@ -1,4 +1,4 @@
-"""nginx in front of the nodes of a cluster, by the repository's nginx.conf with the names and ports of this machine."""
+"""nginx in front of the nodes of a cluster. It has the repository's nginx.conf with this machine's names and ports."""
 import http.client
 import os
 import pathlib
@@ -28,7 +28,7 @@ http {{
 
 
 def set_up_users(folder: pathlib.Path) -> pathlib.Path:
-    """A file of one user, as htpasswd writes it."""
+    """Makes a file of one user in htpasswd's format."""
     path = folder / "users"
     if not path.exists():
         hashed = subprocess.run(["openssl", "passwd", "-apr1", USER[1]], capture_output=True, text=True, check=True).stdout.strip()
@@ -37,7 +37,7 @@ def set_up_users(folder: pathlib.Path) -> pathlib.Path:
 
 
 class Nginx:
-    """One nginx, by a configuration for the inside of an http block."""
+    """One nginx. Its configuration is the contents of an http block."""
 
     def __init__(self, folder: pathlib.Path, config: str, port: int) -> None:
         self.folder, self.port = folder, port
@@ -47,7 +47,7 @@ class Nginx:
         self.process = subprocess.Popen(["/usr/sbin/nginx", "-p", str(folder), "-c", "nginx.conf", "-e", "error.log"], stdin=subprocess.DEVNULL)
 
     def wait(self) -> None:
-        """Returns once it listens."""
+        """Waits until it listens."""
         until = time.monotonic() + 30
         while True:
             try:
@@ -86,9 +86,9 @@ def of_node(cluster: Cluster, node: Node) -> Nginx:
     return Nginx(node.folder / "nginx", config, node.ports["https"])
 
 
-def connection(port: int, authority: pathlib.Path, shown: tuple[pathlib.Path, pathlib.Path] | None = None) -> http.client.HTTPSConnection:
-    """A connection by TLS, which trusts this authority alone, and shows this certificate with its key."""
+def connection(port: int, authority: pathlib.Path, certificate: tuple[pathlib.Path, pathlib.Path] | None = None) -> http.client.HTTPSConnection:
+    """A TLS connection that trusts only this authority, and sends this certificate, which has this key."""
     trust = ssl.create_default_context(cafile=str(authority))
-    if shown:
-        trust.load_cert_chain(*map(str, shown))
+    if certificate:
+        trust.load_cert_chain(*map(str, certificate))
     return http.client.HTTPSConnection("127.0.0.1", port, timeout=60, context=trust)

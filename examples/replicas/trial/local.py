@@ -5,7 +5,7 @@
     local.py FOLDER start [NODE [SERVICE]] starts etcd, registry and relay, and returns once they answer
     local.py FOLDER stop|kill [NODE [SERVICE]]
 
-Each process has its id in a file, and is ended by it.
+Each process has a file with its id. Only processes with such a file are killed.
 """
 import http.client
 import json
@@ -28,7 +28,7 @@ PORTS = ("etcd", "peer", "registry", "relay", "admin", "https", "nodes")
 
 
 def free_ports(count: int) -> int:
-    """The first of so many neighbouring ports that no one listens to."""
+    """The first of `count` free ports in a row."""
     for _ in range(100):
         first = random.randrange(20000, 32000 - count)
         try:
@@ -61,7 +61,7 @@ class Node:
         return f"https://{self.peer_host}:{self.ports['peer']}"
 
     def write_config(self) -> None:
-        """The configuration of the repository with this node's names and ports."""
+        """Writes the repository's configuration, with this node's names and ports."""
         self.folder.mkdir(parents=True, exist_ok=True)
         control = [sys.executable, __file__, str(self.cluster.folder)]
         values: dict[str, object] = {
@@ -87,7 +87,7 @@ class Node:
         tls = self.cluster.folder / "tls"
         client = f"http://127.0.0.1:{self.ports['etcd']}"
         members = ",".join(f"{it.name}={it.peer_url}" for it in self.cluster.nodes.values())
-        words = {
+        arguments = {
             "name": self.name, "data-dir": self.folder / "etcd", "logger": "zap", "log-level": "warn", "pre-vote": "true",
             "listen-client-urls": client, "advertise-client-urls": client, "listen-peer-urls": self.peer_url,
             "initial-advertise-peer-urls": self.peer_url, "initial-cluster": members, "initial-cluster-token": "avroreg",
@@ -95,10 +95,10 @@ class Node:
             "peer-trusted-ca-file": tls / "ca.crt", "peer-cert-file": tls / f"{self.name}.crt",
             "peer-key-file": tls / f"{self.name}.key", "quota-backend-bytes": self.cluster.quota,
         }  # fmt: skip
-        return ["etcd", *(f"--{name}={value}" for name, value in words.items())]
+        return ["etcd", *(f"--{name}={value}" for name, value in arguments.items())]
 
     def process(self, service: str) -> int | None:
-        """The id of the service's process, if it runs. A killed process has its ports until the last of its threads has ended."""
+        """The id of the service's process, if it runs. A killed process keeps its ports until its last thread has ended."""
         try:
             number = int((self.folder / f"{service}.pid").read_text())
             state = pathlib.Path(f"/proc/{number}/stat").read_text().rpartition(")")[2].split()[0]
@@ -130,7 +130,7 @@ class Node:
         try:
             with urllib.request.urlopen(f"http://127.0.0.1:{port}{target}", timeout=5) as found:
                 return service != "etcd" or json.load(found)["health"] == "true"
-        except urllib.error.HTTPError:  # a relay that has stopped runs, and answers 503
+        except urllib.error.HTTPError:  # a stopped relay still runs, and returns 503
             return service == "relay" and self.health().get("status") == "stopped"
         except OSError:
             return False
@@ -153,7 +153,7 @@ class Cluster:
             self.folder.mkdir(parents=True, exist_ok=True)
             port_file.write_text(str(free_ports(30)))
         self.first_port = int(port_file.read_text())
-        self.quota = 0  # of each etcd, in bytes; 0 is etcd's own, 2 GB
+        self.quota = 0  # of each etcd, in bytes; 0 means etcd's default of 2 GB
         self.nodes = {name: Node(self, name) for name in NODES}
 
     def new(self, program: pathlib.Path) -> None:
@@ -163,24 +163,24 @@ class Cluster:
         hosts = [f"{name}={node.peer_host}" for name, node in self.nodes.items()]
         subprocess.run([str(HERE / "certificates.sh"), str(self.folder / "tls"), *hosts], check=True)
 
-    def chosen(self, words: list[str]) -> list[tuple[Node, str]]:
-        names, services = words[:1] or NODES, words[1:2] or SERVICES
+    def selected(self, arguments: list[str]) -> list[tuple[Node, str]]:
+        names, services = arguments[:1] or NODES, arguments[1:2] or SERVICES
         return [(self.nodes[name], service) for service in services for name in names]
 
-    def start(self, *words: str, seconds: float = 60) -> None:
-        chosen = self.chosen(list(words))
-        for node, service in chosen:
+    def start(self, *arguments: str, seconds: float = 60) -> None:
+        selected = self.selected(list(arguments))
+        for node, service in selected:
             node.start(service)
         until = time.monotonic() + seconds
-        for node, service in chosen:
+        for node, service in selected:
             while not node.is_up(service):
                 if time.monotonic() > until or not node.process(service):
                     tail = (node.folder / f"{service}.log").read_text().splitlines()[-5:]
                     raise SystemExit(f"local.py: {service} of {node.name} doesn't answer: " + " | ".join(tail))
                 time.sleep(0.05)
 
-    def end(self, number: signal.Signals, *words: str) -> None:
-        for node, service in reversed(self.chosen(list(words))):
+    def end(self, number: signal.Signals, *arguments: str) -> None:
+        for node, service in reversed(self.selected(list(arguments))):
             node.end(service, number)
 
 
@@ -191,7 +191,7 @@ def main() -> None:
     elif verb == "start":
         cluster.start(*sys.argv[3:])
     else:
-        # avroreg has no clean-up to do: every stop of it is a kill.
+        # avroreg needs no clean-up: every stop is a kill.
         cluster.end({"stop": signal.SIGTERM, "kill": signal.SIGKILL}[verb], *sys.argv[3:])
 
 

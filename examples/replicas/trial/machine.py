@@ -1,5 +1,5 @@
-"""A second registry in Python, written from docs/avro-registry-profile.md alone, for the schemas that the trial makes: records of
-fields of type long, with or without the default 0. It folds over the log's messages and gives each response and all tables.
+"""A second registry in Python, written only from docs/avro-registry-profile.md. It supports the trial's schemas: records of fields
+of type long, with or without the default 0. It executes the log's messages, and returns each response and all tables.
 """
 import json
 import re
@@ -38,7 +38,7 @@ def done(value: object) -> Reply:
 
 
 def schema_of(text: str) -> tuple[str, dict[str, bool]] | None:
-    """The identity text, and for each field whether it has a default; none if the text is no schema."""
+    """The identity text, and for each field whether it has a default. None if the text is no schema."""
     try:
         found = json.loads(text)
         if found["type"] != "record" or any(it["type"] != "long" for it in found["fields"]):
@@ -53,7 +53,7 @@ def reads(reader: dict[str, bool], writer: dict[str, bool]) -> bool:
 
 
 class Command:
-    """A write as the profile understands it."""
+    """A write, parsed by the rules of the profile."""
 
     def __init__(self, message: bytes) -> None:
         head, _, body = message.partition(b"\r\n\r\n")
@@ -72,7 +72,7 @@ class Command:
         self.value = self.member(body) if method != "DELETE" else ""
 
     def member(self, body: bytes) -> str | None:
-        """The string that a body has to have; none if the body is malformed."""
+        """The required string of a body, or None if the body is malformed."""
         try:
             value = json.loads(body)[MEMBERS[self.kind]]
         except (ValueError, KeyError, TypeError):
@@ -80,7 +80,7 @@ class Command:
         return value if isinstance(value, str) else None
 
     def text(self) -> str:
-        """The command text, under which a reply is kept."""
+        """The command text of a kept reply."""
         words: list[object]
         if self.method == "PUT" and self.subject is None:
             words = ["set-global" if self.kind == "config" else "set-global-mode", self.value]
@@ -107,7 +107,7 @@ class Machine:
         self.evidence: dict[tuple[str, int], tuple[str, list[int]]] = {}
 
     def answer(self, message: bytes) -> Reply:
-        """The status and the body that a message of the log gets."""
+        """Executes a message of the log. Returns the status and the body of its response."""
         command = Command(message)
         if command.value is None:
             return fault(40001)
@@ -144,7 +144,7 @@ class Machine:
         return done({MEMBERS[kind]: value})
 
     def live(self, subject: str) -> list[tuple[int, int]]:
-        """Number and id of the live versions."""
+        """The numbers and ids of the live versions."""
         return [(number, row[0]) for number, row in sorted(self.rows.get(subject, {}).items()) if not row[1]]
 
     def admits(self, level: str, named: list[int], fields: dict[str, bool]) -> bool:
@@ -220,7 +220,7 @@ class Machine:
         return done(gone)
 
     def tables(self) -> dict[str, list[tuple[Any, ...]]]:
-        """The rows of each table, as the profile has them."""
+        """The rows of each table of the profile."""
         versions = [(s, v, row[0], int(row[1])) for s, rows in self.rows.items() for v, row in rows.items()]
         return {
             "texts": sorted((number, text) for text, number in self.ids.items()),

@@ -1,12 +1,12 @@
 #!/usr/bin/env python3
-"""Odd requests to one relay of three: unknown methods, odd targets, keys that are none, heads that two parsers read in two ways.
+"""Odd requests to one relay of three: unknown methods, odd targets, invalid keys, heads that two parsers read differently.
 
     odd.py PROGRAM [--count N] [--seed N] [--relay FILE]
 
-n1 gets all of them, and n2 and n3 only what is in the log. So n1 shows the same as they do exactly if no request was applied
-past the log. Requests whose end two readers could see at different places hide a write; none may come through. And avroreg
-itself has to refuse each kind of write with the key that the relay sends with what it doesn't append. Ends with status 0 if
-all that holds.
+n1 gets all of them, and n2 and n3 only the entries of the log. So the nodes are equal exactly if no request was applied past
+the log. If two parsers could find different ends of a request, it hides a write, which must not be executed. avroreg itself
+must reject each kind of write with the key that the relay sends with requests outside the log. The status is 0 if all checks
+succeed.
 """
 import argparse
 import collections
@@ -41,7 +41,7 @@ CLEAR = (
     "Content-Length: {length}", "Content-Length: 0", "Content-Length: 0{length}", "content-length:{length}\r\nExpect: 100-continue",
     "Connection: close, Content-Length",
 )  # fmt: skip
-UNCLEAR = (
+AMBIGUOUS = (
     "Content-Length: {length}\r\nContent-Length: 0", "Content-Length: 0\r\nContent-Length: {length}", "Content-Length: 0\r\nContent-Length: 0",
     "Content-Length: 0, {length}", "Content-Length: {length}, {length}", "Content-Length: +{length}", "Content-Length: -0", "Content-Length: 0x0",
     "Content-Length: {length} 0", "Content-Length:", "Content-Length: 00000000000000000000", "Content-Length : {length}", " Content-Length: {length}",
@@ -52,7 +52,7 @@ UNCLEAR = (
     "Content-Length: 0\r\nTransfer-Encoding: chunked", "Transfer-Encoding: chunked\r\nContent-Length: {length}", "Transfer-Encoding : chunked",
     " Transfer-Encoding: chunked", "X: y\r\n\tTransfer-Encoding: chunked", "Transfer-Encoding\x0b: chunked",
 )  # fmt: skip
-# Each kind of write. In this order each of them changes something, and the last one makes the registry writable again.
+# Each kind of write. In this order each one changes something, and the last one makes the registry writable again.
 WRITES = (
     ("PUT", "/config", b'{"compatibility":"FULL"}'), ("PUT", "/config/s1", b'{"compatibility":"FULL_TRANSITIVE"}'),
     ("POST", "/subjects/s1/versions", schema(7777)), ("DELETE", "/subjects/s1/versions/1", b""),
@@ -63,12 +63,12 @@ WRITES = (
 
 
 def hidden(subject: str, number: int) -> str:
-    """A write that hides in the body of another request."""
+    """A write to hide in the body of another request."""
     return HIDDEN.replace("SUBJECT", subject).replace("NUMBER", str(number))
 
 
 def request(pick: random.Random, number: int) -> bytes:
-    """One request, of which each part may be odd. Its body is a write of its own, or hides one."""
+    """A request whose parts may be odd. Its body is that of a write, or hides a write."""
 
     def part(usual: tuple[str, ...], odd: tuple[str, ...]) -> str:
         return pick.choice(usual if pick.random() < 0.7 else odd)
@@ -80,13 +80,13 @@ def request(pick: random.Random, number: int) -> bytes:
         (write, "0\r\n\r\n" + write, f"{len(write):x}\r\n{write}\r\n0\r\n\r\n", ""),
     )
     method, target, version = part(METHODS[:4], METHODS), part(TARGETS[:8], TARGETS), part(("HTTP/1.1",), ("HTTP/1.0", "HTTP/2", "http/1.1", ""))
-    key, framing = part((f"r{number}",), KEYS), part(CLEAR[:1], CLEAR + UNCLEAR).replace("{length}", str(len(body)))
+    key, framing = part((f"r{number}",), KEYS), part(CLEAR[:1], CLEAR + AMBIGUOUS).replace("{length}", str(len(body)))
     lines = [f"{method} {target} {version}", "Host: h", *([f"Registry-Retry-Key: {key}"] if key else []), framing]
     return ("\r\n".join(lines) + "\r\n\r\n" + body).encode("latin-1")
 
 
 def responses_to(node: Node, message: bytes) -> bytes:
-    """All that the relay answers to these bytes, after which the client sends nothing more."""
+    """Sends these bytes and closes the client's side. Returns all that the relay sends."""
     with socket.create_connection((node.host, node.ports["relay"]), timeout=60) as connection:
         connection.sendall(message)
         connection.shutdown(socket.SHUT_WR)
@@ -104,13 +104,13 @@ def statuses_of(responses: bytes) -> list[int]:
 
 
 class Odd(LocalTrial):
-    def unclear(self) -> None:
-        """Requests that two readers could read in two ways get one refusal, and what hides in them isn't a request."""
+    def check_ambiguous(self) -> None:
+        """Checks that each request that two parsers could read differently gets one error, and that its hidden write isn't executed."""
         heads = (
             "POST /subjects/s1/versions HTTP/1.1", "GET /config HTTP/1.1", "PUT /config HTTP/1.0", "PUT /config HTTP/1.1\r\nConnection: keep-alive",
         )  # fmt: skip
         count = 0
-        for head, framing in itertools.product(heads, UNCLEAR):
+        for head, framing in itertools.product(heads, AMBIGUOUS):
             count += 1
             write = hidden("hidden", count)
             for body in (write, "0\r\n\r\n" + write, f"{len(write):x}\r\n{write}\r\n0\r\n\r\n"):
@@ -121,8 +121,8 @@ class Odd(LocalTrial):
         status, _ = ask(self.nodes[0], "GET", "/config/hidden", None, **{"Cache-Control": "no-cache"})
         check(status == 404, f"{3 * count} requests that could be read in two ways are refused, and none hides a write")
 
-    def without_a_key(self) -> None:
-        """avroreg refuses each kind of write with the key `?`, so the relay can't have it apply one past the log."""
+    def check_writes_without_key(self) -> None:
+        """Checks that avroreg rejects each kind of write with the key `?`. So the relay can't apply a write past the log."""
         third = self.nodes[2]
         for method, target, body in WRITES:
             connection = http.client.HTTPConnection("127.0.0.1", third.ports["registry"], timeout=60)
@@ -137,8 +137,8 @@ class Odd(LocalTrial):
         found = re.search("log: ([0-9]+) entries", self.command(self.nodes[0], "status"))
         return int(found[1]) if found else -1
 
-    def with_a_key(self) -> None:
-        """The relay appends each kind of write, before avroreg gets it."""
+    def check_writes_with_key(self) -> None:
+        """Checks that the relay appends each kind of write before it sends it to avroreg."""
         before = self.entries()
         for at, (method, target, body) in enumerate(WRITES):
             status, response = ask(self.nodes[0], method, target, body, **{"Registry-Retry-Key": f"w{at}"})
@@ -148,7 +148,7 @@ class Odd(LocalTrial):
                 raise Wrong(f"a write is past the log: {method} {target}")
         check(True, f"the log has {len(WRITES)} writes of all kinds")
 
-    def random_requests(self, count: int, pick: random.Random) -> None:
+    def send_random_requests(self, count: int, pick: random.Random) -> None:
         counts: collections.Counter[int] = collections.Counter()
         for number in range(count):
             counts.update(statuses_of(responses_to(self.nodes[0], request(pick, number))))
@@ -157,13 +157,13 @@ class Odd(LocalTrial):
     def run(self, count: int, pick: random.Random) -> None:
         self.set_up()
         self.register(self.nodes[0], 3)
-        self.unclear()
-        self.without_a_key()
-        self.with_a_key()
-        self.random_requests(count, pick)
-        self.meet()
+        self.check_ambiguous()
+        self.check_writes_without_key()
+        self.check_writes_with_key()
+        self.send_random_requests(count, pick)
+        self.wait_until_equal()
         check(self.register(self.nodes[0], 1), "n1 goes on")
-        self.meet()
+        self.wait_until_equal()
 
 
 def main() -> None:
@@ -171,7 +171,7 @@ def main() -> None:
     parser.add_argument("program", type=pathlib.Path)
     parser.add_argument("--count", type=int, default=2000, help="how many random requests (2000)")
     parser.add_argument("--seed", type=int, default=1)
-    parser.add_argument("--relay", type=pathlib.Path, default=HERE / "avroreg-relay", help="another relay, as one with a break")
+    parser.add_argument("--relay", type=pathlib.Path, default=HERE / "avroreg-relay", help="another relay, such as one with a break")
     options = parser.parse_args()
     end_on_sigterm()
     with tempfile.TemporaryDirectory() as folder:

@@ -1,9 +1,9 @@
 #!/usr/bin/env python3
-"""Each operation of README.md on three nodes of this machine's loopback, one after the other, with its outcome compared.
+"""Tests each operation of README.md on three nodes of this machine's loopback, one after the other.
 
-    operations.py PROGRAM [--relay FILE] [NAME]..     the names of the operations, none all; another relay, as one with a break
+    operations.py PROGRAM [--relay FILE] [NAME]..     NAME: an operation; default: all. FILE: another relay, such as one with a break
 
-Ends with status 0 if each did what README.md says, 1 if one didn't, 2 if a name is unknown.
+The status is 0 if each operation worked, 1 if one didn't, 2 if a name is unknown.
 """
 import argparse
 import http.client
@@ -33,11 +33,11 @@ class Operations(ThroughNginx):
         self.set_up()
         check(self.register(self.nodes[0], 3) == [1, 2, 3], "three schemas are registered at n1")
         check(self.register(self.nodes[1], 2) == [4, 5], "two at n2")
-        self.meet()
+        self.wait_until_equal()
         check("5 entries" in self.command(self.nodes[2], "status"), "status shows five entries")
 
     def adopt(self) -> None:
-        """A single avroreg runs; it becomes n1 of three."""
+        """A single avroreg becomes n1 of three nodes."""
         self.set_up()
         self.cluster.end(signal.SIGTERM)
         first, second, third = self.nodes
@@ -74,10 +74,10 @@ class Operations(ThroughNginx):
         self.retry(second, "old2", "old2", schema(1002), 3, "a retry of a write to the single avroreg gets its first response")
 
     def retry(self, node: Node, subject: str, key: str, body: bytes, number: int, what: str) -> None:
-        """Sends a registration again, expects the id of its first response, and waits until the nodes are equal."""
+        """Retries a registration, checks the id of its first response, and waits until the nodes are equal."""
         response = ask(node, "POST", f"/subjects/{subject}/versions", body, **{"Registry-Retry-Key": key})
         check(response == (200, b'{"id":%d}' % number), what)
-        self.meet()
+        self.wait_until_equal()
 
     def replace(self) -> None:
         """n3 is lost with its disk: etcd's data, the database, the position."""
@@ -104,13 +104,13 @@ class Operations(ThroughNginx):
         self.register(second, 1)
         self.wait_for(lambda: third.health().get("revision") or third.health().get("status") == "stopped", "n3 without a file follows or stops")
         self.command(third, "restore", backup)
-        self.meet()
+        self.wait_until_equal()
 
     def upgrade(self) -> None:
-        """Each node gets a new program, while a client reads all the time."""
+        """Each node gets a new program, while a client reads without a pause."""
         self.set_up()
         self.register(self.nodes[0], 3)
-        self.meet()
+        self.wait_until_equal()
         new = self.folder / "new-program"
         shutil.copy(self.program, new)
         over, failures, reads = threading.Event(), [], []
@@ -118,7 +118,7 @@ class Operations(ThroughNginx):
         def read() -> None:
             at = 0
             while not over.is_set():
-                for turn in range(3):  # as nginx does: the next node if one doesn't answer
+                for turn in range(3):  # like nginx: the next node if one doesn't answer
                     try:
                         status, _ = ask(self.nodes[(at + turn) % 3], "GET", "/subjects/s1/versions")
                         if status == 200:
@@ -149,13 +149,13 @@ class Operations(ThroughNginx):
             reader.join()
         check(reads and not failures, f"of {len(reads)} reads none failed")
         check(self.register(self.nodes[0], 1) == [4], "writes go on")
-        self.meet()
+        self.wait_until_equal()
 
     def have_published(self, nodes: int = 3) -> bool:
-        """Whether the published positions of so many nodes are the newest entry's."""
-        shown = self.command(self.nodes[0], "status")
-        newest = re.search("newest ([0-9]+)", shown)
-        return newest is not None and shown.count(f": revision {newest[1]},") >= nodes
+        """Whether the published positions of at least this number of nodes are that of the newest entry."""
+        status_text = self.command(self.nodes[0], "status")
+        newest = re.search("newest ([0-9]+)", status_text)
+        return newest is not None and status_text.count(f": revision {newest[1]},") >= nodes
 
     def trim(self) -> None:
         self.set_up()
@@ -167,21 +167,21 @@ class Operations(ThroughNginx):
         self.command(self.nodes[0], "trim")
         check("5 entries" in self.command(self.nodes[0], "status"), "trim keeps the entries that n2 hasn't applied")
         self.cluster.start("n2", "relay")
-        self.meet()
+        self.wait_until_equal()
         self.command(self.nodes[2], "backup", backup)
-        self.meet()
+        self.wait_until_equal()
         self.wait_for(self.have_published, "the nodes have published their positions")
         check("removed 5" in self.command(self.nodes[2], "trim"), "then it removes them")
         self.register(self.nodes[1], 2)
-        self.meet()
+        self.wait_until_equal()
         self.command(self.nodes[0], "restore", backup)
-        self.meet()
+        self.wait_until_equal()
         self.register(self.nodes[1], 1)
-        self.meet()
+        self.wait_until_equal()
         self.wait_for(self.have_published, "the nodes have published their positions")
         self.command(self.nodes[2], "trim")
         check("newer backup" in self.command(self.nodes[0], "restore", backup, fails=True), "a backup older than the log is refused")
-        self.meet()
+        self.wait_until_equal()
 
     def write_until_full(self) -> None:
         """Writes to the log until etcd's quota is full."""
@@ -194,7 +194,7 @@ class Operations(ThroughNginx):
         raise Wrong("etcd's quota doesn't get full")
 
     def serves(self, node: Node) -> bool:
-        """Whether a node's etcd serves. It isn't healthy while the alarm of a full quota is on."""
+        """Whether a node's etcd serves. Its /health fails during the alarm of a full quota, so this reads /version."""
         try:
             with urllib.request.urlopen(f"http://127.0.0.1:{node.ports['etcd']}/version", timeout=5) as found:
                 return bool(found.status == 200)
@@ -202,7 +202,7 @@ class Operations(ThroughNginx):
             return False
 
     def full_quota(self) -> None:
-        """etcd's quota is full: writes stop, reads go on, and after a larger quota trimming makes room."""
+        """etcd's quota is full: writes stop, and reads go on. With a larger quota, trimming makes room."""
         self.set_up(quota=16 * 1048576)
         first, second, third = self.nodes
         self.register(first, 1)
@@ -221,13 +221,13 @@ class Operations(ThroughNginx):
         for node in (first, third):
             self.command(node, "defragment")
         check(self.register(second, 2) == [2, 3], "writes go on")
-        self.meet()
+        self.wait_until_equal()
 
     def restore_all(self) -> None:
-        """All three nodes are lost; there is one backup."""
+        """All three nodes are lost, and there is one backup."""
         self.set_up()
         ids = self.register(self.nodes[0], 4)
-        self.meet()
+        self.wait_until_equal()
         backup = self.folder / "last-backup"
         self.command(self.nodes[1], "backup", backup)
         self.cluster.end(signal.SIGKILL)
@@ -240,16 +240,16 @@ class Operations(ThroughNginx):
         check("another cluster" in self.command(self.nodes[0], "restore", backup, fails=True), "restore refuses another cluster's backup")
         for node in self.nodes:
             self.command(node, "adopt", backup / "registry.db")
-        self.meet()
+        self.wait_until_equal()
         check(self.register(self.nodes[2], 1) == [ids[-1] + 1], "ids go on after those of the backup")
         self.retry(self.nodes[0], "s2", "k2", schema(2), 2, "a retry of an old write gets its first response")
 
     def tampered(self) -> None:
-        """Somebody writes to n2's database past the log; and then changes a row that no write depends on."""
+        """Somebody writes to n2's database past the log, and then changes a row that no write depends on."""
         self.set_up()
         first, second, third = self.nodes
         self.register(first, 2)
-        self.meet()
+        self.wait_until_equal()
         direct = http.client.HTTPConnection("127.0.0.1", second.ports["registry"], timeout=60)
         direct.request("POST", "/subjects/past/versions", schema(9999))
         check(direct.getresponse().status == 200, "a schema is registered at n2's avroreg itself")
@@ -262,7 +262,7 @@ class Operations(ThroughNginx):
         backup = self.folder / "for-n2"
         self.command(first, "backup", backup)
         self.command(second, "restore", backup)
-        self.meet()
+        self.wait_until_equal()
         self.cluster.end(signal.SIGTERM, "n3", "relay")
         self.cluster.end(signal.SIGTERM, "n3", "registry")
         subprocess.run([third.folder / "avroreg", "list", "--db", third.database, "subjects"], capture_output=True, check=True)
@@ -274,7 +274,7 @@ class Operations(ThroughNginx):
         prints = {it.name: self.command(it, "fingerprint").split()[1] for it in self.nodes}
         check(prints["n1"] == prints["n2"] != prints["n3"], "a changed text in n3's database shows in its fingerprint")
         self.command(third, "restore", backup)
-        self.meet()
+        self.wait_until_equal()
 
 
 NAMES = ("from_nothing", "clients", "adopt", "replace", "upgrade", "trim", "full_quota", "restore_all", "tampered")
@@ -306,7 +306,7 @@ def main() -> None:
             sys.exit(1)
         finally:
             trial.tear_down()
-    print(f"all {len(chosen)} operations did what they have to, in {time.monotonic() - began:.0f} s")
+    print(f"all {len(chosen)} operations passed, in {time.monotonic() - began:.0f} s")
 
 
 if __name__ == "__main__":

@@ -1,11 +1,11 @@
 #!/usr/bin/env python3
-"""Writes and reads a second and their times, of a single avroreg and of three nodes in turn.
+"""Measures writes and reads a second and their times, of a single avroreg and of three nodes in turn.
 
     rates.py PROGRAM [SECONDS [ROUNDS]]     3 rounds of 2 seconds for each figure
 
-Each client is a process, on its way to avroreg or the relays, or by TLS through the nginx that README.md has in front of either.
-Both systems run all the time, and each figure is measured in rounds that alternate between them. So what else the machine does
-slows down both. The nodes, etcd and the clients share this machine.
+Each client is a process. It sends requests directly to avroreg or the relays, or by TLS through the nginx of README.md.
+Both systems run all the time, and the rounds of each figure alternate between them. So other work on the machine slows down
+both. The nodes, etcd and the clients share this machine.
 """
 import base64
 import http.client
@@ -34,10 +34,10 @@ PASSWORD = {"Authorization": "Basic " + base64.b64encode(":".join(front.USER).en
 
 
 class System(NamedTuple):
-    """Where clients send requests. A client keeps its connection, or takes one for each request."""
+    """The servers of the clients. A client keeps its connection, or opens one for each request."""
 
     ports: list[int]
-    authority: str  # the file of the authority that TLS trusts; empty without TLS
+    authority: str  # the file of the trusted authority; empty without TLS
     is_kept: bool = True
 
     def connection(self, number: int) -> http.client.HTTPConnection:
@@ -48,7 +48,7 @@ class System(NamedTuple):
 
 
 def send(connection: http.client.HTTPConnection, kind: str, count: int, fields: dict[str, str]) -> bool:
-    """Sends one request. Returns whether it was carried out."""
+    """Sends one request. Returns whether it got 200."""
     if kind == "write":
         key = {"Registry-Retry-Key": f"{os.getpid()}.{count}"}
         connection.request("POST", f"/subjects/r{os.getpid()}-{count}/versions", schema(count % 50), {**fields, **key})
@@ -61,7 +61,7 @@ def send(connection: http.client.HTTPConnection, kind: str, count: int, fields: 
 
 
 def client(number: int, system: System, kind: str, begin: float, end: float, results: "Queue[list[float]]") -> None:
-    """Sends one request before the time begins, and then one after the other until it ends."""
+    """Sends one request before the measured time, and then one after the other until its end."""
     connection, times, count = system.connection(number), list[float](), 0
     fields = {**({} if system.is_kept else {"Connection": "close"}), **(PASSWORD if system.authority else {})}
     while time.time() < end:
@@ -78,7 +78,7 @@ def client(number: int, system: System, kind: str, begin: float, end: float, res
 
 
 def measure(system: System, kind: str, clients: int, seconds: float) -> list[float]:
-    """The time of each request that was carried out."""
+    """The time of each request with status 200."""
     results: "Queue[list[float]]" = multiprocessing.Queue()
     begin = time.time() + 0.5 + clients / 32
     workers = [multiprocessing.Process(target=client, args=(it, system, kind, begin, begin + seconds, results)) for it in range(clients)]
@@ -91,7 +91,7 @@ def measure(system: System, kind: str, clients: int, seconds: float) -> list[flo
 
 
 def compare(way: str, kind: str, clients: int, systems: tuple[System, System], seconds: float, rounds: int) -> None:
-    """Prints a row: requests a second, and within which time half and 99 of 100 were answered, of one and of three nodes."""
+    """Prints a row for one and for three nodes: requests a second, and the times within which half and 99 of 100 got a response."""
     times: tuple[list[float], list[float]] = ([], [])
     for _ in range(rounds):
         for system, found in zip(systems, times):
@@ -104,7 +104,7 @@ def compare(way: str, kind: str, clients: int, systems: tuple[System, System], s
 
 
 def single_front(folder: pathlib.Path, port: int, tls: pathlib.Path, users: pathlib.Path) -> front.Nginx:
-    """The nginx of a single avroreg, with the lines for TLS and users, and without its limits and its cache of schemas."""
+    """Starts the nginx of a single avroreg, with TLS and users, and without limits and the cache of schemas."""
     source, roles, https = HERE.parent / "nginx", folder / "roles.conf", free_ports(2)
     roles.write_text((source / "roles.conf").read_text().replace('"~^admin$"', f'"~^{front.USER[0]}$"'))
     config = (source / "avroreg.conf").read_text()

@@ -1,4 +1,4 @@
-"""What a trial found, as a table."""
+"""The results of a trial, as a table."""
 import bisect
 import collections
 import dataclasses
@@ -13,7 +13,7 @@ class Fault(NamedTuple):
     is_at_leader: bool
     began: float
     ended: float
-    caught_up: float  # when each node had what any node had at the end
+    caught_up: float  # when each node had applied the entries that any node had at the end
 
     @property
     def seconds_until_equal(self) -> float:
@@ -25,7 +25,7 @@ class Fault(NamedTuple):
 
 @dataclasses.dataclass
 class Outcome:
-    """How often each thing happened that must not happen; and how many entries were repeats, which may."""
+    """The numbers of errors of each kind, and of repeats in the log, which are allowed."""
 
     losses: int = 0
     duplicates: int = 0
@@ -53,10 +53,10 @@ def table(began: float, ended: float, faults: list[Fault], clients: list[Client]
         "fresh reads, all right": counts["fresh reads"],
         "local reads elsewhere that were stale": counts["stale reads"],
         "longest time without an acknowledged write": longest_gap(began, ended, faults, writes),
-        "response times": within([it for client in clients for it in client.seconds]),
+        "response times": percentiles_text([it for client in clients for it in client.seconds]),
         "until each node had caught up after a fault": f"at most {slowest.seconds_until_equal:.1f} s ({slowest})",
-        "kinds of faults": listed(collections.Counter(it.name for it in faults)),
-        "what clients saw": listed(counts),
+        "kinds of faults": list_text(collections.Counter(it.name for it in faults)),
+        "what clients saw": list_text(counts),
     }
     return "\n".join(["| | |", "|---|---|", *(f"| {name} | {value} |" for name, value in rows.items())])
 
@@ -70,10 +70,10 @@ def longest_gap(began: float, ended: float, faults: list[Fault], writes: list[Wr
     return f"{end - start:.1f} s ({'; '.join(found) or 'between faults'})"
 
 
-def within(seconds: list[float]) -> str:
+def percentiles_text(seconds: list[float]) -> str:
     found = sorted(seconds)
     return ", ".join(f"{it} of 100 within {found[len(found) * it // 100] * 1000:.0f} ms" for it in (50, 99))
 
 
-def listed(counts: collections.Counter[str]) -> str:
+def list_text(counts: collections.Counter[str]) -> str:
     return "; ".join(f"{name} {count}" for name, count in sorted(counts.items()))

@@ -1,6 +1,6 @@
-"""Three nodes in three network namespaces: each with a link to its peers, one to its clients, and a small disk of its own.
+"""Three nodes in three network namespaces. Each has a link to its peers, a link to its clients, and its own small disk.
 
-Every process that is started here is ended by its process id.
+Every process that starts here is killed by its process id.
 """
 import json
 import os
@@ -69,7 +69,7 @@ class SpaceNode(Node):
         shell("umount", str(self.disk), may_fail=True)
 
     def inside(self, *words: str, seconds: float = 30) -> bytes:
-        """The output of a command in the node's network, empty if it takes too long."""
+        """Runs a command in the node's network. Returns its output, empty if it takes too long."""
         try:
             return subprocess.run([*self.prefix, *words], capture_output=True, timeout=seconds).stdout
         except subprocess.TimeoutExpired:
@@ -85,7 +85,7 @@ class SpaceNode(Node):
                 os.kill(process, number)
 
     def run(self, *services: str) -> None:
-        """Starts services, and keeps them started as systemd would."""
+        """Starts services, and restarts them if they end, as systemd does."""
         with self.lock:
             self.wanted.update(services or SERVICES)
             self.revive()
@@ -105,7 +105,7 @@ class SpaceNode(Node):
                     self.start(service)
 
     def etcd(self, path: str, document: dict[str, object]) -> dict[str, Any]:
-        """What this node's etcd answers to a request, nothing if it doesn't answer."""
+        """The JSON response of this node's etcd, empty if it doesn't respond."""
         found = self.inside("curl", "-s", "-m", "5", "-d", json.dumps(document), f"http://127.0.0.1:{self.ports['etcd']}/v3/{path}")
         try:
             return dict(json.loads(found))

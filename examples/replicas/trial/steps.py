@@ -1,4 +1,4 @@
-"""What the trials on loopback share: three nodes, requests, registrations, comparisons."""
+"""Shared code of the trials on loopback: three nodes, requests, registrations, comparisons."""
 import http.client
 import json
 import pathlib
@@ -17,13 +17,13 @@ FAULTS = (OSError, http.client.HTTPException)
 
 
 class Wrong(Exception):
-    """An operation didn't do what it has to."""
+    """A check of an operation failed."""
 
 
-def check(condition: object, what: str) -> None:
+def check(condition: object, text: str) -> None:
     if not condition:
-        raise Wrong(what)
-    print(f"  ok: {what}", flush=True)
+        raise Wrong(text)
+    print(f"  ok: {text}", flush=True)
 
 
 def schema(number: int) -> bytes:
@@ -41,7 +41,7 @@ def ask(node: Node, method: str, target: str, body: bytes | None = None, **field
 
 
 def end_on_sigterm() -> None:
-    """Has SIGTERM end the program as an exception does, so that the nodes are ended too."""
+    """Makes SIGTERM raise an exception, so that the program also kills its nodes."""
     signal.signal(signal.SIGTERM, lambda *_: sys.exit("ended by a signal"))
 
 
@@ -56,7 +56,7 @@ class LocalTrial:
         return list(self.cluster.nodes.values())
 
     def set_up(self, quota: int = 0) -> None:
-        """Three nodes from nothing."""
+        """Sets up three new nodes, and starts them."""
         self.tear_down()
         shutil.rmtree(self.cluster.folder, ignore_errors=True)
         self.cluster, self.count = Cluster(self.folder / "cluster"), 0
@@ -70,16 +70,16 @@ class LocalTrial:
         if (self.cluster.folder / "n1").exists():
             self.cluster.end(signal.SIGKILL)
 
-    def command(self, node: Node, *words: object, fails: bool = False) -> str:
+    def command(self, node: Node, *arguments: object, fails: bool = False) -> str:
         done = subprocess.run(
-            [sys.executable, str(HERE / "avroreg-cluster"), "--config", str(node.config), *map(str, words)], capture_output=True, text=True
+            [sys.executable, str(HERE / "avroreg-cluster"), "--config", str(node.config), *map(str, arguments)], capture_output=True, text=True
         )
         if bool(done.returncode) != fails:
-            raise Wrong(f"avroreg-cluster {' '.join(map(str, words))} ended with {done.returncode}: {done.stdout}{done.stderr}")
+            raise Wrong(f"avroreg-cluster {' '.join(map(str, arguments))} ended with {done.returncode}: {done.stdout}{done.stderr}")
         return done.stdout + done.stderr
 
     def register(self, node: Node, count: int) -> list[int]:
-        """Registers so many schemas, each in a subject of its own. Returns their ids."""
+        """Registers `count` schemas, each in its own subject. Returns their ids."""
         ids = []
         for _ in range(count):
             self.count += 1
@@ -89,13 +89,13 @@ class LocalTrial:
                 if status == 200:
                     break
                 if status != 503 or time.monotonic() > until:
-                    raise Wrong(f"a registration was answered {status}: {body!r}")
+                    raise Wrong(f"a registration got {status}: {body!r}")
                 time.sleep(0.2)
             ids.append(int(json.loads(body)["id"]))
         return ids
 
-    def meet(self, *nodes: Node) -> None:
-        """Waits until the nodes are at one revision, saved, and checks that they have one digest and show the same."""
+    def wait_until_equal(self, *nodes: Node) -> None:
+        """Waits until the nodes are at one revision and have saved it. Checks that they have one digest and one fingerprint."""
         nodes = nodes or tuple(self.nodes)
         until = time.monotonic() + 90
         while True:
@@ -103,16 +103,16 @@ class LocalTrial:
             if len({(it.get("revision"), it.get("saved")) for it in found}) == 1 and found[0].get("status") == "ok":
                 break
             if time.monotonic() > until:
-                raise Wrong(f"the nodes don't meet: {found}")
+                raise Wrong(f"the nodes don't reach one revision: {found}")
             time.sleep(0.2)
         check(len({it["digest"] for it in found}) == 1, f"{len(nodes)} nodes at revision {found[0]['revision']} with one digest")
         prints = {self.command(it, "fingerprint") for it in nodes}
         check(len(prints) == 1, f"and one fingerprint: {prints.pop().split()[1]}")
 
-    def wait_for(self, condition: Callable[[], object], what: str) -> None:
+    def wait_for(self, condition: Callable[[], object], text: str) -> None:
         until = time.monotonic() + 60
         while not condition():
             if time.monotonic() > until:
-                raise Wrong(what)
+                raise Wrong(text)
             time.sleep(0.1)
-        check(True, what)
+        check(True, text)

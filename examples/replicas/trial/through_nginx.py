@@ -1,4 +1,4 @@
-"""Clients of three nodes that speak to nginx, by the repository's nginx.conf."""
+"""Clients that use the nginx of three nodes, with the repository's nginx.conf."""
 import base64
 import http.client
 import json
@@ -27,25 +27,25 @@ class Found(NamedTuple):
 
 class ThroughNginx(LocalTrial):
     def clients(self) -> None:
-        """Clients speak to nginx, which reads from its own avroreg, and asks another node if its own one doesn't answer."""
+        """Tests clients of nginx, which reads from its own avroreg, and uses another node if its own one doesn't answer."""
         self.set_up()
         fronts = [front.of_node(self.cluster, it) for it in self.nodes]
         try:
             for it in fronts:
                 it.wait()
-            self.certificates()
-            self.users()
-            self.local_reads()
-            self.another_node()
-            self.old_node()
-            self.stopped_node()
+            self.check_certificates()
+            self.check_users()
+            self.check_local_reads()
+            self.check_another_node()
+            self.check_old_node()
+            self.check_stopped_node()
         finally:
             for it in fronts:
                 it.stop()
-        self.meet()
+        self.wait_until_equal()
 
-    def through(self, method: str, target: str, body: bytes | None = None, user: str = ":".join(front.USER), **fields: str) -> Found:
-        """The response of the first node's nginx."""
+    def send(self, method: str, target: str, body: bytes | None = None, user: str = ":".join(front.USER), **fields: str) -> Found:
+        """Sends a request to n1's nginx, and returns the response."""
         connection = front.connection(self.nodes[0].ports["https"], self.cluster.folder / "tls" / "ca.crt")
         authorization = {"Authorization": "Basic " + base64.b64encode(user.encode()).decode()} if user else {}
         connection.request(method, target, body, {**authorization, **fields})
@@ -55,18 +55,18 @@ class ThroughNginx(LocalTrial):
         return found
 
     def read(self, target: str, **fields: str) -> tuple[int, bytes]:
-        found = self.through("GET", target, **fields)
+        found = self.send("GET", target, **fields)
         return found.status, found.body
 
-    def certificates(self) -> None:
-        """nginx and etcd of a node answer other nodes only if these show a certificate of the cluster."""
+    def check_certificates(self) -> None:
+        """Checks that nginx and etcd of a node answer only nodes that have a certificate of the cluster."""
         second = self.nodes[1]
         for service, port, target in (("nginx", "nodes", "/subjects"), ("etcd", "peer", "/version")):
             found = [self.status_for_a_node(second, port, target, has_certificate) for has_certificate in (True, False)]
             check(found[0] == 200 and found[1] in (0, 400), f"{service} of n2 answers a node with a certificate, and none without")
 
     def status_for_a_node(self, node: Node, port: str, target: str, has_certificate: bool) -> int:
-        """The status for n1, which may show its certificate; 0 if it gets no response."""
+        """The status of a request from n1, with or without its certificate. 0 if it gets no response."""
         tls = self.cluster.folder / "tls"
         connection = front.connection(node.ports[port], tls / "ca.crt", (tls / "n1.crt", tls / "n1.key") if has_certificate else None)
         try:
@@ -77,40 +77,40 @@ class ThroughNginx(LocalTrial):
         finally:
             connection.close()
 
-    def users(self) -> None:
-        statuses = [self.through("GET", "/subjects", user=user).status for user in ("", "producer:guess")]
-        check(statuses == [401, 401], "no password, no answer")
-        status, key, _ = self.through("POST", "/subjects/a/versions", schema(1))
+    def check_users(self) -> None:
+        statuses = [self.send("GET", "/subjects", user=user).status for user in ("", "producer:guess")]
+        check(statuses == [401, 401], "without a right password: 401")
+        status, key, _ = self.send("POST", "/subjects/a/versions", schema(1))
         check(status == 200 and re.fullmatch("[0-9a-f]{32}", key), f"a write without a key gets one: {key}")
-        status, key, _ = self.through("POST", "/subjects/a/versions", schema(1), **{"Registry-Retry-Key": "mine"})
+        status, key, _ = self.send("POST", "/subjects/a/versions", schema(1), **{"Registry-Retry-Key": "mine"})
         check((status, key) == (200, "mine"), "one with a key keeps it")
         foreign = [
-            self.through(method, "/config", b'{"compatibility":"NONE"}', Origin="http://elsewhere").status for method in ("PUT", "GET")
+            self.send(method, "/config", b'{"compatibility":"NONE"}', Origin="http://elsewhere").status for method in ("PUT", "GET")
         ]
         check(foreign == [403, 200], "another site's page can't write")
 
     def reads_of_relay(self) -> int:
-        """How many reads n1's relay has answered, fresh ones aside."""
+        """How many reads n1's relay has answered, without fresh reads."""
         with urllib.request.urlopen(f"http://127.0.0.1:{self.nodes[0].ports['admin']}/metrics", timeout=30) as found:
             count = re.search(r'avroreg_relay_seconds_count\{kind="read"\} ([0-9]+)', found.read().decode())
         return int(count[1]) if count else 0
 
-    def timed(self, target: str) -> tuple[float, tuple[int, bytes]]:
+    def timed_read(self, target: str) -> tuple[float, tuple[int, bytes]]:
         began = time.monotonic()
         found = self.read(target)
         return time.monotonic() - began, found
 
-    def local_reads(self) -> None:
-        """nginx reads from n1's avroreg itself. The relay answers what may have to be fresh, and what avroreg doesn't find."""
+    def check_local_reads(self) -> None:
+        """nginx reads from n1's avroreg directly. The relay answers fresh reads, and reads for which avroreg returns 404."""
         self.wait_for(self.nodes[0].local_reads.exists, "n1's relay lets nginx read from avroreg")
         before, first, second = self.reads_of_relay(), list[float](), list[float]()
         for number in range(20):
-            written = self.through("POST", f"/subjects/l{number}/versions", schema(10 + number))
+            written = self.send("POST", f"/subjects/l{number}/versions", schema(10 + number))
             if written.status != 200:
                 raise Wrong(f"a write at n1 is answered {written}")
-            seconds, by_id = self.timed(f"/schemas/ids/{json.loads(written.body)['id']}")
+            seconds, by_id = self.timed_read(f"/schemas/ids/{json.loads(written.body)['id']}")
             first.append(seconds)
-            seconds, versions = self.timed(f"/subjects/l{number}/versions")
+            seconds, versions = self.timed_read(f"/subjects/l{number}/versions")
             second.append(seconds)
             if by_id[0] != 200 or versions != (200, b"[1]"):
                 raise Wrong(f"what n1 acknowledged isn't in a read there: {by_id}, {versions}")
@@ -118,44 +118,44 @@ class ThroughNginx(LocalTrial):
         check(self.reads_of_relay() == before, "without its relay")
         halves = statistics.median(first), statistics.median(second)
         check(halves[0] < halves[1] + 0.15, f"after a write it isn't slower: {halves[0] * 1000:.0f} ms, otherwise {halves[1] * 1000:.0f} ms")
-        check(self.through("POST", "/subjects/a%2Fb/versions", schema(1)).status == 200, "a subject with an escape is registered")
+        check(self.send("POST", "/subjects/a%2Fb/versions", schema(1)).status == 200, "a subject with an escape is registered")
         check(self.read("/subjects/a%2Fb/versions") == (200, b"[1]"), "and read")
         unknown = [self.read(target)[0] for target in ("/subjects/a%2Fc/versions", "/schemas/ids/999")]
         check(unknown == [404, 404], f"an unknown subject and id: {unknown}")
         for value in ("no-cache", "max-age=0, No-Cache", "max-age=0"):
             check(self.read("/subjects/a/versions", **{"Cache-Control": value}) == (200, b"[1]"), f"a read with {value}")
-        check(self.through("POST", "/subjects/a", schema(1)).status == 200, "a look-up with a body")
-        check(self.through("HEAD", "/subjects").status == 405, "avroreg knows no HEAD")
+        check(self.send("POST", "/subjects/a", schema(1)).status == 200, "a look-up with a body")
+        check(self.send("HEAD", "/subjects").status == 405, "avroreg doesn't support HEAD")
 
-    def another_node(self) -> None:
+    def check_another_node(self) -> None:
         first = self.nodes[0]
         first.end("relay", signal.SIGKILL)
-        check(self.through("POST", "/subjects/b/versions", schema(2)).status == 200, "n1's relay is away, and another node takes a write")
+        check(self.send("POST", "/subjects/b/versions", schema(2)).status == 200, "n1's relay is away, and another node takes a write")
         check(self.read("/subjects/b/versions") == (200, b"[1]"), "and a read of what n1 doesn't know")
         check(self.read("/subjects/a/versions", **FRESH) == (200, b"[1]"), "and a fresh read")
         self.cluster.start("n1", "relay")
-        self.meet()
+        self.wait_until_equal()
         first.end("registry", signal.SIGKILL)
         check(self.read("/subjects/a/versions") == (200, b"[1]"), "n1's avroreg is away, and another node answers a read")
         self.cluster.start("n1", "registry")
 
-    def old_node(self) -> None:
-        """n1's etcd hangs, so n1 doesn't learn of writes at the others."""
+    def check_old_node(self) -> None:
+        """n1's etcd hangs, so n1 gets no writes of the other nodes."""
         first, second = self.nodes[:2]
         self.wait_for(first.local_reads.exists, "n1's relay lets nginx read from avroreg")
         etcd = first.process("etcd")
         assert etcd
         os.kill(etcd, signal.SIGSTOP)
         try:
-            check(self.through("POST", "/subjects/c/versions", schema(3)).status == 200, "n1's etcd hangs, and another node takes a write")
+            check(self.send("POST", "/subjects/c/versions", schema(3)).status == 200, "n1's etcd hangs, and another node takes a write")
             check(self.register_at(second, "a", 4) == 200, "n2 takes another one")
             check(self.read("/subjects/a/versions") == (200, b"[1]"), "a read at n1 is as old as that")
             check(self.read("/subjects/a/versions", **FRESH) == (200, b"[1,2]"), "a fresh read is not")
             check(self.read("/subjects/c/versions") == (200, b"[1]"), "and n1 answers 404 for no subject that another node has acknowledged")
         finally:
             os.kill(etcd, signal.SIGCONT)
-        check(ask(second, "GET", "/subjects/c/versions") == (200, b"[1]"), "it is applied once")
-        self.meet()
+        check(ask(second, "GET", "/subjects/c/versions") == (200, b"[1]"), "it is applied exactly once")
+        self.wait_until_equal()
 
     def register_at(self, node: Node, subject: str, number: int) -> int:
         for _ in range(50):
@@ -164,7 +164,7 @@ class ThroughNginx(LocalTrial):
                 break
         return status
 
-    def stopped_node(self) -> None:
+    def check_stopped_node(self) -> None:
         """Somebody writes to n1's avroreg past the log. Once n1 has stopped, no client sees that write."""
         first, second = self.nodes[:2]
         direct = http.client.HTTPConnection("127.0.0.1", first.ports["registry"], timeout=60)

@@ -1,10 +1,10 @@
 #!/usr/bin/env python3
-"""Three nodes in network namespaces, clients and faults: what was acknowledged is compared with two folds of the log, and with the
-tables of the nodes. trial.sh calls it, as root.
+"""Three nodes in network namespaces, clients and faults. The trial compares the acknowledged writes with two folds of the log, and
+with the tables of the nodes. trial.sh runs it as root.
 
     trial.py PROGRAM [--seconds N] [--rate R] [--seed N] [--relay FILE]
 
-Ends with status 0 if nothing was lost, nothing was applied twice, and no two nodes differ.
+The status is 0 if nothing was lost, nothing was applied twice, and no two nodes differ.
 """
 import argparse
 import json
@@ -39,18 +39,18 @@ class Trial:
         self.faults: list[Fault] = []
         self.outcome = Outcome()
 
-    def say(self, line: str) -> None:
+    def print_line(self, line: str) -> None:
         print(line, flush=True)
 
-    def hold(self, condition: object, what: str) -> None:
-        self.say(f"{'ok   ' if condition else 'WRONG'} {what}")
+    def check(self, condition: object, text: str) -> None:
+        self.print_line(f"{'ok   ' if condition else 'WRONG'} {text}")
         if not condition:
-            self.wrong.append(what)
+            self.wrong.append(text)
 
     # --- Faults
 
-    def chaos(self, seconds: float) -> None:
-        """One fault after the other, most at one node, some at two, until the time is over and each kind was there."""
+    def make_faults(self, seconds: float) -> None:
+        """Makes one fault after the other, usually at one node, until the time is over and each kind has occurred."""
         kinds, names = kinds_of_faults(self.nodes), list[str]()
         until, is_first = time.monotonic() + seconds, True
         while time.monotonic() < until or (names and is_first):
@@ -68,61 +68,61 @@ class Trial:
             for node in chosen:
                 kinds[name][1](node)
             ended = time.monotonic()
-            self.meet()
+            self.wait_until_applied()
             self.faults.append(Fault(name, tuple(it.name for it in chosen), leader in chosen, began, ended, time.monotonic()))
             self.report_progress()
             time.sleep(self.random.uniform(0.2, 1.5))
 
     def report_progress(self) -> None:
         if len(self.faults) % 50 == 0:
-            self.say(f"      {len(self.faults)} faults, {sum(len(it.writes) for it in self.clients)} acknowledged writes")
+            self.print_line(f"      {len(self.faults)} faults, {sum(len(it.writes) for it in self.clients)} acknowledged writes")
 
     # --- Waiting
 
-    def meet(self, seconds: float = 300) -> None:
-        """Waits until each node has applied what any node had applied when this began."""
+    def wait_until_applied(self, seconds: float = 300) -> None:
+        """Waits until each node has applied the entries that any node had applied at the call."""
         until, newest = time.monotonic() + seconds, None
         while True:
             found = [it.health() for it in self.nodes]
             revisions = [int(str(it.get("revision", -1))) for it in found]
             if any(it.get("status") == "stopped" for it in found):
-                self.hold(False, f"no node stops: {[it.get('reasons') for it in found]}")
+                self.check(False, f"no node stops: {[it.get('reasons') for it in found]}")
                 raise TimeoutError("a node has stopped")
             newest = max(revisions) if newest is None and min(revisions) >= 0 else newest
             if newest is not None and min(revisions) >= newest:
                 return
             if time.monotonic() > until:
-                raise TimeoutError(f"the nodes don't meet at {newest}: {found}")
+                raise TimeoutError(f"the nodes don't all reach {newest}: {found}")
             time.sleep(0.3)
 
-    def rest(self) -> int:
-        """Waits until nothing changes any more. Returns the revision."""
+    def wait_until_idle(self) -> int:
+        """Waits until the nodes are equal and nothing changes any more. Returns the revision."""
         for _ in range(60):
             time.sleep(3)
-            self.meet()
+            self.wait_until_applied()
             found = {(it.health().get("revision"), it.health().get("saved")) for it in self.nodes}
             if len(found) == 1 and len(set(*found)) == 1:
                 return int(str(self.nodes[0].health()["revision"]))
-        raise TimeoutError("the nodes don't come to rest")
+        raise TimeoutError("the nodes don't become idle")
 
     # --- Comparison
 
     def compare_all(self) -> None:
-        revision = self.rest()
+        revision = self.wait_until_idle()
         digests = {str(it.health()["digest"]) for it in self.nodes}
-        self.hold(len(digests) == 1, f"the nodes are at revision {revision} with one digest")
+        self.check(len(digests) == 1, f"the nodes are at revision {revision} with one digest")
         fold = compare.Fold(compare.dump(self.nodes[0], revision), self.program)
-        self.hold(fold.is_whole and not fold.differing,
+        self.check(fold.is_whole and not fold.differing,
                   f"the log's {len(fold.log)} messages get the same responses from avroreg run and from the machine in Python"
                   f" {fold.differing[:1] or ''}")  # fmt: skip
         writes = [it for client in self.clients for it in client.writes]
-        lost, wrongly = fold.lost(writes), fold.wrongly_answered(writes)
-        self.hold(not lost, f"acknowledged writes that the log lacks: {len(lost)} of {len(writes)}")
+        lost, wrongly = fold.lost(writes), fold.wrong_responses(writes)
+        self.check(not lost, f"acknowledged writes that the log lacks: {len(lost)} of {len(writes)}")
         count = sum(len(it.responses) for it in writes)
         example = [(it.message(), status, body) for it, status, body in wrongly[:1]]
-        self.hold(not wrongly, f"responses that the log doesn't give: {len(wrongly)} of {count} {example or ''}")
+        self.check(not wrongly, f"responses that the log doesn't give: {len(wrongly)} of {count} {example or ''}")
         early = compare.out_of_order([message for _, message in fold.log], writes)
-        self.hold(not early, f"writes that the log has after one that began later than they were acknowledged: {early}")
+        self.check(not early, f"writes that the log has after one that began later than they were acknowledged: {early}")
         self.outcome = Outcome(len(lost), 0, len(wrongly), early, 0, fold.repeats())
         self.compare_tables(fold)
 
@@ -136,8 +136,8 @@ class Trial:
         self.outcome.differences = differences = sum(not it for same in names.values() for it in same)
         self.outcome.duplicates = sum(len(set(it[0]["versions"]) - set(wanted["versions"])) for it in found)
         sizes = ", ".join(f"{name} {len(rows)}" for name, rows in wanted.items())
-        self.hold(not differences, f"the tables of the three nodes are the log's: {sizes} {names if differences else ''}")
-        self.hold({it[1] for it in found} == {"evidence holds"}, f"their audits: {[it[1] for it in found]}")
+        self.check(not differences, f"the tables of the three nodes are the log's: {sizes} {names if differences else ''}")
+        self.check({it[1] for it in found} == {"evidence holds"}, f"their audits: {[it[1] for it in found]}")
 
     # --- A node that is too old, and one that was changed
 
@@ -157,34 +157,34 @@ class Trial:
             time.sleep(0.2)
         raise TimeoutError("a registration gets no response")
 
-    def until_stopped(self, node: SpaceNode, reason: str, what: str, seconds: float = 60) -> None:
+    def check_stops(self, node: SpaceNode, reason: str, text: str, seconds: float = 60) -> None:
         until = time.monotonic() + seconds
         while node.health().get("status") != "stopped" and time.monotonic() < until:
             time.sleep(0.3)
         health = node.health()
-        self.hold(health.get("status") == "stopped" and reason in str(health.get("reasons")), f"{what}: {health.get('reasons')}")
+        self.check(health.get("status") == "stopped" and reason in str(health.get("reasons")), f"{text}: {health.get('reasons')}")
 
-    def others_go_on(self, node: SpaceNode) -> None:
+    def check_others_go_on(self, node: SpaceNode) -> None:
         found = [it.health().get("status") for it in self.nodes if it is not node]
-        self.hold(found == ["ok", "ok"], f"the others go on: {found}")
+        self.check(found == ["ok", "ok"], f"the others go on: {found}")
 
-    def old_node(self) -> None:
-        """n3 loses its files, and the log has been trimmed meanwhile: it must not go on from the entries that are left."""
+    def try_old_node(self) -> None:
+        """n3 loses its files, and the log is trimmed meanwhile. n3 must not go on from the remaining entries."""
         third = self.nodes[2]
-        self.rest()
+        self.wait_until_idle()
         third.kill("relay", "registry")
         for path in (*third.files(), third.position):
             path.unlink(missing_ok=True)
-        self.say("      " + self.command(self.nodes[0], "trim").strip())
+        self.print_line("      " + self.command(self.nodes[0], "trim").strip())
         third.run("registry", "relay")
         self.register("after-trim")
-        self.until_stopped(third, "trimmed", "a node that needs entries that were trimmed stops")
+        self.check_stops(third, "trimmed", "a node that needs entries that were trimmed stops")
         subjects = third.inside("curl", "-s", "-m", "30", "http://127.0.0.1:8081/subjects?deleted=true")
-        self.hold(subjects == b"[]", f"its avroreg got none of the entries that are left: {subjects[:100]!r}")
+        self.check(subjects == b"[]", f"its avroreg got none of the remaining entries: {subjects[:100]!r}")
         self.rebuild(third, self.nodes[0])
 
     def rebuild(self, target: SpaceNode, source: SpaceNode) -> None:
-        """Copies a node's database and position, as backup and restore do."""
+        """Copies a node's database and position, like backup and restore."""
         for node in (target, source):
             node.kill("relay")
             node.kill("registry")
@@ -195,36 +195,36 @@ class Trial:
         shutil.copy(source.position, target.position)
         for node in (source, target):
             node.run("registry", "relay")
-        self.meet()
+        self.wait_until_applied()
 
-    def changed_node(self) -> None:
-        """Somebody registers at n2's avroreg past the log: n2 has to stop, and the others have to go on."""
+    def try_changed_node(self) -> None:
+        """Somebody registers at n2's avroreg past the log. n2 must stop, and the others must go on."""
         second = self.nodes[1]
         body = json.dumps({"schema": json.dumps({"doc": "past the log", "fields": [], "name": "R", "type": "record"})})
         second.inside("curl", "-s", "-m", "30", "-d", body, "http://127.0.0.1:8081/subjects/past/versions")
         for number in range(3):
             self.register(f"after-change-{number}")
-        self.until_stopped(second, "answered otherwise", "a node whose avroreg was written to past the log stops")
-        self.others_go_on(second)
+        self.check_stops(second, "answered otherwise", "a node whose avroreg was written to past the log stops")
+        self.check_others_go_on(second)
         self.rebuild(second, self.nodes[0])
 
-    def older_database(self) -> None:
-        """n3 gets an older database next to its newer position: it has to stop, and the others have to go on."""
+    def try_older_database(self) -> None:
+        """n3 gets an older database next to its newer position. It must stop, and the others must go on."""
         third = self.nodes[2]
         third.kill("relay", "registry")
         old = [it.read_bytes() if it.exists() else b"" for it in third.files()]
         third.run("registry", "relay")
         self.register("before-older-database")
-        self.rest()
+        self.wait_until_idle()
         third.kill("relay", "registry")
         for path, content in zip(third.files(), old):
             path.write_bytes(content) if content else path.unlink(missing_ok=True)
         third.run("registry", "relay")
         self.register("after-older-database")
-        self.until_stopped(third, "answered otherwise", "a node with an older database next to its position stops")
-        self.others_go_on(third)
+        self.check_stops(third, "answered otherwise", "a node with an older database next to its position stops")
+        self.check_others_go_on(third)
 
-    # --- All of it
+    # --- The whole trial
 
     def run(self) -> None:
         options = self.options
@@ -236,7 +236,7 @@ class Trial:
             client.start()
         began = time.monotonic()
         time.sleep(3)
-        self.chaos(options.seconds)
+        self.make_faults(options.seconds)
         ended = time.monotonic()
         for client in self.clients:
             client.stop.set()
@@ -246,19 +246,19 @@ class Trial:
             client.join()
             self.wrong += client.wrong
         self.compare_all()
-        self.say(f"\n{table(began, ended, self.faults, self.clients, self.outcome)}\n")
-        self.old_node()
-        self.changed_node()
-        self.older_database()
+        self.print_line(f"\n{table(began, ended, self.faults, self.clients, self.outcome)}\n")
+        self.try_old_node()
+        self.try_changed_node()
+        self.try_older_database()
 
 
 def main() -> None:
     parser = argparse.ArgumentParser(description=(__doc__ or "").split("\n")[0])
     parser.add_argument("program", type=pathlib.Path)
-    parser.add_argument("--seconds", type=float, default=60, help="how long faults are made (60)")
+    parser.add_argument("--seconds", type=float, default=60, help="how long to make faults (60)")
     parser.add_argument("--rate", type=float, default=4, help="writes a second and client (4)")
     parser.add_argument("--seed", type=int, default=1)
-    parser.add_argument("--relay", type=pathlib.Path, default=HERE / "avroreg-relay", help="another relay, as one with a break")
+    parser.add_argument("--relay", type=pathlib.Path, default=HERE / "avroreg-relay", help="another relay, such as one with a break")
     options = parser.parse_args()
     signal.signal(signal.SIGTERM, lambda *_: sys.exit("ended by a signal"))
     with tempfile.TemporaryDirectory() as folder:
@@ -269,7 +269,7 @@ def main() -> None:
         try:
             trial.run()
         except (TimeoutError, KeyError) as fault:
-            trial.hold(False, f"the trial ends: {fault!r}")
+            trial.check(False, f"the trial ends: {fault!r}")
         finally:
             if os.environ.get("KEEP"):
                 keep = shutil.ignore_patterns("disk.img", "avroreg", "lost+found")
