@@ -129,8 +129,8 @@ def test_cached_client(url, prefix):
 
 
 def test_producer_without_registration(url, prefix):
-    """Tests `AvroProducer` with the setting of docs/clients.md. If a schema isn't registered, it rejects the message, and sends
-    nothing to Kafka, which is missing here. Checks the client's error messages, too."""
+    """Tests `AvroProducer` with the setting of docs/clients.md. If a schema isn't registered, it rejects the message and sends
+    nothing to Kafka, so no Kafka is needed here. Also checks the client's error messages."""
     topic = f"{prefix}refunds"
     subject = f"{topic}-value"
     first, second = (avro.loads(record(f"{prefix}Refund", *fields)) for fields in ((ID,), (ID, TOTAL)))

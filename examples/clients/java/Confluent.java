@@ -25,9 +25,9 @@ import org.codehaus.jackson.map.ObjectMapper;
 import org.codehaus.jackson.node.DoubleNode;
 
 /**
- * Sends the requests of Confluent's Java client by the HTTP library that it uses, and compares each response. Methods, paths,
- * parameters, fields and bodies are as its documentation and source have them; the client itself isn't run. Schemas and messages
- * are made and read by Avro's own Java library.
+ * Sends the requests of Confluent's Java client with the HTTP library that the client uses, and compares each response. The
+ * methods, paths, parameters, fields and bodies come from the client's documentation and source; the client itself isn't run.
+ * Avro's own Java library makes and parses the schemas, and encodes and decodes the messages.
  *
  * <pre>java -cp avro.jar:jackson-core-asl.jar:jackson-mapper-asl.jar:slf4j-api.jar examples/clients/java/Confluent.java URL [PREFIX [nginx]]</pre>
  */
@@ -43,21 +43,21 @@ public final class Confluent {
         this.isBehindNginx = isBehindNginx;
     }
 
-    /** A response: its status and its JSON. */
-    private record Answer(int status, JsonNode json) {
+    /** A response: its status and its body as JSON. */
+    private record Response(int status, JsonNode json) {
         int code() {
             return json.get("error_code").asInt();
         }
     }
 
-    private static void same(Object wanted, Object found) {
+    private static void checkEqual(Object wanted, Object found) {
         if (!wanted.equals(found)) {
             throw new AssertionError("wanted " + wanted + ", found " + found);
         }
     }
 
     /** Sends a request as the client's `RestService` does. */
-    private Answer call(String method, String path, String body) throws IOException {
+    private Response call(String method, String path, String body) throws IOException {
         HttpURLConnection connection = (HttpURLConnection) new URL(url + path).openConnection();
         connection.setConnectTimeout(60_000);
         connection.setReadTimeout(60_000);
@@ -74,7 +74,7 @@ public final class Confluent {
         }
         int status = connection.getResponseCode();
         try (InputStream in = status < 400 ? connection.getInputStream() : connection.getErrorStream()) {
-            return new Answer(status, JSON.readTree(in.readAllBytes()));
+            return new Response(status, JSON.readTree(in.readAllBytes()));
         }
     }
 
@@ -83,30 +83,30 @@ public final class Confluent {
         return JSON.writeValueAsString(Collections.singletonMap("schema", schema.toString()));
     }
 
-    private static Schema order(String prefix, String more) {
+    private static Schema order(String prefix, String otherFields) {
         return new Schema.Parser().parse("{\"type\":\"record\",\"name\":\"" + prefix
-            + "Order\",\"fields\":[{\"name\":\"id\",\"type\":\"long\"}" + more + "]}");
+            + "Order\",\"fields\":[{\"name\":\"id\",\"type\":\"long\"}" + otherFields + "]}");
     }
 
     private int register(String subject, Schema schema) throws IOException {
-        Answer answer = call("POST", "/subjects/" + subject + "/versions?normalize=false", bodyOf(schema));
-        same(200, answer.status());
-        return answer.json().get("id").asInt();
+        Response response = call("POST", "/subjects/" + subject + "/versions?normalize=false", bodyOf(schema));
+        checkEqual(200, response.status());
+        return response.json().get("id").asInt();
     }
 
-    private void refused(int code, Answer answer) {
-        same(code, answer.code());
-        same(Integer.parseInt(String.valueOf(code).substring(0, 3)), answer.status());
+    private void checkRejected(int code, Response response) {
+        checkEqual(code, response.code());
+        checkEqual(Integer.parseInt(String.valueOf(code).substring(0, 3)), response.status());
     }
 
-    /** The calls of serializers: register or look up, and send a message; of deserializers: the schema of an id. */
-    private void messages(String subject, Schema first, Schema second) throws IOException {
-        refused(40401, call("POST", "/subjects/" + subject + "?normalize=false&deleted=false", bodyOf(first)));
+    /** The calls of serializers (register or look up a schema, encode a message) and of deserializers (get a schema by its id). */
+    private void checkMessages(String subject, Schema first, Schema second) throws IOException {
+        checkRejected(40401, call("POST", "/subjects/" + subject + "?normalize=false&deleted=false", bodyOf(first)));
         int one = register(subject, first);
         int two = register(subject, second);
-        same(one, register(subject, first));
-        Answer found = call("POST", "/subjects/" + subject + "?normalize=false&deleted=true", bodyOf(first));
-        same("1 " + one, found.json().get("version").asInt() + " " + found.json().get("id").asInt());
+        checkEqual(one, register(subject, first));
+        Response found = call("POST", "/subjects/" + subject + "?normalize=false&deleted=true", bodyOf(first));
+        checkEqual("1 " + one, found.json().get("version").asInt() + " " + found.json().get("id").asInt());
 
         GenericRecord order = new GenericData.Record(second);
         order.put("id", 7L);
@@ -118,80 +118,80 @@ public final class Confluent {
         new GenericDatumWriter<GenericRecord>(second).write(order, encoder);
 
         ByteBuffer received = ByteBuffer.wrap(message.toByteArray());
-        same((byte) 0, received.get());
+        checkEqual((byte) 0, received.get());
         int id = received.getInt();
-        Answer schema = call("GET", "/schemas/ids/" + id + "?fetchMaxId=false&subject=" + subject, null);
+        Response schema = call("GET", "/schemas/ids/" + id + "?fetchMaxId=false&subject=" + subject, null);
         Schema writer = new Schema.Parser().parse(schema.json().get("schema").asText());
-        byte[] rest = new byte[received.remaining()];
-        received.get(rest);
+        byte[] encoded = new byte[received.remaining()];
+        received.get(encoded);
         GenericRecord read = new GenericDatumReader<GenericRecord>(writer, first)
-            .read(null, DecoderFactory.get().binaryDecoder(rest, null));
-        same(7L, read.get("id"));
-        refused(40403, call("GET", "/schemas/ids/2147483647?fetchMaxId=false&subject=" + subject, null));
+            .read(null, DecoderFactory.get().binaryDecoder(encoded, null));
+        checkEqual(7L, read.get("id"));
+        checkRejected(40403, call("GET", "/schemas/ids/2147483647?fetchMaxId=false&subject=" + subject, null));
     }
 
-    /** The calls of tools: versions, levels, checks, modes, deletions. */
-    private void administration(String subject, Schema first, Schema second, Schema bad) throws IOException {
-        same("[1,2]", call("GET", "/subjects/" + subject + "/versions", null).json().toString());
-        same(2, call("GET", "/subjects/" + subject + "/versions/latest", null).json().get("version").asInt());
+    /** The calls of tools: versions, compatibility checks, levels, modes and deletions. */
+    private void checkAdministration(String subject, Schema first, Schema second, Schema incompatible) throws IOException {
+        checkEqual("[1,2]", call("GET", "/subjects/" + subject + "/versions", null).json().toString());
+        checkEqual(2, call("GET", "/subjects/" + subject + "/versions/latest", null).json().get("version").asInt());
         String check = "/compatibility/subjects/" + subject + "/versions";
-        for (Schema schema : new Schema[] {first, second, bad}) {
-            // Avro's own library has to say the same
+        for (Schema schema : new Schema[] {first, second, incompatible}) {
+            // Avro's own library must agree
             boolean isCompatible = SchemaCompatibility.checkReaderWriterCompatibility(schema, second).getType()
                 == SchemaCompatibility.SchemaCompatibilityType.COMPATIBLE;
-            JsonNode answer = call("POST", check + "/latest?normalize=false&verbose=false", bodyOf(schema)).json();
-            same(isCompatible, answer.get("is_compatible").asBoolean());
-            // a verbose check has no messages, which the client takes for a compatible schema; so nginx rejects such a check
+            JsonNode response = call("POST", check + "/latest?normalize=false&verbose=false", bodyOf(schema)).json();
+            checkEqual(isCompatible, response.get("is_compatible").asBoolean());
+            // avroreg sends no messages for a verbose check, so the client would accept every schema: nginx rejects such a check
             if (!isBehindNginx) {
-                answer = call("POST", check + "?normalize=false&verbose=true", bodyOf(schema)).json();
-                same("{\"is_compatible\":" + isCompatible + "}", answer.toString());
+                response = call("POST", check + "?normalize=false&verbose=true", bodyOf(schema)).json();
+                checkEqual("{\"is_compatible\":" + isCompatible + "}", response.toString());
             }
         }
-        refused(404, call("POST", check + "/?normalize=false&verbose=false", bodyOf(second)));
-        refused(409, call("POST", "/subjects/" + subject + "/versions?normalize=false", bodyOf(bad)));
+        checkRejected(404, call("POST", check + "/?normalize=false&verbose=false", bodyOf(second)));
+        checkRejected(409, call("POST", "/subjects/" + subject + "/versions?normalize=false", bodyOf(incompatible)));
 
-        same("FULL", call("PUT", "/config/" + subject, "{\"compatibility\":\"FULL\"}").json().get("compatibility").asText());
-        same("FULL", call("GET", "/config/" + subject, null).json().get("compatibilityLevel").asText());
-        same("READONLY", call("PUT", "/mode/" + subject + "?force=false", "{\"mode\":\"READONLY\"}").json().get("mode").asText());
+        checkEqual("FULL", call("PUT", "/config/" + subject, "{\"compatibility\":\"FULL\"}").json().get("compatibility").asText());
+        checkEqual("FULL", call("GET", "/config/" + subject, null).json().get("compatibilityLevel").asText());
+        checkEqual("READONLY", call("PUT", "/mode/" + subject + "?force=false", "{\"mode\":\"READONLY\"}").json().get("mode").asText());
         // the schema is registered already, but READONLY comes first
-        refused(42205, call("POST", "/subjects/" + subject + "/versions?normalize=false", bodyOf(first)));
-        same(200, call("POST", "/subjects/" + subject + "?normalize=false&deleted=false", bodyOf(first)).status());
-        same("READWRITE", call("PUT", "/mode/" + subject + "?force=false", "{\"mode\":\"READWRITE\"}").json().get("mode").asText());
-        same("1", call("DELETE", "/subjects/" + subject + "/versions/1?permanent=false", null).json().toString());
-        same("[2]", call("GET", "/subjects/" + subject + "/versions?deleted=false", null).json().toString());
-        same("[1,2]", call("GET", "/subjects/" + subject + "/versions?deleted=true", null).json().toString());
-        same("[2]", call("DELETE", "/subjects/" + subject + "?permanent=false", null).json().toString());
-        same("[1,2]", call("DELETE", "/subjects/" + subject + "?permanent=true", null).json().toString());
+        checkRejected(42205, call("POST", "/subjects/" + subject + "/versions?normalize=false", bodyOf(first)));
+        checkEqual(200, call("POST", "/subjects/" + subject + "?normalize=false&deleted=false", bodyOf(first)).status());
+        checkEqual("READWRITE", call("PUT", "/mode/" + subject + "?force=false", "{\"mode\":\"READWRITE\"}").json().get("mode").asText());
+        checkEqual("1", call("DELETE", "/subjects/" + subject + "/versions/1?permanent=false", null).json().toString());
+        checkEqual("[2]", call("GET", "/subjects/" + subject + "/versions?deleted=false", null).json().toString());
+        checkEqual("[1,2]", call("GET", "/subjects/" + subject + "/versions?deleted=true", null).json().toString());
+        checkEqual("[2]", call("DELETE", "/subjects/" + subject + "?permanent=false", null).json().toString());
+        checkEqual("[1,2]", call("DELETE", "/subjects/" + subject + "?permanent=true", null).json().toString());
     }
 
-    /** Numbers as Avro's Java library prints them, such as the default of a DOUBLE column that Debezium copies. */
-    private void numbers(String prefix) throws IOException {
+    /** Default values as Avro's Java library prints them, such as the default of a DOUBLE column that Debezium copies. */
+    private void checkNumbers(String prefix) throws IOException {
         String path = "/subjects/" + prefix + "numbers-value/versions?normalize=false";
         for (double value : new double[] {0.0, 1.0, 9999999.0, 10000000.0, 1.0E10, 0.5}) {
             String name = prefix + "Number" + (long) (value * 10);
             Schema.Field field = new Schema.Field("price", Schema.create(Schema.Type.DOUBLE), null, new DoubleNode(value));
             Schema schema = Schema.createRecord(name, null, null, false, Collections.singletonList(field));
             boolean isInteger = value == Math.rint(value) && !schema.toString().contains("E");
-            same(value >= 10_000_000, schema.toString().contains("E"));
-            Answer answer = call("POST", path, bodyOf(schema));
+            checkEqual(value >= 10_000_000, schema.toString().contains("E"));
+            Response response = call("POST", path, bodyOf(schema));
             if (isInteger) {
-                same(200, answer.status());
-                same(200, call("DELETE", "/subjects/" + prefix + "numbers-value/versions/latest", null).status());
+                checkEqual(200, response.status());
+                checkEqual(200, call("DELETE", "/subjects/" + prefix + "numbers-value/versions/latest", null).status());
             } else {
-                refused(42201, answer);
+                checkRejected(42201, response);
             }
         }
     }
 
-    /** Java's other HTTP library offers HTTP/2 at first, which avroreg doesn't have. */
-    private void newHttpLibrary() throws IOException, InterruptedException {
+    /** Java's newer HTTP library offers HTTP/2 first, which avroreg doesn't support. */
+    private void checkNewerHttpLibrary() throws IOException, InterruptedException {
         HttpClient client = HttpClient.newBuilder().version(HttpClient.Version.HTTP_2).build();
         for (int at = 0; at < 3; at++) {
-            HttpResponse<String> answer = client.send(
+            HttpResponse<String> response = client.send(
                 HttpRequest.newBuilder(URI.create(url + "/config")).header("Content-Type", TYPE)
                     .PUT(HttpRequest.BodyPublishers.ofString("{\"compatibility\":\"BACKWARD\"}")).build(),
                 HttpResponse.BodyHandlers.ofString());
-            same("200 HTTP_1_1 {\"compatibility\":\"BACKWARD\"}", answer.statusCode() + " " + answer.version() + " " + answer.body());
+            checkEqual("200 HTTP_1_1 {\"compatibility\":\"BACKWARD\"}", response.statusCode() + " " + response.version() + " " + response.body());
         }
     }
 
@@ -200,13 +200,13 @@ public final class Confluent {
         String subject = prefix + "orders-value";
         Schema first = order(prefix, "");
         Schema second = order(prefix, ",{\"name\":\"note\",\"type\":\"string\",\"default\":\"\"}");
-        Schema bad = order(prefix, ",{\"name\":\"total\",\"type\":\"double\"}");
+        Schema incompatible = order(prefix, ",{\"name\":\"total\",\"type\":\"double\"}");
         Confluent registry = new Confluent(arguments[0], arguments.length > 2);
-        registry.messages(subject, first, second);
-        registry.administration(subject, first, second, bad);
-        registry.numbers(prefix);
-        registry.newHttpLibrary();
+        registry.checkMessages(subject, first, second);
+        registry.checkAdministration(subject, first, second, incompatible);
+        registry.checkNumbers(prefix);
+        registry.checkNewerHttpLibrary();
         System.out.println("kafka-schema-registry-client, replayed with avro " + Schema.class.getPackage().getImplementationVersion()
-            + ": each response as it has to be");
+            + ": each response is right");
     }
 }

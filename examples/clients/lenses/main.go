@@ -1,9 +1,9 @@
-// What users of the Go client github.com/lensesio/schema-registry do, each answer compared. That client sends its
-// bodies in chunks.
+// Makes the usual calls of the Go client github.com/lensesio/schema-registry, and compares each response. The client
+// sends chunked bodies.
 //
-//	main URL PREFIX          through a server in front, which gives bodies their length
-//	main URL PREFIX alone    to avroreg alone, which refuses such bodies and answers all else; where the connection
-//	                         is closed before all of a body is sent, the client tells that and not the answer
+//	main URL PREFIX          URL of a proxy in front of avroreg; the proxy sends bodies with a length
+//	main URL PREFIX alone    URL of avroreg itself, which rejects chunked bodies. If it closes the connection before
+//	                         the client has sent the whole body, the client reports a connection error, no status
 package main
 
 import (
@@ -21,16 +21,16 @@ const (
 	third  = `{"fields":[{"name":"id","type":"long"},{"name":"total","type":"double"}],"name":"Order","type":"record"}`
 )
 
-// same ends the program where an answer is another than the one wanted.
-func same(what string, wanted, found interface{}) {
+// checkEqual ends the program with status 1 if the values differ.
+func checkEqual(what string, wanted, found interface{}) {
 	if !reflect.DeepEqual(wanted, found) {
 		fmt.Fprintf(os.Stderr, "%s: wanted %v, found %v\n", what, wanted, found)
 		os.Exit(1)
 	}
 }
 
-// refused ends the program where a call wasn't refused with this code.
-func refused(what string, code int, err error) {
+// checkRejected ends the program with status 1 unless the call was rejected with this error code.
+func checkRejected(what string, code int, err error) {
 	if err == nil || !strings.HasSuffix(err.Error(), fmt.Sprintf("(%d)", code)) {
 		fmt.Fprintf(os.Stderr, "%s: wanted code %d, found %v\n", what, code, err)
 		os.Exit(1)
@@ -39,36 +39,36 @@ func refused(what string, code int, err error) {
 
 func main() {
 	client, err := registry.NewClient(os.Args[1])
-	same("the client", nil, err)
+	checkEqual("error of NewClient", nil, err)
 	subject := os.Args[2] + "go-value"
 	_, err = client.Versions(subject)
-	refused("no versions", 40401, err)
+	checkRejected("no versions", 40401, err)
 	if len(os.Args) > 3 {
 		_, err = client.RegisterNewSchema(subject, first)
-		same("a body in chunks was taken", false, err == nil)
+		checkEqual("a chunked body is accepted", false, err == nil)
 		_, err = client.Versions(subject)
-		refused("still no versions", 40401, err)
-		fmt.Println("lensesio/schema-registry: its bodies in chunks are refused, all else is as it has to be")
+		checkRejected("no versions after the rejection", 40401, err)
+		fmt.Println("lensesio/schema-registry: avroreg rejected the chunked body and responded correctly to all other requests")
 		return
 	}
 	one, err := client.RegisterNewSchema(subject, first)
-	same("registered", nil, err)
+	checkEqual("error of RegisterNewSchema", nil, err)
 	two, err := client.RegisterNewSchema(subject, second)
-	same("registered", nil, err)
+	checkEqual("error of RegisterNewSchema", nil, err)
 	_, err = client.RegisterNewSchema(subject, third)
-	refused("an incompatible schema", 409, err)
+	checkRejected("an incompatible schema", 409, err)
 	versions, err := client.Versions(subject)
-	same("versions", []int{1, 2}, versions)
-	there, found, err := client.IsRegistered(subject, first)
-	same("looked up", true, there)
-	same("its number", 1, found.Version)
-	there, _, err = client.IsRegistered(subject, third)
-	same("not looked up", false, there)
+	checkEqual("versions", []int{1, 2}, versions)
+	isRegistered, found, err := client.IsRegistered(subject, first)
+	checkEqual("first is registered", true, isRegistered)
+	checkEqual("version of first", 1, found.Version)
+	isRegistered, _, err = client.IsRegistered(subject, third)
+	checkEqual("third is registered", false, isRegistered)
 	text, err := client.GetSchemaById(one)
-	same("by id", first, text)
+	checkEqual("schema by id", first, text)
 	latest, err := client.GetLatestSchema(subject)
-	same("latest", two, latest.Id)
+	checkEqual("id of the latest version", two, latest.Id)
 	numbered, err := client.GetSchemaBySubject(subject, 2)
-	same("by number", second, numbered.Schema)
-	fmt.Println("lensesio/schema-registry: got what it has to")
+	checkEqual("schema of version 2", second, numbered.Schema)
+	fmt.Println("lensesio/schema-registry: got the right responses")
 }
