@@ -1,44 +1,46 @@
 // A page that shows and changes a registry. It sends requests only to its own origin, where nginx serves the registry too.
-// Texts of the registry become text nodes: nothing here makes HTML of a string.
+// Strings from the registry become text nodes: the page never parses a string as HTML.
 
+/** A setting: its segment in the path, and its member in requests and responses. */
 const LEVEL = {
   name: "Compatibility level",
-  place: "config",
-  answered: "compatibilityLevel",
-  sent: "compatibility",
+  segment: "config",
+  responseMember: "compatibilityLevel",
+  requestMember: "compatibility",
   values: ["BACKWARD", "BACKWARD_TRANSITIVE", "FORWARD", "FORWARD_TRANSITIVE", "FULL", "FULL_TRANSITIVE", "NONE"],
 };
-const MODE = { name: "Mode", place: "mode", answered: "mode", sent: "mode", values: ["READWRITE", "READONLY"] };
+const MODE = { name: "Mode", segment: "mode", responseMember: "mode", requestMember: "mode", values: ["READWRITE", "READONLY"] };
 const SETTINGS = [LEVEL, MODE];
 
-/** The name of a setting: a subject's own one, or without a subject the global one. */
+/** The name of a subject's setting. Without a subject, it is the name of the global setting. */
 function settingName(setting, subject) {
   return subject === undefined ? `Global ${setting.name.toLowerCase()}` : setting.name;
 }
 
-/** Codes: what a mode rejects, and what a level rejects. */
-const FORBIDDEN = 42205;
+/** Error codes: the mode, or the compatibility level, rejects the write. */
+const NOT_PERMITTED = 42205;
 const INCOMPATIBLE = 409;
 
 // ---- Requests ----
 
-/** A refusal of the registry, or no response from it: then a write may have been applied. */
+/** An error response, or no response. If `isOutcomeUnknown`, a write may have been applied. */
 class Fault extends Error {
-  constructor(code, message, isOpen = false) {
+  constructor(code, message, isOutcomeUnknown = false) {
     super(message);
     this.code = code;
-    this.isOpen = isOpen;
+    this.isOutcomeUnknown = isOutcomeUnknown;
   }
 }
 
-/** The path of these parts. */
+/** The path of these segments, percent-encoded. */
 function pathOf(...parts) {
-  // a browser removes such a part from a path, even if it is escaped
+  // browsers remove such a segment from a path, even if it is escaped
   if (parts.some((part) => part === "." || part === "..")) throw new Fault("", "A browser can't request a subject named . or ..");
   return "/" + parts.map(encodeURIComponent).join("/");
 }
 
-async function ask(method, path, body, headers = {}) {
+/** Sends a request. Returns the JSON of a successful response, otherwise throws a `Fault`. */
+async function sendRequest(method, path, body, headers = {}) {
   let response, text;
   try {
     response = await fetch(path, { method, headers, body: body && JSON.stringify(body), cache: "no-store" });
@@ -46,15 +48,15 @@ async function ask(method, path, body, headers = {}) {
   } catch {
     throw new Fault("", "No response", true);
   }
-  const answer = valueOf(text);
-  if (response.ok && answer !== undefined) return answer;
-  const other = (!response.ok && response.statusText) || "This response isn't from the registry";
-  const { error_code: code = response.status, message = other } = answer ?? {};
+  const json = parsedJson(text);
+  if (response.ok && json !== undefined) return json;
+  const otherMessage = (!response.ok && response.statusText) || "This response isn't from the registry";
+  const { error_code: code = response.status, message = otherMessage } = json ?? {};
   throw new Fault(code, message, response.status >= 500);
 }
 
-/** The JSON value of a text, or undefined. */
-function valueOf(text) {
+/** The JSON value of a text, or undefined if the text isn't JSON. */
+function parsedJson(text) {
   try {
     return JSON.parse(text);
   } catch {
@@ -62,23 +64,22 @@ function valueOf(text) {
   }
 }
 
-const read = (path) => ask("GET", path);
+const read = (path) => sendRequest("GET", path);
 
-/** How many requests are sent at once. */
-const ASKED_AT_ONCE = 4;
+const MAX_CONCURRENT_REQUESTS = 4;
 
-/** Reads something that may not exist: `otherwise` if the response is 404. */
-async function readOr(otherwise, path) {
+/** Reads a resource that may not exist. If the status is 404, returns `fallback`. */
+async function readOr(fallback, path) {
   try {
     return await read(path);
   } catch (fault) {
-    if (String(fault.code).startsWith("404")) return otherwise;
+    if (String(fault.code).startsWith("404")) return fallback;
     throw fault;
   }
 }
 
-/** Does the action with each item, a few at a time, and returns the results in the items' order. */
-async function inTurns(items, action) {
+/** Calls the action with each item, a few at a time. Returns the results in the order of the items. */
+async function mapConcurrently(items, action) {
   const results = [];
   let next = 0;
   async function work() {
@@ -87,32 +88,32 @@ async function inTurns(items, action) {
       results[at] = await action(items[at]);
     }
   }
-  await Promise.all(Array.from({ length: ASKED_AT_ONCE }, work));
+  await Promise.all(Array.from({ length: MAX_CONCURRENT_REQUESTS }, work));
   return results;
 }
 
 /**
- * Sends writes. Each intended write has one retry key until the registry has answered it. The keys are in the tab's
- * session storage, so they survive a reload.
+ * Sends writes. A write keeps its retry key until it gets a response. The tab's session storage holds the keys, so they
+ * survive a reload.
  */
 const writes = (() => {
   const STORED = "avroreg: writes without a response";
-  const tries = new Map(stored());
+  const attempts = new Map(stored());
 
   function stored() {
     try {
-      return valueOf(sessionStorage.getItem(STORED)) ?? [];
+      return parsedJson(sessionStorage.getItem(STORED)) ?? [];
     } catch {
       return [];
     }
   }
 
   function store() {
-    const open = [...tries].map(([request, { key, times }]) => [request, { key, times }]);
+    const entries = [...attempts].map(([request, { key, times }]) => [request, { key, times }]);
     try {
-      sessionStorage.setItem(STORED, JSON.stringify(open));
+      sessionStorage.setItem(STORED, JSON.stringify(entries));
     } catch {
-      // the storage is full or turned off: the keys last as long as this page
+      // if the storage is full or turned off, the keys last until a reload
     }
   }
 
@@ -121,77 +122,80 @@ const writes = (() => {
   }
 
   function forget(request) {
-    tries.delete(request);
+    attempts.delete(request);
     store();
   }
 
-  async function deliver(request, attempt) {
+  async function send(request, attempt) {
     attempt.times += 1;
     store();
     try {
-      const answer = await ask(...JSON.parse(request), { "Registry-Retry-Key": attempt.key });
+      const reply = await sendRequest(...JSON.parse(request), { "Registry-Retry-Key": attempt.key });
       forget(request);
-      return { answer, key: attempt.key, times: attempt.times };
+      return { reply, key: attempt.key, times: attempt.times };
     } catch (fault) {
-      if (!fault.isOpen) forget(request);
+      if (!fault.isOutcomeUnknown) forget(request);
       fault.key = attempt.key;
       throw fault;
     } finally {
-      attempt.delivery = undefined;
+      attempt.inProgress = undefined;
     }
   }
 
-  /** The response, its key, and how often the request was sent. While a request is in progress, it isn't sent again. */
+  /**
+   * Sends a write. Returns its reply, its key, and how often it was sent. If the same write is in progress already, returns the
+   * result of that one.
+   */
   function write(method, path, body) {
     const request = JSON.stringify([method, path, body ?? null]);
-    const attempt = tries.get(request) ?? { key: newKey(), times: 0 };
-    tries.set(request, attempt);
-    attempt.delivery ??= deliver(request, attempt);
-    return attempt.delivery;
+    const attempt = attempts.get(request) ?? { key: newKey(), times: 0 };
+    attempts.set(request, attempt);
+    attempt.inProgress ??= send(request, attempt);
+    return attempt.inProgress;
   }
 
   /** The writes without a response that aren't in progress. */
-  function open() {
-    return [...tries].filter(([, attempt]) => !attempt.delivery).map(([request, { key }]) => ({ request, key }));
+  function withoutResponse() {
+    return [...attempts].filter(([, attempt]) => !attempt.inProgress).map(([request, { key }]) => ({ request, key }));
   }
 
-  return { write, open, forget };
+  return { write, withoutResponse, forget };
 })();
 
 /** The global value of each setting. */
 async function globalSettings() {
-  return Promise.all(SETTINGS.map(async (setting) => (await read(pathOf(setting.place)))[setting.answered]));
+  return Promise.all(SETTINGS.map(async (setting) => (await read(pathOf(setting.segment)))[setting.responseMember]));
 }
 
-/** Of each setting its value for a subject, and whether it is the subject's own. */
+/** For each setting, its value for a subject, and whether the subject has its own value. */
 async function settingsOf(subject, globals) {
   return Promise.all(
     SETTINGS.map(async (setting, at) => {
-      const own = await readOr(null, pathOf(setting.place, subject));
-      return { setting, value: own ? own[setting.answered] : globals[at], isOwn: own !== null };
+      const own = await readOr(null, pathOf(setting.segment, subject));
+      return { setting, value: own ? own[setting.responseMember] : globals[at], isOwn: own !== null };
     }),
   );
 }
 
 // ---- Schemas ----
 
-/** The schema of a text. Numbers keep their digits: a default may have more of them than a number here holds. */
+/** Parses a schema. If the browser can, numbers keep all their digits: a default may have more than a JavaScript number holds. */
 function schemaOf(text) {
   return JSON.parse(text, (_, value, context) => (typeof value === "number" && JSON.rawJSON ? JSON.rawJSON(context.source) : value));
 }
 
 const IS_NAMED = new Set(["record", "enum", "fixed"]);
 
-/** A text unchanged, other JSON as text, nothing for undefined. */
+/** A string unchanged, any other value as JSON, and "" for undefined. */
 function plain(value) {
   if (value === undefined) return "";
   return typeof value === "string" ? value : JSON.stringify(value);
 }
 
-/** A type on one line, named types by their names. */
+/** A type on one line. A named type is shown by its name. */
 function typeText(type) {
   if (typeof type === "string") return type;
-  if (Array.isArray(type)) return type.map(typeText).join(" | ") || "union of nothing";
+  if (Array.isArray(type)) return type.map(typeText).join(" | ") || "empty union";
   if (type.type === "array") return `array<${typeText(type.items)}>`;
   if (type.type === "map") return `map<${typeText(type.values)}>`;
   const base = IS_NAMED.has(type.type) ? `${type.type} ${type.name}` : type.type;
@@ -200,7 +204,7 @@ function typeText(type) {
   return `${base} (${plain(type.logicalType)}${digits.length ? " " + digits.join(", ") : ""})`;
 }
 
-/** The named types that a type defines, without those inside them. */
+/** The named types that a type defines, without the types that those define. */
 function definitions(type) {
   if (Array.isArray(type)) return type.flatMap(definitions);
   if (type.type === "array") return definitions(type.items);
@@ -208,7 +212,7 @@ function definitions(type) {
   return IS_NAMED.has(type.type) ? [type] : [];
 }
 
-/** A JSON text with a member or an item on each line. Its numbers and the order of its members stay. */
+/** Indents a JSON text: each member or item is on its own line. Keeps numbers and the order of members. */
 function indented(text) {
   let [depth, before, out] = [0, "", ""];
   for (const token of text.match(/"(?:[^"\\]|\\.)*"|[{}[\],:]|[^\s{}[\],:"]+/g) ?? []) {
@@ -225,13 +229,13 @@ function indented(text) {
 
 // ---- Differences ----
 
-/** If the table had more cells than this, all lines between the first and the last difference count as different. */
-const MOST_CELLS = 4_000_000;
+/** If the table needs more cells, all lines between the first and the last difference count as different. */
+const MAX_CELLS = 4_000_000;
 
-/** The longest common lines of two lists, as pairs of places in ascending order. */
+/** The longest common subsequence of two lists of lines, as pairs of indexes in ascending order. */
 function commonLines(left, right) {
   const width = right.length + 1;
-  if ((left.length + 1) * width > MOST_CELLS) return [];
+  if ((left.length + 1) * width > MAX_CELLS) return [];
   const longest = new Uint32Array((left.length + 1) * width);
   for (let i = left.length - 1; i >= 0; i--) {
     for (let j = right.length - 1; j >= 0; j--) {
@@ -250,7 +254,7 @@ function commonLines(left, right) {
   return pairs;
 }
 
-/** Two texts side by side: rows with a line of each, or of one, by its index. Different lines share a row. */
+/** The rows of a side-by-side view. A row has for each text the index of a line, or null. Different lines can share a row. */
 function sideBySide(left, right) {
   let head = 0;
   let tail = 0;
@@ -277,7 +281,7 @@ function sideBySide(left, right) {
 
 // ---- Elements ----
 
-/** An element; attributes that begin with "on" are listeners, strings among the children become text. */
+/** Makes an element. Attributes that begin with "on" are event listeners. Strings among the children become text nodes. */
 function element(name, attributes = {}, ...children) {
   const node = document.createElement(name);
   for (const [key, value] of Object.entries(attributes)) {
@@ -291,13 +295,13 @@ function element(name, attributes = {}, ...children) {
 
 const count = (number, one) => `${number.toLocaleString("en")} ${one}${number === 1 ? "" : "s"}`;
 
-/** The choice that each view has. */
+/** The choices that all views share. */
 const choices = { deleted: false };
 
-/** The address of a view on this page. */
+/** The link to a view of this page. */
 const address = (parameters) => "#" + new URLSearchParams(choices.deleted ? { ...parameters, deleted: true } : parameters);
 
-/** A message; `kind` is good, bad or open. */
+/** A message. `kind` is good, bad or open (the outcome is unknown). */
 function message(kind, ...content) {
   return element("p", { class: `message ${kind}`, role: kind === "good" ? "status" : "alert", tabindex: -1 }, ...content);
 }
@@ -305,49 +309,49 @@ function message(kind, ...content) {
 function faultMessage(fault) {
   const code = fault.code ? element("b", {}, String(fault.code)) : null;
   const text = fault instanceof Fault ? fault.message : `The page failed: ${fault.message}`;
-  const why = fault.code === FORBIDDEN && element("small", {}, " The mode READONLY rejects writes.");
-  if (!fault.isOpen || !fault.key) return message("bad", code, code && " ", text, ".", why, ...(fault.detail ?? []));
+  const why = fault.code === NOT_PERMITTED && element("small", {}, " The mode READONLY rejects writes.");
+  if (!fault.isOutcomeUnknown || !fault.key) return message("bad", code, code && " ", text, ".", why, ...(fault.detail ?? []));
   return message(
     "open", code, code && " ", text,
     `. The write may have been applied. Send it again: it keeps its retry key, ${fault.key}, so it is applied exactly once.`,
   );
 }
 
-/** How a write was sent that got a response. */
+/** How often a write was sent before it got a response, and its retry key. */
 function sentText({ key, times }) {
   const often = times === 1 ? "Sent once" : `Sent ${times} times and applied exactly once`;
   return element("small", {}, ` ${often}, with the retry key ${key}.`);
 }
 
-/** What a write does, from its method, path and body. */
+/** Describes a write by its method, path and body. */
 function writeText([method, path, body]) {
-  const [place, query] = path.split("?");
-  const [kind, subject, , version] = place.slice(1).split("/").map(decodeURIComponent);
-  const setting = SETTINGS.find((each) => each.place === kind);
-  if (setting) return `Set the ${settingPhrase(setting, subject)} to ${body[setting.sent]}`;
+  const [pathname, query] = path.split("?");
+  const [kind, subject, , version] = pathname.slice(1).split("/").map(decodeURIComponent);
+  const setting = SETTINGS.find((each) => each.segment === kind);
+  if (setting) return `Set the ${settingPhrase(setting, subject)} to ${body[setting.requestMember]}`;
   if (method === "POST") return `Register a schema under ${subject}`;
   const what = version ? `version ${version} of ${subject}` : subject;
   return query ? `Delete ${what} permanently` : `Soft-delete ${what}`;
 }
 
-/** The writes that got no response, also before a reload, each with a button that sends it again with its key. */
-function openWrites() {
-  return writes.open().map(({ request, key }) => {
+/** The writes without a response, also those from before a reload. Each has a button that retries it with its key. */
+function writesWithoutResponse() {
+  return writes.withoutResponse().map(({ request, key }) => {
     const parts = JSON.parse(request);
     const outcome = element("div", { class: "outcome" });
     const box = element("div", { class: "message open pending", role: "status" },
       element("p", {}, element("b", {}, "No response yet: "), `${writeText(parts)}. `,
         element("small", {}, `It may have been applied. Its retry key is ${key}.`)));
     async function send() {
-      let said;
+      let outcomeMessage;
       try {
-        said = message("good", `Done: ${writeText(parts)}.`, sentText(await writes.write(...parts)));
+        outcomeMessage = message("good", `Done: ${writeText(parts)}.`, sentText(await writes.write(...parts)));
       } catch (fault) {
-        if (fault.isOpen) throw fault;
-        said = faultMessage(fault);
+        if (fault.isOutcomeUnknown) throw fault;
+        outcomeMessage = faultMessage(fault);
       }
       await views.show();
-      views.say(said);
+      views.showMessage(outcomeMessage);
     }
     box.append(
       element("div", { class: "actions" },
@@ -367,23 +371,23 @@ function button(text, attributes = {}) {
   return node;
 }
 
-/** Does the form's action with its buttons turned off, and puts the message about it into `place`. */
-async function act(form, place, action) {
+/** Runs an action of a form, with the form's buttons disabled meanwhile. Shows the resulting message in `outcome`. */
+async function act(form, outcome, action) {
   const buttons = [...form.querySelectorAll("button")];
   for (const each of buttons) each.setAttribute("aria-disabled", "true");
-  place.replaceChildren();
+  outcome.replaceChildren();
   try {
     const shown = await action();
-    if (shown) place.replaceChildren(shown);
+    if (shown) outcome.replaceChildren(shown);
   } catch (fault) {
-    place.replaceChildren(faultMessage(fault));
+    outcome.replaceChildren(faultMessage(fault));
   }
-  place.scrollIntoView({ block: "nearest" });
+  outcome.scrollIntoView({ block: "nearest" });
   for (const each of buttons) each.removeAttribute("aria-disabled");
 }
 
-/** Asks a question, and returns whether the person said yes. */
-function agreed(question, consequence, yes) {
+/** Asks the user a question in a dialog. Returns whether the user confirmed. */
+function askToConfirm(question, consequence, yes) {
   const dialog = element("dialog", { "aria-labelledby": "question" });
   dialog.append(
     element("h2", { id: "question" }, question),
@@ -408,21 +412,21 @@ function settingPhrase(setting, subject) {
   return subject === undefined ? phrase : `${phrase} of ${subject}`;
 }
 
-/** What a person has to agree to before a setting gets this value, or null. */
+/** The consequence that the user must confirm before a setting gets this value, or null. */
 function warning(setting, value, subject) {
   if (setting === LEVEL && value === "NONE") {
-    const whom = subject === undefined ? " This applies to each subject without a level of its own." : "";
-    return `NONE accepts every schema, also one with which consumers can't read messages.${whom}`;
+    const scope = subject === undefined ? " This applies to each subject without its own level." : "";
+    return `NONE accepts every schema, even if consumers can't read messages with it.${scope}`;
   }
   if (setting === MODE && value === "READONLY" && subject === undefined) {
-    return "Nobody can register or delete then, except in subjects with a mode of their own. Modes can still be set.";
+    return "The registry then rejects registrations and deletions, except in subjects with their own mode. Modes can still be set.";
   }
   return null;
 }
 
-/** A form that changes a setting: a subject's own one, or the global one. */
+/** A form that sets a subject's setting. Without a subject, it sets the global setting. */
 function settingForm(setting, { value, isOwn }, subject) {
-  const id = `${setting.place}-${subject === undefined ? "all" : "own"}`;
+  const id = `${setting.segment}-${subject === undefined ? "all" : "own"}`;
   const chosen = element("select", { id });
   if (!isOwn) chosen.append(element("option", { value: "", selected: true, disabled: true }, `${value} (global)`));
   for (const each of setting.values) {
@@ -434,17 +438,17 @@ function settingForm(setting, { value, isOwn }, subject) {
     chosen, button("Set", { type: "submit" }), outcome);
 
   async function set() {
-    const path = subject === undefined ? pathOf(setting.place) : pathOf(setting.place, subject);
+    const path = subject === undefined ? pathOf(setting.segment) : pathOf(setting.segment, subject);
     let sent;
     try {
-      sent = await writes.write("PUT", path, { [setting.sent]: chosen.value });
+      sent = await writes.write("PUT", path, { [setting.requestMember]: chosen.value });
     } catch (fault) {
-      // a refused value isn't in force, so it isn't shown any more
-      if (!fault.isOpen) form.reset();
+      // the registry rejected the value, so the form shows the current one again
+      if (!fault.isOutcomeUnknown) form.reset();
       throw fault;
     }
     await views.show();
-    views.say(message("good", `${settingName(setting, subject)} is ${sent.answer[setting.sent]}.`, sentText(sent)));
+    views.showMessage(message("good", `${settingName(setting, subject)} is ${sent.reply[setting.requestMember]}.`, sentText(sent)));
   }
 
   form.addEventListener("submit", async (event) => {
@@ -453,7 +457,7 @@ function settingForm(setting, { value, isOwn }, subject) {
     const wanted = chosen.value;
     const consequence = warning(setting, wanted, subject);
     const question = `Set the ${settingPhrase(setting, subject)} to ${wanted}?`;
-    if (consequence && !(await agreed(question, consequence, `Set ${wanted}`))) form.reset();
+    if (consequence && !(await askToConfirm(question, consequence, `Set ${wanted}`))) form.reset();
     else act(form, outcome, set);
   });
   return form;
@@ -508,7 +512,7 @@ function definition(type) {
   return element("div", { class: "definition" }, facts);
 }
 
-/** A schema as tables of fields: its own if it is a named type, otherwise those of the types inside. */
+/** A schema as tables of fields. If it isn't a named type, the tables are those of the named types in it. */
 function fieldsView(text) {
   const type = schemaOf(text);
   const named = definitions(type);
@@ -545,27 +549,27 @@ function differenceView(old, oldText, version, text) {
 
 const drafts = new Map();
 
-/** The versions that refuse a schema, among those with which the level compares it. */
-async function refusingVersions(subject, level, schema) {
+/** The versions that are incompatible with a schema, of those with which the level compares it. */
+async function incompatibleVersions(subject, level, schema) {
   const live = await readOr([], pathOf("subjects", subject, "versions"));
   const compared = level.endsWith("_TRANSITIVE") ? live : live.slice(-1);
-  const answers = await inTurns(compared, (version) =>
-    ask("POST", pathOf("compatibility", "subjects", subject, "versions", String(version)), schema));
-  return compared.filter((_, at) => !answers[at].is_compatible);
+  const replies = await mapConcurrently(compared, (version) =>
+    sendRequest("POST", pathOf("compatibility", "subjects", subject, "versions", String(version)), schema));
+  return compared.filter((_, at) => !replies[at].is_compatible);
 }
 
-/** Names each version that refuses a schema, with a link to it. */
-async function refusalText(subject, schema) {
+/** Names each version that is incompatible with a schema, with a link to the version. */
+async function incompatibilityText(subject, schema) {
   const { compatibilityLevel: level } = await read(pathOf("config", subject) + "?defaultToGlobal=true");
-  const refusing = await refusingVersions(subject, level, schema);
-  if (refusing.length === 0) return [` The level ${level} refuses it no longer: check it again.`];
-  const links = refusing.map((version) => element("a", { href: address({ subject, version }) }, String(version)));
+  const incompatible = await incompatibleVersions(subject, level, schema);
+  if (incompatible.length === 0) return [` The level ${level} accepts it now. Check it again.`];
+  const links = incompatible.map((version) => element("a", { href: address({ subject, version }) }, String(version)));
   const listed = links.flatMap((link, at) => [at === 0 ? "" : at === links.length - 1 ? " and " : ", ", link]);
   return [` The level ${level} compares it with `, level.endsWith("_TRANSITIVE") ? "all versions" : "the latest version",
-    `. Refused by version${refusing.length === 1 ? "" : "s"} `, ...listed, "."];
+    `. Refused by version${incompatible.length === 1 ? "" : "s"} `, ...listed, "."];
 }
 
-/** A form that checks and registers a schema: under this subject, or under one that is typed in. */
+/** A form that checks and registers a schema. Without a subject, the form has an input for its name. */
 function newSchemaForm(subject) {
   const outcome = element("div", { class: "outcome" });
   const name = element("input", { id: "new-subject", required: true, autocomplete: "off", spellcheck: "false" });
@@ -575,30 +579,30 @@ function newSchemaForm(subject) {
     oninput: () => drafts.set(subject, text.value),
   });
   text.value = drafts.get(subject) ?? "";
-  const under = () => subject ?? name.value;
+  const targetSubject = () => subject ?? name.value;
   const schema = () => ({ schema: text.value });
 
   async function check() {
-    const [target, sent] = [under(), schema()];
-    const { is_compatible: isCompatible } = await ask("POST", pathOf("compatibility", "subjects", target, "versions"), sent);
-    if (!isCompatible) return message("bad", "Not compatible.", ...(await refusalText(target, sent)));
+    const [target, sent] = [targetSubject(), schema()];
+    const { is_compatible: isCompatible } = await sendRequest("POST", pathOf("compatibility", "subjects", target, "versions"), sent);
+    if (!isCompatible) return message("bad", "Not compatible.", ...(await incompatibilityText(target, sent)));
     const { compatibilityLevel: level } = await read(pathOf("config", target) + "?defaultToGlobal=true");
     return message("good", `Compatible: the level ${level} accepts it.`);
   }
 
   async function register() {
-    const [target, body] = [under(), schema()];
+    const [target, body] = [targetSubject(), schema()];
     let sent;
     try {
       sent = await writes.write("POST", pathOf("subjects", target, "versions"), body);
     } catch (fault) {
-      if (fault.code === INCOMPATIBLE) fault.detail = await refusalText(target, body).catch(() => []);
+      if (fault.code === INCOMPATIBLE) fault.detail = await incompatibilityText(target, body).catch(() => []);
       throw fault;
     }
-    const { version } = await ask("POST", pathOf("subjects", target), body);
+    const { version } = await sendRequest("POST", pathOf("subjects", target), body);
     drafts.delete(subject);
     await views.go({ subject: target, version });
-    views.say(message("good", `Version ${version} of ${target} has this schema, id ${sent.answer.id}.`, sentText(sent)));
+    views.showMessage(message("good", `Version ${version} of ${target} has this schema, id ${sent.reply.id}.`, sentText(sent)));
   }
 
   const form = element("form", { class: "new", onsubmit: (event) => event.preventDefault() },
@@ -611,7 +615,7 @@ function newSchemaForm(subject) {
     element("div", { class: "actions" }, button("Check", { onclick: press(check) }),
       button("Register", { class: "main", onclick: press(register) })),
     element("p", { class: "faint" }, "A write keeps its retry key until it gets a response. "
-      + "So it is applied exactly once, also after a double click or a reload."),
+      + "So it is applied exactly once, even after a double click or a reload."),
     outcome);
   return form;
 }
@@ -621,16 +625,16 @@ function newSchemaForm(subject) {
 const COLUMNS = ["Subject", "Latest version", "Schema", ...SETTINGS.map((setting) => setting.name)];
 const ROWS_AT_ONCE = 200;
 
-/** Fills the rows that are in view, a few at a time. */
+/** Fills rows when they come into view, a few at a time. */
 function fillerInView() {
   const fillOf = new WeakMap();
-  const wanted = new Set();
+  const waiting = new Set();
   let busy = 0;
 
   function next() {
-    for (const row of wanted) {
-      if (busy === ASKED_AT_ONCE) return;
-      wanted.delete(row);
+    for (const row of waiting) {
+      if (busy === MAX_CONCURRENT_REQUESTS) return;
+      waiting.delete(row);
       observer.unobserve(row);
       busy += 1;
       fillOf.get(row)().finally(() => {
@@ -642,8 +646,8 @@ function fillerInView() {
 
   const observer = new IntersectionObserver((entries) => {
     for (const entry of entries) {
-      if (entry.isIntersecting) wanted.add(entry.target);
-      else wanted.delete(entry.target);
+      if (entry.isIntersecting) waiting.add(entry.target);
+      else waiting.delete(entry.target);
     }
     next();
   });
@@ -694,7 +698,7 @@ async function subjectsView(parameters) {
   ]);
   const isLive = new Set(live);
   const subjects = all ?? live;
-  const told = element("p", { class: "faint told", role: "status" });
+  const summary = element("p", { class: "faint told", role: "status" });
   const body = element("tbody");
   const rest = element("p", { class: "faint" });
   const search = element("input", { type: "search", id: "search", placeholder: "Search", "aria-label": "Search subjects",
@@ -716,7 +720,7 @@ async function subjectsView(parameters) {
     body.append(...found.slice(body.rows.length, body.rows.length + ROWS_AT_ONCE).map(rowOf));
     const below = found.length - body.rows.length;
     rest.textContent = below ? `${below.toLocaleString("en")} more below` : "";
-    // observed anew, it is reported again if it is still in view
+    // if the last row is still in view, the observer reports it again
     end.unobserve(rest);
     end.observe(rest);
   }
@@ -726,7 +730,7 @@ async function subjectsView(parameters) {
     found = subjects.filter((subject) => subject.toLowerCase().includes(wanted));
     body.replaceChildren();
     addRows();
-    told.textContent = found.length === subjects.length ? count(found.length, "subject")
+    summary.textContent = found.length === subjects.length ? count(found.length, "subject")
       : found.length ? `${found.length.toLocaleString("en")} of ${count(subjects.length, "subject")}`
       : `No subject has “${search.value}” in its name.`;
   }
@@ -740,7 +744,7 @@ async function subjectsView(parameters) {
     if (search.isConnected) views.replace(shown());
   }
   search.addEventListener("input", () => {
-    // browsers block an address that changes with every key
+    // browsers limit how often the address may change
     clearTimeout(timer);
     timer = setTimeout(keepInAddress, 300);
     draw();
@@ -752,7 +756,7 @@ async function subjectsView(parameters) {
   return [
     element("h1", { tabindex: -1 }, "Subjects"),
     element("div", { class: "bar" }, search, deletedSwitch(shown), element("div", { class: "settings" }, forms)),
-    subjects.length ? told : none,
+    subjects.length ? summary : none,
     subjects.length > 0 && element("table", { class: "subjects" },
       element("thead", {}, element("tr", {}, COLUMNS.map((name) => element("th", { scope: "col" }, name)))),
       body),
@@ -762,22 +766,22 @@ async function subjectsView(parameters) {
 
 // ---- A subject ----
 
-/** Asks, deletes, and shows the subject again, or the subjects if nothing is left of it. */
+/** Deletes after a confirmation. Then shows the subject again, or the list of subjects if the subject no longer exists. */
 async function remove(path, { what, consequence, isPermanent, isLast }) {
   const question = isPermanent ? `Delete ${what} permanently?` : `Soft-delete ${what}?`;
-  if (!(await agreed(question, consequence, isPermanent ? "Delete permanently" : "Soft-delete"))) return;
+  if (!(await askToConfirm(question, consequence, isPermanent ? "Delete permanently" : "Soft-delete"))) return;
   try {
     const sent = await writes.write("DELETE", path + (isPermanent ? "?permanent=true" : ""));
     await (isPermanent && isLast ? views.go({}) : views.show());
-    views.say(message("good", isPermanent ? `Deleted ${what} permanently.` : `Soft-deleted ${what}.`, sentText(sent)));
+    views.showMessage(message("good", isPermanent ? `Deleted ${what} permanently.` : `Soft-deleted ${what}.`, sentText(sent)));
   } catch (fault) {
-    views.say(faultMessage(fault));
+    views.showMessage(faultMessage(fault));
   }
 }
 
 function deleteVersionButton(subject, version, isLive, isLast) {
   const consequence = isLive
-    ? "Later schemas aren't compared with it any more. Its schema can still be read by its id."
+    ? "Later schemas are no longer compared with it. Its schema can still be read by its id."
     : "This can't be undone.";
   return button(isLive ? "Soft-delete version…" : "Delete version permanently…", {
     id: "delete-version",
@@ -796,7 +800,7 @@ function deleteSubjectButton(subject, live, all) {
   });
 }
 
-/** The part for one version: the links to its views, and one of these views. */
+/** The section for one version: the links to its views, and the chosen view. */
 async function versionPart(subject, version, { versions, live, all }, { view, against }) {
   const readVersion = (number) => read(pathOf("subjects", subject, "versions", String(number)) + "?deleted=true");
   const others = versions.filter((other) => other !== version);
@@ -848,14 +852,14 @@ function newSubjectView() {
 
 // ---- A schema by its id ----
 
-/** How many versions that have a schema are listed. */
-const MOST_USES = 500;
+/** The maximum number of versions in the list of an id. */
+const MAX_USES = 500;
 
 function idLink(id) {
   return element("a", { class: "id", href: address({ id }), "aria-label": `Schema with id ${id}` }, `id ${id}`);
 }
 
-/** The versions that have the schema of an id, each with a link. */
+/** The versions that have an id, each with a link. */
 async function usesOf(id) {
   const path = pathOf("schemas", "ids", id, "versions");
   const [all, live] = await Promise.all([read(path + "?deleted=true"), read(path)]);
@@ -866,8 +870,8 @@ async function usesOf(id) {
     !isLive.has(name(use)) && [" ", element("span", { class: "tag" }, "soft-deleted")]);
   return [
     element("h2", {}, `Used by ${count(all.length, "version")}`),
-    element("ul", { class: "uses" }, all.slice(0, MOST_USES).map(item)),
-    all.length > MOST_USES && element("p", { class: "faint" }, `${(all.length - MOST_USES).toLocaleString("en")} more`),
+    element("ul", { class: "uses" }, all.slice(0, MAX_USES).map(item)),
+    all.length > MAX_USES && element("p", { class: "faint" }, `${(all.length - MAX_USES).toLocaleString("en")} more`),
   ];
 }
 
@@ -903,7 +907,7 @@ async function idView({ id, view }) {
 
 // ---- The page ----
 
-/** The current view, from the address after the page's `#`. So each view has a link. */
+/** Shows the view that the address names after its `#`. So each view has a link. */
 const views = (() => {
   const main = document.querySelector("main");
   let latest = 0;
@@ -921,10 +925,10 @@ const views = (() => {
     return "new" in parameters ? "New subject" : "Subjects";
   }
 
-  /** The element that replaces the one that had the focus before the view was drawn anew. */
-  function standIn(held) {
-    if (held?.id) return document.getElementById(held.id);
-    const href = held?.getAttribute("href");
+  /** The new element for the one that had the focus before the view was redrawn. */
+  function replacementOf(focused) {
+    if (focused?.id) return document.getElementById(focused.id);
+    const href = focused?.getAttribute("href");
     return href && [...main.querySelectorAll("a")].find((link) => link.getAttribute("href") === href);
   }
 
@@ -940,18 +944,18 @@ const views = (() => {
       content = [element("h1", { tabindex: -1 }, titleOf(parameters)), faultMessage(fault), button("Try again", { onclick: show })];
     }
     if (turn !== latest) return;
-    const held = main.contains(document.activeElement) ? document.activeElement : null;
+    const focused = main.contains(document.activeElement) ? document.activeElement : null;
     const [heading, ...rest] = content.filter(Boolean);
-    main.replaceChildren(heading, ...openWrites(), ...rest);
+    main.replaceChildren(heading, ...writesWithoutResponse(), ...rest);
     main.removeAttribute("aria-busy");
     const before = title;
     title = titleOf(parameters);
     document.title = `${title} – avroreg`;
-    if (before === title) standIn(held)?.focus({ preventScroll: true });
+    if (before === title) replacementOf(focused)?.focus({ preventScroll: true });
     else if (before) main.querySelector("h1").focus();
   }
 
-  /** Makes the address that of these parameters, without a new entry in the browser's history. */
+  /** Changes the address to that of another view, without a new entry in the browser's history. */
   function replace(parameters) {
     history.replaceState(null, "", address(parameters));
   }
@@ -962,15 +966,15 @@ const views = (() => {
     return show();
   }
 
-  /** Puts a message below the heading, and the focus to it. */
-  function say(text) {
+  /** Shows a message below the heading, and moves the focus to it. */
+  function showMessage(text) {
     main.querySelector(".said")?.remove();
     text.classList.add("said");
     main.querySelector("h1").after(text);
     text.focus();
   }
 
-  return { show, go, replace, say };
+  return { show, go, replace, showMessage };
 })();
 
 window.addEventListener("hashchange", views.show);
