@@ -16,7 +16,7 @@ cd "$trials" || exit 1
 compiler="gcc libc6-dev python3"
 if [ -n "${WHOLE:-}" ]; then
   try migrate "$compiler" ./migrate.sh
-  try refuse_memory "$compiler" ./refuse_memory.sh memory new old words
+  try refuse_memory "$compiler" ./refuse_memory.sh memory new old lines
   try faults "$compiler" ./faults.sh
 else
   try migrate "$compiler" ./migrate.sh old many lines

@@ -122,7 +122,7 @@ def fill(series, file, size):
 
 def fill_layout_one(file, size):
     """Makes a registry of layout 1 with one kept reply for each version."""
-    first = read_cases(f"{TRIALS}/../tests/words/migrate")[0].names["FIRST"]
+    first = read_cases(f"{TRIALS}/../tests/command_lines/migrate")[0].names["FIRST"]
     with open(file, "xb") as made:
         made.write(first())
     numbers = range(size.versions)

@@ -37,7 +37,7 @@ KILLED = -signal.SIGKILL
 WAYS = {"error": (None,), "once": (None,), "full": (None,), "kill": range(int(os.environ.get("SEEDS", "5")))}
 
 # The tables of layout 1, from tests/names.
-NAMES = read_cases(f"{TRIALS}/../tests/words/migrate")[0].names
+NAMES = read_cases(f"{TRIALS}/../tests/command_lines/migrate")[0].names
 FIRST = NAMES["FIRST"]
 
 

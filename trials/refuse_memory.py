@@ -28,7 +28,7 @@ from harness.messages import NORMAL_END, build_error_response, check_responses
 from harness.program import PROGRAM, CaseError, raise_difference, read_file, run_program, temporary_folder, write_file
 from harness.reading import read_cases
 from harness.sessions import Run, parse_session
-from harness.words import Execution
+from harness.command_lines import Execution
 
 BENCH, REFUSER = os.environ["BENCH"], os.environ["REFUSER"]
 MEMORY = (2, b"avroreg: out of memory\n")
@@ -202,7 +202,7 @@ def command_lines():
     """Tries each command line. Listings of equal files open them in the same way, so later ones skip the allocations that the
     first one needs before it prints."""
     needed = {}
-    for case in read_cases(f"{TRIALS}/refuse_memory/words"):
+    for case in read_cases(f"{TRIALS}/refuse_memory/command_lines"):
         with temporary_folder() as folder, temporary_folder() as kept:
             scene = CommandLine(case, folder)
             scene.kept = kept
@@ -235,7 +235,7 @@ KINDS = {
     "memory": lambda: sessions("in memory", Session.in_memory, twice=True),
     "new": lambda: sessions("over a new file", Session.over_a_file),
     "old": lambda: sessions("over a file with a registry", Session.over_a_file, has_before=True),
-    "words": command_lines,
+    "lines": command_lines,
     "bench": bench,
 }
 

@@ -3,14 +3,14 @@
 # right one or 50001. A request with 50001 must have no effect. If a run ends early, it must end with `out of memory`. The
 # script ends at the first wrong response, and prints how many allocations failed.
 #
-#   AVROREG=PROGRAM BENCH=PROGRAM trials/refuse_memory.sh [memory|new|old|words|bench]..
+#   AVROREG=PROGRAM BENCH=PROGRAM trials/refuse_memory.sh [memory|new|old|lines|bench]..
 #
 # The arguments choose the tests. Without arguments all run:
 #
 #   memory   sessions in memory
 #   new      sessions over a new file
 #   old      sessions over a file with a registry
-#   words    command lines
+#   lines    command lines
 #   bench    the benchmark of schemas, which BENCH names, by default as `rt run` builds it
 #
 # The folder refuse_memory has the sessions and the command lines. refuse_memory.py describes the comparison.
