@@ -76,7 +76,7 @@ def send_during_many(connect, repeated, single):
 
     The first client sends `repeated` 1,000 times at once, and reads ten megabytes of responses a second. The second client
     sends `single` once. Returns the bytes that the second client receives. Raises CaseError unless the first client received
-    fewer than 1,000 responses, each of them whole.
+    at least one and fewer than 1,000 responses, each of them whole.
     """
     with connect() as first, connect() as second:
         first.sendall(repeated * REPETITIONS)
@@ -91,7 +91,10 @@ def send_during_many(connect, repeated, single):
 
 
 def check_equal_responses(received):
-    """Checks that the bytes are whole equal responses, fewer than REPETITIONS. Raises CaseError if they aren't."""
+    """Checks that the bytes are whole equal responses, at least one and fewer than REPETITIONS. Raises CaseError if they
+    aren't."""
+    if not received:
+        raise CaseError("the server closed a connection without a response")
     head, _, body = received.partition(b"\r\n\r\n")
     prefix = b"Content-Length: "
     length = next((int(line[len(prefix) :]) for line in head.split(b"\r\n") if line.startswith(prefix)), 0)
