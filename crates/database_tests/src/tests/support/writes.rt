@@ -1,4 +1,4 @@
-//! A list of deliveries: writes with retry keys, and reads between them.
+//! A list of deliveries: writes with retry keys, a retry, and reads between them.
 
 use super::deliveries::{ListedCommand, Row};
 
@@ -9,10 +9,14 @@ const INCOMPATIBLE: &str =
 
 const NOT_SOFT_DELETED: &str = "{\"error_code\":40405,\"message\":\"Subject is not soft-deleted\"}";
 
-/// Deliveries to a new registry. They leave eight kept replies, two texts, no version and no
-/// evidence. The read between the writes needs no row, so it always has the same reply when the
-/// list is sent again. After a disk fault its reply must be 50001 too.
-pub const WRITES: [Row; 11] = [
+const REUSED: &str =
+    "{\"error_code\":42290,\"message\":\"Retry key was used for another request\"}";
+
+/// Deliveries to a new registry: writes, a retry of one, its key with another command, and reads.
+/// They leave eight kept replies, two texts, no version and no evidence. The read between the
+/// writes needs no row, so it always has the same reply when the list is sent again. After a disk
+/// fault its reply must be 50001 too.
+pub const WRITES: [Row; 13] = [
     (Some("z1"), ListedCommand::SetGlobal("FULL"), 200, FULL_SET),
     (
         Some("z2"),
@@ -35,6 +39,18 @@ pub const WRITES: [Row; 11] = [
         INCOMPATIBLE,
     ),
     (None, ListedCommand::Types, 200, "[\"AVRO\"]"),
+    (
+        Some("z2"),
+        ListedCommand::Register("t", "\"int\""),
+        200,
+        "{\"id\":1}",
+    ),
+    (
+        Some("z2"),
+        ListedCommand::DeleteVersion("t", "1"),
+        422,
+        REUSED,
+    ),
     (
         Some("z6"),
         ListedCommand::DeleteSubject("t", true),
