@@ -8,10 +8,11 @@ mod opening;
 mod server;
 
 use avro_nodes::OutOfMemory;
-use database::{FileDatabase, close};
+use database::close;
 use opening::HostFiles;
-use reg_jobs::{Errors, Job, LineFault, Opened, Task, do_job, open_for, task_of};
+use reg_jobs::{Errors, Job, LineFault, Opener, Task, do_job, open_for, task_of};
 use server::serve;
+use sqlite::{Alter, Connection};
 use std::alloc::{AllocError, AllocFailed, Global};
 use std::io;
 use std::process::ExitCode;
@@ -67,45 +68,59 @@ fn arguments_of<R: Env + AllocGlobal>(rt: &R) -> Result<Vec<String>, StartError>
     }
 }
 
-/// The database file that a job names, or `None`.
-fn database_of(job: &Job) -> Option<&str> {
-    match job {
-        Job::Run {
-            database: Some(file),
-        } => Some(file.as_str()),
-        Job::Run { database: None } | Job::Text { .. } | Job::Check { .. } => None,
-        Job::List { database, .. } | Job::Migrate { database } | Job::Audit { database } => {
-            Some(database.as_str())
+/// The database file that a task names, or `None`.
+fn database_of(task: &Task) -> Option<&str> {
+    match task {
+        Task::Job(
+            Job::Run {
+                database: Some(file),
+            },
+        ) => Some(file.as_str()),
+        Task::Job(Job::Run { database: None } | Job::Text { .. } | Job::Check { .. }) => None,
+        Task::Job(
+            Job::List { database, .. } | Job::Migrate { database } | Job::Audit { database },
+        ) => Some(database.as_str()),
+        Task::Server(server) => Some(server.database.as_str()),
+    }
+}
+
+/// Does a task with the files that it opens. Returns the program's status, and the connection to
+/// the database if one is open.
+fn do_task<S: Alter + Drop, O: Opener<S>>(
+    rt: &HostRuntime,
+    opener: &O,
+    task: &Task,
+) -> Result<(u8, Option<Connection<S>>), OutOfMemory> {
+    let alloc = rt.alloc();
+    let mut errors = Errors::to(rt.stderr());
+    match task {
+        Task::Job(job) => {
+            let opened = open_for(alloc, opener, job)?;
+            Ok(do_job(
+                alloc,
+                job,
+                opened,
+                &mut rt.stdin(),
+                &mut rt.stdout(),
+                &mut errors,
+            ))
+        }
+        Task::Server(server) => {
+            let opened = opener.open_to_run(server.database.as_str())?;
+            Ok(serve(rt, server, opened, &mut errors))
         }
     }
 }
 
-/// Does a job with what was opened for it, and closes the database.
-fn do_and_close(rt: &HostRuntime, job: &Job, opened: Opened<FileDatabase>) -> u8 {
-    let (status, connection) = do_job(
-        rt.alloc(),
-        job,
-        opened,
-        &mut rt.stdin(),
-        &mut rt.stdout(),
-        &mut Errors::to(rt.stderr()),
-    );
-    if let (Some(file), Some(connection)) = (database_of(job), connection) {
-        close(rt, file, connection);
-    }
-    status
-}
-
-/// Does what the arguments request, and returns the program's status.
+/// Does what the arguments request, closes the database, and returns the program's status.
 fn run_arguments(rt: &HostRuntime) -> Result<u8, StartError> {
     let arguments = arguments_of(rt)?;
-    match task_of(rt.alloc(), arguments.as_slice())? {
-        Task::Job(job) => {
-            let opened = open_for(rt.alloc(), &HostFiles { rt }, &job)?;
-            Ok(do_and_close(rt, &job, opened))
-        }
-        Task::Server(server) => serve(rt, &server),
+    let task = task_of(rt.alloc(), arguments.as_slice())?;
+    let (status, connection) = do_task(rt, &HostFiles { rt }, &task)?;
+    if let (Some(file), Some(connection)) = (database_of(&task), connection) {
+        close(rt, file, connection);
     }
+    Ok(status)
 }
 
 /// The size in bytes of a block that is freed at the start.

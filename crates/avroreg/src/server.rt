@@ -1,22 +1,20 @@
 //! Serves a registry on a port of 127.0.0.1.
 
-use crate::StartError;
-use crate::database::{FileDatabase, close, open_database_to_run};
-use reg_jobs::{Errors, Outcome, Server, open_store, report, serve_with_clock};
+use reg_jobs::{Errors, Opened, Outcome, Server, open_store, report, serve_with_clock};
 use reg_service::Service;
 use reg_store::Store;
-use sqlite::Connection;
+use sqlite::{Alter, Connection};
 use std::io::Stderr;
 use std::net::{Ipv4Addr, TcpListener};
 
 /// Serves the connections to the server's port over a store. Returns the store's connection, and
 /// `NotListening` if no connection can come to the port.
-fn listen(
+fn listen<S: Alter + Drop>(
     rt: &HostRuntime,
     server: &Server,
-    store: Store<FileDatabase>,
+    store: Store<S>,
     errors: &mut Errors<Stderr>,
-) -> (Option<Outcome>, Connection<FileDatabase>) {
+) -> (Option<Outcome>, Connection<S>) {
     let mut service = Service::new(rt.alloc(), store);
     let fault = match TcpListener::bind(rt, (Ipv4Addr::LOCALHOST, server.port)) {
         Ok(listener) => {
@@ -35,29 +33,24 @@ fn listen(
     (fault, service.into_store().into_connection())
 }
 
-/// Opens the server's database, serves its connections, closes it, and returns the program's
-/// status.
-///
-/// # Errors
-///
-/// `OutOfMemory` if an allocation for opening the file fails. Nothing was served then.
-pub fn serve(rt: &HostRuntime, server: &Server) -> Result<u8, StartError> {
-    let file = server.database.as_str();
-    let opened = open_database_to_run(rt, file)?;
-    let mut errors = Errors::to(rt.stderr());
+/// Serves a server's connections over the database that was opened for it. Returns the program's
+/// status, and the connection to the database if one is open.
+pub fn serve<S: Alter + Drop>(
+    rt: &HostRuntime,
+    server: &Server,
+    opened: Opened<S>,
+    errors: &mut Errors<Stderr>,
+) -> (u8, Option<Connection<S>>) {
     let (fault, connection) = match open_store(rt.alloc(), opened) {
         Ok(store) => {
-            let (fault, connection) = listen(rt, server, store, &mut errors);
+            let (fault, connection) = listen(rt, server, store, errors);
             (fault, Some(connection))
         }
         Err((error, connection)) => (Some(Outcome::Unopened(error)), connection),
     };
     let status = match fault {
-        Some(outcome) => report(&mut errors, outcome, file),
+        Some(outcome) => report(errors, outcome, server.database.as_str()),
         None => 0,
     };
-    if let Some(connection) = connection {
-        close(rt, file, connection);
-    }
-    Ok(status)
+    (status, connection)
 }
