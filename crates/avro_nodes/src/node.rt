@@ -5,7 +5,8 @@
 
 use serde_json::{Map, Value};
 
-/// The attributes that have no meaning in a schema, such as `doc` and `logicalType`, by name.
+/// The other attributes of a type or a field, such as `doc` and `logicalType`, by name. The
+/// identity text contains them, and resolution ignores them.
 pub type Extra = Map<String, Value>;
 
 /// A primitive type (Avro 1.11 specification, Primitive Types).

@@ -227,7 +227,8 @@ fn unchanged_len(text: &str) -> usize
 /// Returns the text with each number rewritten in plain decimal digits, or `None` if a number isn't
 /// an integer from -2^63 to 2^64 - 1 (this project's choice). A number is a maximal run of the
 /// characters `0` to `9`, `+`, `-`, `.`, `e`, `E` outside the strings that begins with a digit or
-/// `-`. It must have no leading zero, no exponent, and only zeros after its point; `-0` is 0.
+/// `-`. It must have no leading zero and no exponent. A point must be followed by one or more zeros
+/// and nothing else. `-0` is rewritten as `0`.
 ///
 /// # Errors
 ///
