@@ -53,7 +53,7 @@ abbrev pub texts_if_any : (List ℕ → Option (List ℕ)) → Option Data → O
 texts_if_any rule None = Some []
 texts_if_any rule (Some d) = as_array d >>= λ ds. texts_in rule ds
 
--- the size in bytes of a `fixed` type: an integer below 2^31 (this project's choice)
+-- the size in bytes of a `fixed` type: an integer from 0 to 2^31 - 1 (this project's choice)
 unfoldable pub size_of : Option Data → Option ℕ
 size_of o = o >>= as_number >>= as_u64 >>= λ n. if nat_lt n (2 ^ 31) then Some n else None
 

@@ -35,7 +35,7 @@ module _ (nodes : List NodeView) where
       fits_double : {n : json.Num} {z : ℤ} {extra : Members} → as_i64 n ≡ Some z → FitsNode (number n) (primitive Double extra)
       fits_bytes : {s : List ℕ} {extra : Members} → is_bytes s ≡ true → FitsNode (string s) (primitive Bytes extra)
       fits_string : {s : List ℕ} {extra : Members} → FitsNode (string s) (primitive Text extra)
-      -- any string fits an enum, even one that is no symbol
+      -- any string fits an enum, even one that is no symbol (this project's choice)
       fits_enum : {s : List ℕ} {named : NamedView} {symbols : List (List ℕ)} {fallback : Option (List ℕ)} {extra : Members} → FitsNode (string s) (enumeration named symbols fallback extra)
       -- the number of code points equals the size (this project's choice)
       fits_fixed : {s : List ℕ} {named : NamedView} {extra : Members} → is_bytes s ≡ true → FitsNode (string s) (fixed named (length (chars s)) extra)

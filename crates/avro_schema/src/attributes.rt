@@ -136,7 +136,7 @@ pub fn names_if_any(
     }
 }
 
-/// The size in bytes of a `fixed` type. It must be an integer below 2^31.
+/// The size in bytes of a `fixed` type. `None` if it isn't an integer from 0 to 2^31 - 1.
 #[tactic(auto, unfolding(crate::specs::Attributes::size_of))]
 pub fn size_of(attribute: Option<Json<'_>>) -> Option<u32>
     ensures { result ≡ size_of (option_map value_data attribute.entry) }

@@ -28,7 +28,8 @@ fn member_of<'a>(members: &'a Extra, key: &str) -> Option<&'a Value>
     members.get(key)
 }
 
-/// Whether the value, which must nest less than `depth` levels deep, fits the type at the place.
+/// Whether the value fits the type at the place. Nothing fits at depth 0, so `depth` must be
+/// greater than the nesting depth of the value.
 #[cycle(fit)]
 #[tactic(auto, unfolding(crate::specs::Inside::Fitting::fits))]
 pub fn fits(

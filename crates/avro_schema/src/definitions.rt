@@ -185,9 +185,9 @@ fn fallback_of(attribute: Option<Value>, symbols: &[String]) -> Result<Option<St
 /// # Errors
 ///
 /// `TooLarge` if there is no room for a node or an attribute nests too deep. `BadShape` if the
-/// symbols are missing or no array of strings, or if the default isn't one of them. `BadName` if a
-/// symbol is malformed, and `Redefined` if it occurs twice. `OutOfMemory` if allocation fails. Also
-/// the errors of `named_of`. After an error, the name may be defined.
+/// symbols are missing or aren't an array of strings, or if the default isn't one of them.
+/// `BadName` if a symbol is malformed, and `Redefined` if it occurs twice. `OutOfMemory` if
+/// allocation fails. Also the errors of `named_of`. After an error, the name may be defined.
 #[tactic(auto, unfolding(crate::specs::Inside::Declarations::enum_at))]
 pub fn enum_at(
     alloc: Global,
@@ -222,8 +222,8 @@ pub fn enum_at(
 /// # Errors
 ///
 /// `TooLarge` if there is no room for a node or an attribute nests too deep. `BadShape` if the size
-/// is missing or not an integer below 2^31. `OutOfMemory` if allocation fails. Also the errors of
-/// `named_of`. After an error, the name may be defined.
+/// is missing or isn't an integer from 0 to 2^31 - 1. `OutOfMemory` if allocation fails. Also the
+/// errors of `named_of`. After an error, the name may be defined.
 #[tactic(auto, unfolding(crate::specs::Inside::Declarations::fixed_at))]
 pub fn fixed_at(
     alloc: Global,

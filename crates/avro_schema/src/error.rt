@@ -11,10 +11,10 @@ use thiserror::Error;
 /// Why `Schema::read` failed. Every error but `OutOfMemory` means that the text denotes no schema.
 #[derive(Debug, Drop, Error)]
 pub enum SchemaError {
-    /// The text isn't JSON.
+    /// The text isn't JSON, or its JSON nests deeper than 127 levels.
     #[error("the text is not JSON")]
     NotJson,
-    /// A number isn't an integer, has an exponent or doesn't fit in 64 bits.
+    /// A number isn't an integer, has an exponent or a leading zero, or doesn't fit in 64 bits.
     #[error("a number is not a whole number of 64 bits")]
     BadNumber,
     /// A name, a namespace, an alias or a symbol is malformed, or a definition has the name of a
@@ -27,7 +27,8 @@ pub enum SchemaError {
     /// A full name, a field of a record or a symbol occurs twice.
     #[error("a name is defined twice")]
     Redefined,
-    /// An attribute is missing or has the wrong JSON type, or a value isn't a declaration.
+    /// An attribute is missing or has the wrong JSON type, or a value isn't a declaration. Also a
+    /// size out of range, an unknown order, and an enum's default that isn't one of its symbols.
     #[error("an attribute is missing or of the wrong type")]
     BadShape,
     /// A branch of a union is a union, or two branches have the same kind.
@@ -71,7 +72,7 @@ impl<T: Drop> From<AllocFailed<T>> for SchemaError {
 /// Why a text couldn't be read as JSON.
 #[derive(Clone, Copy, Debug, Drop)]
 pub enum JsonError {
-    /// the text isn't JSON
+    /// the text isn't JSON, or nests too deep
     Invalid,
     /// allocation failed
     OutOfMemory,

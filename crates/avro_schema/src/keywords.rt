@@ -20,7 +20,7 @@ pub enum TypeName {
     Enum,
     /// `record`
     Record,
-    /// the name of a type that is defined elsewhere
+    /// any other text: the name of a type that must be defined before
     Reference,
 }
 

@@ -1,5 +1,5 @@
-//! The bytes that the names of types inside other types take in the identity text. It refers to a
-//! type by its full name, so it may be far longer than the nodes are large.
+//! The bytes that the names of types inside other types take in the identity text. Each reference
+//! is a place in a node and a full name in the text, so the text may be far larger than the nodes.
 
 ghost use Rattle.std.specs.Prelude.{◌≡◌, ◌-◌, length, map, nat_le};
 ghost use Rattle.avro_nodes.specs.Nodes.{field_view, node_view, nodes_view};

@@ -101,7 +101,7 @@ pub fn without_namespace<'a>(space: &str, full: &'a str) -> &'a str
 }
 
 /// The full name of a definition, from its attributes `name` and `namespace` and the enclosing
-/// namespace. `None` if the name is malformed, or a `namespace` that it needs.
+/// namespace. `None` if the name is malformed, or if it has no dot and `namespace` is malformed.
 ///
 /// # Errors
 ///

@@ -209,8 +209,8 @@ fn after_field(budget: usize, field: &Json<'_>, space: &str, depth: u32) -> usiz
     }
 }
 
-/// Whether the full names of the value's definitions fit in the maximum length of a text. The
-/// identity text contains them, so it would be too long otherwise.
+/// Whether the full names and full aliases of the value's definitions together fit in the maximum
+/// length of a text. The identity text contains them, so it would be too long otherwise.
 pub fn names_fit(value: &Json<'_>) -> bool
     ensures { result ≡ nat_le (weight max_nesting [] (value_data value.now)) max_text }
 {
