@@ -40,8 +40,9 @@ fn first_at_label(links: &[Link], from: usize, label: u32) -> usize
     links.partition_point(|link| link.label < label)
 }
 
-/// Eliminates the pairs that depend on the popped pair by links with the same label. An alias only
-/// counts if its source code is that of the popped place. Skips labels that no writer's link has.
+/// Eliminates the pairs that depend on the popped pair by links with the same label. A link by an
+/// alias counts only if the field's source has its type at the popped pair's writer's place. Skips
+/// labels that no writer's link has.
 pub fn eliminate_joined(
     sides: &Sides,
     sources: &[Vec<u16>],

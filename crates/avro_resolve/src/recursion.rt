@@ -21,9 +21,9 @@ use std::alloc::Global;
 /// The recursion's answer for a pair.
 #[derive(Clone, Copy, Debug, PartialEq, Eq)]
 pub enum Answer {
-    /// the assumed pairs support it
+    /// it is assumed, or the assumed pairs support it
     Yes,
-    /// the set of all pairs except the failed ones doesn't support it
+    /// it failed, or the set of all pairs except the failed ones doesn't support it
     No,
     /// unknown: too many pairs were open at once, or the work reached its limit
     Unfinished,
@@ -50,13 +50,14 @@ pub struct Walk {
 }
 
 /// The work limit, once a thousand pairs were opened. Beyond it elimination is cheaper: it examines
-/// each pair once, the recursion as often as its assumption is withdrawn.
+/// each pair once, while the recursion opens a pair again after its assumption was withdrawn.
 const MAX_WORK: u64 = 4_000_000;
 
 /// The maximum number of pairs that are open at once.
 const MAX_OPEN: usize = 1000;
 
-/// Whether the pair is assumed, or is supported if it is opened and assumed.
+/// The answer for a pair: `Yes` if it is assumed, `No` if it failed. Any other pair is opened and
+/// assumed. If it then isn't supported, it fails, and the assumptions made since are withdrawn.
 #[cycle(walk)]
 pub fn ask(sides: &Sides, i: u32, j: u32, depth: usize, walk: &mut Walk) -> AnswerResult
     requires ready { MayContinue sides.now depth walk.old }

@@ -21,7 +21,7 @@ use std::alloc::Global;
 pub struct Verdict {
     /// whether the writer's schema resolves with the reader's
     pub yes: bool,
-    /// how many pairs of places the recursion opened
+    /// how many pairs of places the recursion opened; a pair that is opened again counts again
     pub visits: u128,
 }
 
@@ -43,8 +43,8 @@ pub fn resolves_plain(alloc: Global, writer: &Schema, reader: &Schema) -> Result
 /// roots reach. If fewer than a thousand were opened, a small witness exists: a closed set for a
 /// yes, a list that refutes the roots for a no.
 ///
-/// Elimination decides if more than a thousand pairs would be open at once, or if the work reaches
-/// four million after a thousand opened pairs. Opening a pair counts for eight. Each request for a
+/// Elimination decides if more than a thousand pairs would be open at once, or if a thousand were
+/// opened and the work reaches four million. Opening a pair counts for eight. Each request for a
 /// pair, and each field, alias and symbol examined, counts for one.
 ///
 /// # Errors

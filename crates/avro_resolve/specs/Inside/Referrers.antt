@@ -73,7 +73,7 @@ abbrev pub own_label : Option (List (Option ℕ)) → ℕ → Option ℕ
 own_label None rank = Some rank
 own_label (Some rank_map) rank = mapped_rank rank_map rank
 
--- the labels of a field's aliases: only a reader's field has such
+-- the labels of a field's aliases; a writer's field has none
 abbrev pub alias_labels : Option (List (Option ℕ)) → List ℕ → List ℕ
 alias_labels None ranks = ranks
 alias_labels (Some rank_map) ranks = []
