@@ -118,7 +118,8 @@ impl LruEntries {
         }
     }
 
-    /// Adds the entry under the id. Returns the entry if an allocation fails.
+    /// Adds the entry under the id, in place of any other one of the id. First evicts entries until
+    /// there is room for one more. Returns the entry if an allocation fails.
     pub fn add(&mut self, id: u32, entry: Entry) -> Result<(), Entry>
         ensures ok { OnOk result (lookup (nat_eq id) self.new ≡ Some entry) }
         ensures err { IfErr result (λ back. back ≡ entry) }
