@@ -209,7 +209,8 @@ fn open_record(alloc: Global, draft: &mut Draft, level: u32) -> Result<(), Alloc
         .push_str(r#""fields":[{"name":"f","type":"int"}"#)
 }
 
-/// Returns the text of one schema of a pair. The two schemas of a pair have different streams.
+/// Returns the text of one schema of the pair with this number. Each stream is another sequence of
+/// random numbers. The two schemas of a pair have different streams, both other than 0.
 ///
 /// # Errors
 ///

@@ -8,7 +8,8 @@
 //! - `later`: from 1 up to the count, without the count, and `down`: the same in reverse;
 //! - `last`: only the count;
 //! - `A..B`: from A up to B, or down to B if B is less than A, in both cases without B;
-//! - `N`: from 0 on until the text has its maximum length, if other parts have N bytes for each number of the count.
+//! - `N`: from 0 on until the text nearly has its maximum length, if this part has one byte and the other parts have N
+//!   bytes for each number of the count.
 
 use std::alloc::{AllocError, Global};
 
@@ -17,6 +18,7 @@ use std::alloc::{AllocError, Global};
 pub struct Template {
     /// the text for the placeholder `$`
     pub word: &'static str,
+    /// the parts, one on each line
     pub parts: &'static str,
 }
 
