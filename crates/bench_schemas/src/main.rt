@@ -6,8 +6,9 @@
 //! `resolve` resolves a writer's and a reader's text by `resolves` and by `resolves_plain`. It
 //! prints the numbers of their places, the verdicts and the times. `behind` does the same with each
 //! text after a cycle of records, for which `resolves` stops and eliminates pairs. `files W R`
-//! resolves the texts of two files. Each time is that of the shortest of many calls. Each
-//! measurement ends with the peak memory of the process so far.
+//! resolves the texts of two files. Each time is that of the shortest of many calls; calls below 10
+//! microseconds are timed in runs of 16. Each measurement ends with the peak memory of the process
+//! so far.
 //!
 //! `random` resolves 2,000 random pairs, always the same ones, and fails if the two ways disagree.
 //! Without arguments the program does nothing.

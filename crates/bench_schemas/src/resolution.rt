@@ -92,8 +92,9 @@ once ],"default":null}
 0..19 ,{"name":"u#","type":[@]}
 once ]}"##;
 
-/// Records of eight fields, and the types of these fields. Each type has a field of the type before
-/// it, except the fourth, which has a string.
+/// Records of eight fields, and the types of these fields: records of one field. This is an int in
+/// the first type and a string in the fourth. The fifth type refers to the third, and each other
+/// type to the one before it.
 const CROWD: &str = r##"once [{"type":"record","name":"p0.P","fields":[{"name":"f","type":"int"}]}
 1..3 ,{"type":"record","name":"p#.P","fields":[{"name":"f","type":"p<.P"}]}
 once ,{"type":"record","name":"p3.P","fields":[{"name":"f","type":"string"}]}

@@ -38,7 +38,7 @@ pub enum Call<'a> {
 #[derive(Clone, Copy)]
 pub struct Timing {
     pub verdict: Verdict,
-    /// the time of the shortest call, in nanoseconds
+    /// the time of a call in the shortest run, in nanoseconds; in a run of several calls, their mean
     pub nanos: u64,
     /// the time of all calls, in nanoseconds
     spent: u64,
