@@ -93,7 +93,7 @@ IsRanked names (rec named fields extra) ranks = IsRecRanked names named fields r
 abbrev pub AreRanked : List (List ℕ) → List NodeView → List Ranks → Type 0
 AreRanked names nodes ranks = AllZip (IsRanked names) nodes ranks
 
--- the index of these nodes
+-- the index of these nodes: each of their names has a rank; further names aren't excluded
 pub record IsIndex (nodes : List NodeView) (index : Index) : Type 0 where
   pub names : AreIndexNames (texts_view index.names.items)
   pub ranked : AreRanked (texts_view index.names.items) nodes index.ranks.items
