@@ -29,7 +29,7 @@ other_mode_is_refused : step read_only (SetGlobalMode (codes "IMPORT")) ≡ (rea
 unfolding read_only step permitted_step
 other_mode_is_refused = refl
 
--- each write of levels and subjects is rejected, with any arguments
+-- each write of levels and subjects is rejected, also with invalid arguments
 level_is_refused : step read_only (SetGlobal (codes "x")) ≡ (read_only, fault NotPermitted)
 unfolding read_only step
 level_is_refused = refl

@@ -38,7 +38,7 @@ not_found code e = record {
   no_reused_key = other_status _ _ (λ h. eqb-false 404 422 refl (sym e ∙ h));
 }
 
--- a fault with status 422 whose number differs from that of a reused key in this digit
+-- a fault with status 422 whose body differs from that of a reused key at this position
 unprocessable : (code : Code) (position : ℕ) → (fault code).status ≡ 422 → get_or (fault code).body position 0 ≢ get_or (fault KeyReused).body position 0 → IsCommandReply (fault code)
 unprocessable code position e ne = record {
   kept = subst IsKeptStatus (sym e) refl;

@@ -18,7 +18,7 @@ use Rattle.reg_core.proofs.IdLemmas.{schema_there, text_there}
 
 -- ---- lists
 
--- if `P` is true of each `f x`, then `P (f x)` is true for each `x`
+-- if `P` is true of each item of `map f xs`, then `P (f x)` is true for each `x` of `xs`
 pub All-mapped : {X Y : Type 0} (P : Y → Type 0) (f : X → Y) (xs : List X) → All P (map f xs) → All (λ x. P (f x)) xs
 All-mapped P f [] all = All-nil (λ x. P (f x))
 All-mapped P f (x ∷ xs) all = All-cons (λ y. P (f y)) x xs (All-head P (f x) (map f xs) all) (All-mapped P f xs (All-tail P (f x) (map f xs) all))

@@ -15,7 +15,8 @@ pub enum Code {
     SubjectNotFound,
     /// 40402: the subject has no such version.
     VersionNotFound,
-    /// 40403: no such schema, or no such id.
+    /// 40403: no version of the subject that the request may see has the schema, or no version has
+    /// the id.
     SchemaNotFound,
     /// 40404: all versions of the subject are soft-deleted.
     SubjectSoftDeleted,
@@ -35,7 +36,7 @@ pub enum Code {
     Incompatible,
     /// 413: the body is too long.
     BodyTooLarge,
-    /// 42201: the text denotes no schema, or its type isn't supported.
+    /// 42201: the text denotes no schema, its type isn't supported, or it has references.
     InvalidSchema,
     /// 42202: the text is neither `latest` nor a version number.
     InvalidVersion,

@@ -7,7 +7,7 @@ ghost use Rattle.reg_core.specs.Machine.{is_write, command_schema, sends_schema,
 use crate::subject::Subject;
 use crate::text::Text;
 
-/// A client's command. Levels, schemas, versions and ids are unparsed texts. A schema is
+/// A client's command. Levels, modes, schemas, versions and ids are unparsed texts. A schema is
 /// `supported` if its type is Avro and it has no references. If `deleted` is on, soft-deleted
 /// versions are shown too. (Schema Registry API reference, Schemas, Subjects, Compatibility, Config
 /// and Mode.)
@@ -36,9 +36,9 @@ pub enum Command {
         version: Text,
         permanent: bool,
     },
-    /// Soft-deletes the versions of the subject, and removes its own level. If `permanent` is on,
-    /// removes the versions permanently, which must all be soft-deleted, and the subject's own mode
-    /// too. Returns the numbers of the versions.
+    /// Soft-deletes the live versions of the subject, and removes its own level. If `permanent` is
+    /// on, removes all versions permanently, which must be soft-deleted, and the subject's own mode
+    /// too. Returns the numbers of the versions that it deletes.
     DeleteSubject {
         subject: Subject,
         permanent: bool,

@@ -44,7 +44,8 @@ mod settings;
 pub use comparing::{is_compatible_with, schema_of};
 pub use needs::ids_to_read;
 
-/// The parts of the registry that a command needs. Other parts may have any value.
+/// The parts of the registry that a command needs. Other parts may have any value, but each text
+/// must be the one of its id.
 #[derive(Drop)]
 pub struct View {
     /// The versions of the command's subject or id, or of all subjects, soft-deleted ones included,
@@ -102,12 +103,13 @@ pub struct Decision {
 }
 
 /// Decides the command for the registry that the view shows: the changes, and the reply. `schema`
-/// is the schema that the command's text denotes, if it denotes one. It is ignored if the command's
-/// schema type isn't supported. The call reads nothing else and changes nothing.
+/// is the schema that the command's text denotes, if it denotes one. It is ignored unless the
+/// command sends a supported schema. The call reads nothing else and changes nothing.
 ///
 /// # Errors
 ///
-/// `OutOfMemory` if an allocation for the changes, the reply or a comparison fails.
+/// `OutOfMemory` if an allocation for the changes, the reply, an earlier schema or a comparison
+/// fails.
 pub fn decide(
     alloc: Global,
     view: &View,
@@ -123,7 +125,8 @@ pub fn decide(
 ///
 /// # Errors
 ///
-/// `OutOfMemory` if an allocation for the changes, the reply or a comparison fails.
+/// `OutOfMemory` if an allocation for the changes, the reply, an earlier schema or a comparison
+/// fails. The cache may have changed.
 pub fn decide_with_cache(
     alloc: Global,
     view: &View,

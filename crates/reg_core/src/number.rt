@@ -10,7 +10,7 @@ pub const MAX_NUMBER: u32 = 2_147_483_647;
 /// The version that a client chooses. (Schema Registry API reference, Subjects, `versionId`.)
 #[derive(Clone, Copy, Debug, PartialEq, Eq)]
 pub enum VersionChoice {
-    /// The last one that is shown.
+    /// The last of the versions that the command chooses from.
     Latest,
     /// The version with this number.
     Numbered(u32),

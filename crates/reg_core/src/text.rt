@@ -1,10 +1,11 @@
-//! Unparsed texts of commands.
+//! Texts of commands and changes.
 
 ghost use Rattle.std.specs.Prelude.{◌≡◌, string_bytes};
 
 use std::marker::Model;
 
-/// A text as a client sent it, unparsed. Contracts see its bytes.
+/// A text that a client sent, decoded but not parsed, or the identity text of a new schema.
+/// Contracts see its bytes.
 #[derive(Debug, Drop)]
 pub struct Text {
     string: String,

@@ -29,9 +29,10 @@ pub fn schema_of(alloc: Global, text: &str) -> Result<Option<Schema>, OutOfMemor
 }
 
 /// Whether the new schema is compatible with the earlier one, in the level's directions. `text` is
-/// the earlier schema's text, and `id` its id. If the text denotes no schema, the result is no. The
-/// earlier schema is cached. A full cache evicts the least recently used schemas, since a version
-/// is compared with those shortly before it.
+/// the earlier schema's text, and `id` its id. If the text denotes no schema, the result is no.
+///
+/// The earlier schema is cached as by `SchemaCache::read`. A full cache evicts the least recently
+/// used schemas, since a version is compared with those shortly before it.
 ///
 /// # Errors
 ///

@@ -6,14 +6,14 @@ ghost use Rattle.json.specs.Print.{escape, quoted};
 use serde_json::Value;
 use std::alloc::{AllocError, Global};
 
-/// Whether a byte of a JSON string may have to be escaped.
+/// Whether a byte of a JSON string must be escaped. (RFC 8259, section 7.)
 fn needs_escape(byte: u8) -> bool
     ensures { result ≡ (byte == 34 || (byte == 92 || nat_lt byte 32)) }
 {
     byte == b'"' || byte == b'\\' || byte < b' '
 }
 
-/// The position of the first byte that may have to be escaped, or `None`.
+/// The position of the first byte that must be escaped, or `None`.
 fn first_escape(bytes: &[u8]) -> Option<usize>
     ensures first { result ≡ position (λ byte. byte == 34 || (byte == 92 || nat_lt byte 32)) bytes.now }
     ensures within { IfSome result (λ at. at < length bytes.now) }
@@ -21,7 +21,7 @@ fn first_escape(bytes: &[u8]) -> Option<usize>
     bytes.iter().position(|byte| needs_escape(*byte))
 }
 
-/// The position of the first byte from `from` on that may have to be escaped, else the length.
+/// The position of the first byte from `from` on that must be escaped, else the length.
 fn next_escape(bytes: &[u8], from: usize) -> usize
     requires { from ≤ length bytes.now }
     ensures place { (from ≤ result) × (result ≤ length bytes.now) }
@@ -42,8 +42,9 @@ fn quoted_by_serde(alloc: Global, text: &str) -> Result<String, AllocError>
     Value::String(String::from_str(alloc, text)?).to_string(alloc)
 }
 
-/// A text as a JSON string, with its quotation marks. A schema's text has no control characters,
-/// and up to a quarter of it are quotation marks. So each run of plain bytes is copied at once.
+/// A text as a JSON string, with its quotation marks. Each run of plain bytes is copied at once. A
+/// text with control characters is left to `serde_json`; no identity text has any. The first
+/// allocation suffices if at most a quarter of the bytes are escaped.
 ///
 /// # Errors
 ///

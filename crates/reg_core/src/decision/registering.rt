@@ -31,8 +31,8 @@ use schema_cache::SchemaCache;
 use serde_json::json;
 use std::alloc::Global;
 
-/// Adds the schema as the subject's next version, unless a live version already has it. Rejects it
-/// if the level doesn't admit it, or no number is left.
+/// Adds the schema as the subject's next version, unless a live version already has it. Rejects an
+/// invalid schema (`None`), and one that the level doesn't admit or for which no number is left.
 pub fn register(
     alloc: Global,
     view: &View,
