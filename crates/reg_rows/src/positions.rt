@@ -70,8 +70,8 @@ fn have_predecessors(sorted: &[(&str, u32, u32)]) -> bool
     true
 }
 
-/// Whether the positions of each version are 1, 2, .. up to their number, in any order. Duplicates
-/// aren't detected.
+/// Whether the positions of each version are 1, 2, .. up to their number, in any order. An item is
+/// a subject, a version's number, and a position. Duplicates aren't detected.
 pub fn are_contiguous(positions: Vec<(&str, u32, u32)>) -> bool
     ensures { IsTrue result ↔ AreContiguous (map position_view positions.entry.items) }
 {

@@ -17,22 +17,22 @@ use std::alloc::{AllocError, Global};
 /// others in any order. In layout 1, `modes`, `evidence` and `against` are empty.
 #[derive(Debug, Drop)]
 pub struct Tables {
-    /// an id, and its text
+    /// An id, and the identity text of its schema.
     pub texts: Vec<(u32, String)>,
-    /// a subject, a version's number, its id, and whether it is soft-deleted
+    /// A subject, a version's number, the id of its schema, and whether it is soft-deleted.
     pub versions: Vec<(String, u32, u32, bool)>,
-    /// a subject, and its own level
+    /// A subject, and its own level.
     pub levels: Vec<(String, String)>,
-    /// a retry key, its command's text, and the status and the body of its reply
+    /// A retry key, its command's text, and the status and the body of its reply.
     pub kept: Vec<(String, String, u32, String)>,
-    /// a name, and its value
+    /// A name, and its value.
     pub meta: Vec<(String, String)>,
-    /// a subject, and its own mode
+    /// A subject, and its own mode.
     pub modes: Vec<(String, String)>,
-    /// a subject, a version's number, and the level that it was tested under
+    /// A subject, a version's number, and the level that it was tested under.
     pub evidence: Vec<(String, u32, String)>,
-    /// a subject, a version's number, a position, and the id at this position, which the version
-    /// was tested against
+    /// A subject, a version's number, a position, and the id at this position, which the version
+    /// was tested against.
     pub against: Vec<(String, u32, u32, u32)>,
 }
 

@@ -70,7 +70,7 @@ fn ids_of(alloc: Global, rows: &[(u32, String)]) -> Result<Vec<u32>, AllocError>
 }
 
 /// Whether each row of `texts` has the identity text of a schema, and the ids are 1, 2, .. in this
-/// order.
+/// order, and at most 2,147,483,647.
 ///
 /// # Errors
 ///
