@@ -1,4 +1,4 @@
--- A stream of bytes has only one parse.
+-- A stream of bytes has only one parse, unless it ends inside a target.
 use Rattle.std.proofs.Common.{◌≡◌, ℕ, zero, suc, Bool, List, [], ◌∷◌, ◌++◌, length, codes, lit<, lit≤, inl, inr, refl, sym, ap, ◌∙◌, subst, arith, append-nil, length-append, Ok, Err, Result}
 use Rattle.std.specs.Prelude.{IsTrue}
 use Rattle.httparse.specs.Grammar.{lf, AllPass, is_token_byte, is_uri_byte, RequestHead, IsRequestHead, print_request, NeverHasRequest}
@@ -150,7 +150,7 @@ ParsesInto-unique bytes (m ∷ ms) (k ∷ ks) r q t u a f b h =
     let z = ParsesInto-unique a.0 ms ks r q t u a.2 f (subst (λ (w : List ℕ). ParsesInto w ks q) (sym s.1) b.2) h in
     ((λ i. s.0 i ∷ z.0 i), z.1)
 
--- the messages and the remainder are determined
+-- the messages are determined; the remainder too, unless it ends inside a target
 pub Messages-unique : (bytes : List ℕ) (ms ks : List Message) (t u : Tail) (one : Messages bytes ms t) → Messages bytes ks u
     → (ms ≡ ks) × Agree one.rest t u
 Messages-unique bytes ms ks t u one other =

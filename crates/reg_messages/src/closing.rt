@@ -9,8 +9,7 @@ use http1::fields::KnownFields;
 
 impl<'a> Request<'a> {
     /// Whether the connection ends after the response to this message. It does for HTTP/1.0, and if
-    /// a `Connection` field lists `close`, in upper or lower case. (RFC 9112, sections 9.3 and
-    /// 9.6.)
+    /// a `Connection` field lists `close`, regardless of case. (RFC 9112, sections 9.3 and 9.6.)
     pub fn closes(&self) -> bool
         ensures { result ≡ closes_by self.now.minor (fields_in self.now) }
     {

@@ -40,7 +40,7 @@ impl<'a> FieldLookup<'a> {
         }
     }
 
-    /// Looks up a field by its name, regardless of case.
+    /// Looks up a field by its name, regardless of case. `fields` has spans of `head`.
     pub fn by_name(head: &'a [u8], fields: &[HeaderSpan], name: &[u8]) -> FieldLookup<'a>
         requires { All (IsHeaderWithin (length head.now)) fields.now }
         ensures { FindsField (values_named name.now (map (header_bytes head.now) fields.now)) result }

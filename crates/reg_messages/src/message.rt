@@ -29,14 +29,16 @@ pub enum ParseOutcome {
     Nothing,
     /// Less than a whole message. The message has at least this number of bytes.
     Part(usize),
-    /// A fault, with its code.
+    /// A fault. `MalformedRequest` if the bytes can't become a head of at most `MAX_HEAD` bytes.
+    /// Otherwise the code of a fault in the head's fields: `CodingNotSupported`, `MalformedRequest`
+    /// or `BodyTooLarge`.
     Faulty(Code),
     /// A head with more fields than there is room for.
     TooManyFields,
 }
 
-/// Parses the front of the bytes. `headers` is the room for the fields of a head: 16,384 are enough
-/// for every head.
+/// Parses the front of the bytes. `headers` is the room for the spans of the head's fields: 16,384
+/// are enough for every head. After `Whole`, pass the same bytes and `headers` to `Request::of`.
 pub fn parse_front(bytes: &[u8], headers: &mut [HeaderSpan]) -> ParseOutcome
     ensures { ParsesAs (length headers.old) bytes.now headers.new result }
 {
@@ -69,8 +71,9 @@ pub fn parse_front(bytes: &[u8], headers: &mut [HeaderSpan]) -> ParseOutcome
     }
 }
 
-/// A law: a stream of bytes has one list of whole messages and one remainder, unless it ends inside
-/// a target. So the bytes alone determine which messages are answered.
+/// A law: a stream of bytes has at most one list of whole messages and one remainder. If it ends
+/// inside a target, the remainder may be both a part and a fault. So the bytes alone determine
+/// which messages are answered.
 pub fn parse_is_unique()
     ensures { (bytes : List ℕ) (ms ks : List Message) (t u : Tail)
         → (one : Messages bytes ms t) → Messages bytes ks u → (ms ≡ ks) × Agree one.rest t u }

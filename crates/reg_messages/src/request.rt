@@ -17,7 +17,7 @@ pub struct Request<'a> {
     pub minor: u8,
     /// The bytes of the head, to which the spans of the fields refer.
     pub head: &'a [u8],
-    /// The fields of the head.
+    /// The spans of the head's fields.
     pub fields: &'a [HeaderSpan],
     /// The body.
     pub body: &'a [u8],
