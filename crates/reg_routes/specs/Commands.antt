@@ -1,6 +1,6 @@
 -- The command of a request, by its operation, path, query and body. `None` if a part of the path isn't UTF-8 or no valid subject, or if the body
--- lacks a member that the command needs. The number of a part is the number of slashes before it. (Schema Registry API reference, Subjects, Schemas,
--- Config, Compatibility and Mode.)
+-- lacks a string member that the command needs. The number of a part is the number of slashes before it. (Schema Registry API reference, Subjects,
+-- Schemas, Config, Compatibility and Mode.)
 use Rattle.std.specs.Prelude.{ℕ, Bool, List, codes, Option, Some, option_map, option_and_then}
 use Rattle.reg_core.specs.declared.command.Command.{Command}
 use Rattle.reg_core.specs.declared.command.Command.TheVariants.{SetGlobal, SetLevel, Register, DeleteVersion, DeleteSubject, Global, LevelOf, Lookup, Subjects, Versions, Version, Text, ById, VersionsOfId, Types, Check, CheckAll, SetGlobalMode, SetMode, GlobalMode, ModeOf}

@@ -254,7 +254,7 @@ impl<'a> RequestParts<'a> {
     }
 
     /// The command of this operation. `None` if a part of the path isn't UTF-8 or no valid subject,
-    /// or if the body lacks a member that the command needs.
+    /// or if the body lacks a string member that the command needs.
     ///
     /// # Errors
     ///

@@ -94,7 +94,8 @@ fn delivery_for<'a>(
 /// - `NotFound`: the path has no resource.
 /// - `MethodNotAllowed`: the resource doesn't have the method. Its methods are returned for an
 ///   `Allow` field.
-/// - `MalformedRequest`: a part of the path, the body or the retry key is invalid.
+/// - `MalformedRequest`: a part of the path or the body is invalid, or a write has an invalid retry
+///   key or more than one.
 ///
 /// `BackendFault` if an allocation fails.
 pub fn command_of<'a>(
