@@ -130,7 +130,7 @@ by_live_subject subject row e is =
     truth false true = refl
     truth false false = refl
 
--- likewise, and by its id
+-- a row passes by its subject, its deleted flag and its id
 by_shown_subject : (subject : List ℕ) (id : ℕ) (deleted : Bool) (row : Row) (e : Entry) → IsEntry version_form row e.0 e.1
     → passes by_shown_id (Text subject ∷ Int (pos id) ∷ flag_cell deleted ∷ []) row ≡ (bytes_eq e.0.0 subject && ((deleted || not e.1.deleted) && (e.1.id == id)))
 unfolding binary

@@ -86,7 +86,7 @@ pub nothing_listed : (schema : Schema) → IsLayoutOne schema → (trees : Trees
 nothing_listed schema (inl is) trees = subst (ListsNoMore trees) (sym is) (refl, refl, refl)
 nothing_listed schema (inr is) trees = subst (ListsNoMore trees) (sym is) (refl, refl, refl)
 
--- and so are their maps
+-- in layout 1 the maps of those tables are empty
 pub nothing_held : (schema : Schema) → IsLayoutOne schema → (trees : Trees) (contents : Contents) → ShowsAll schema trees contents → (contents.modes ≡ empty) × (contents.evidence ≡ empty) × (contents.against ≡ empty)
 nothing_held schema (inl is) trees contents shows = let it = subst (λ s. ShowsAll s trees contents) is shows in (it Modes, it Evidence, it Against)
 nothing_held schema (inr is) trees contents shows = let it = subst (λ s. ShowsAll s trees contents) is shows in (it Modes, it Evidence, it Against)

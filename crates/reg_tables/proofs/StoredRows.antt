@@ -1,3 +1,4 @@
+-- Rows that SQLite can store at any rowid: they are small enough and have no floats.
 use Rattle.std.proofs.Common.{arith, ◌≡◌, inl, inr, ℕ, zero, suc, ◌+◌, ◌/◌, ◌%◌, ◌^◌, ◌<◌, ◌≤◌, ℤ, pos, negsuc, All, [], ◌∷◌, length, ap, sym, refl, subst}
 use Rattle.reg_tables.proofs.Kit.{AllByRecursion, sum_by, NotNan, sum_by-cons, Value, Null, Int, Real, Text, Blob, Row, Table, number, bytes, Index, table_reals, index_reals, entry_of, IsStorable, Has, all_has}
 use native.Mathlib.Nat.{zero-div}

@@ -66,7 +66,7 @@ module _ (version : List ℕ × ℕ) where
   by_columns row =
       (λ i. same_text (column row 1) version.0 i && (same_number (column row 2) version.1 i && true)) ∙ ap (λ b. is_eq (value_cmp (column row 1) (Text version.0)) && b) (last (is_eq (value_cmp (column row 2) (Int (pos version.1)))))
 
-  -- so for the subject and the number of a version
+  -- a row belongs to the version if its subject and number are the version's
   pub is_of_told : (row : Row) (other : List ℕ × ℕ) → column row 1 ∷ column row 2 ∷ [] ≡ version_key_cells other → is_of version row ≡ is_eq (version_cmp other version)
   is_of_told row other is = sym (by_columns row) ∙ by_version_test row version other is
 

@@ -87,10 +87,10 @@ meta_of_layout number level = insert (meta_before_level number) (codes "global")
 abbrev pub meta_of_layout_one : List ℕ → TextMap (List ℕ)
 meta_of_layout_one = meta_of_layout (codes "1")
 
--- Schema Registry API reference, Config: the level of a new registry is BACKWARD
 abbrev pub contents_before_level : List ℕ → Contents
 contents_before_level number = record no_contents { meta = meta_before_level number }
 
+-- Schema Registry API reference, Config: the level of a new registry is BACKWARD
 abbrev pub contents_of_layout : List ℕ → Contents
 contents_of_layout number = record no_contents { meta = meta_of_layout number (codes "BACKWARD") }
 

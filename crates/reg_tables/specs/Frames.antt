@@ -34,7 +34,7 @@ pub record RunsInTransaction {S X : Type 0} (g : Ghosts S) (old new : Transactio
   pub was_open : HasCleanDisk (state_in g new) → OnOk result (IsTrue (state_in g old).is_open)
   pub inside : HasCleanDisk (state_in g new) → OnOk result ((state_in g new).in_transaction ≡ true)
 
--- A call that only reads. It ends outside a transaction and commits nothing, and it succeeds only over an open connection.
+-- A call that only reads. It commits nothing and leaves nothing uncommitted, and it succeeds only over an open connection.
 pub record ReadsInAutocommit {S X E : Type 0} (g : Ghosts S) (old new : Held S) (result : Result X E) : Type 0 where
   pub was_open : HasCleanDisk (state g new) → OnOk result (IsTrue (state g old).is_open)
   pub only_reads : HasCleanDisk (state g new) → OnlyReads (state g old) (state g new)

@@ -1,3 +1,4 @@
+-- A kept reply of the code, as contracts see it.
 use Rattle.std.specs.Prelude.{string_bytes}
 use Rattle.reg_tables.specs.declared.kept.KeptReply.{KeptReply}
 use Rattle.reg_tables.specs.Contents.{KeptReplyView}

@@ -23,7 +23,7 @@ pub record Selects (db : Database) (sql : List ℕ) (rows : List Row) : Type 0 w
 abbrev pub ShowsMeta : Database → List Row → Type 0
 ShowsMeta db rows = Selects db (codes "SELECT rowid, name, value FROM meta") rows
 
--- these are all rows of `meta`, each once and in order
+-- the lines are the rows that SQLite returns for `meta`, in the same order
 pub record ReadsMeta (db : Database) (lines : List RawMeta) : Type 0 where
   pub rows : List Row
   pub shows : ShowsMeta db rows

@@ -38,7 +38,7 @@ pub record Transforms {S X I : Type 0} (IsFailure : State → State → Error �
   pub made : HasCleanDisk (state_in g new) → OnOk result ((about : I) → From about (state_in g old).now → To about (state_in g new).now)
   pub fault : HasCleanDisk (state_in g new) → IfErr result (λ e. (about : I) → From about (state_in g old).now → IsFailure (state_in g old) (state_in g new) e)
 
--- the database has no table
+-- the database has no table, index or view
 abbrev pub IsEmpty : Unit {0} → Database → Type 0
 IsEmpty _ db = db.schema ≡ no_schema
 

@@ -1,3 +1,5 @@
+//! Connections outside a transaction.
+
 ghost use Rattle.std.specs.Prelude.{◌≡◌, false};
 
 use sqlite::{Alter, Connection};

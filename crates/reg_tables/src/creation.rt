@@ -111,11 +111,12 @@ pub fn create_layout_one<S: Alter>(tx: &mut Transaction<'_, S>) -> Result<(), Er
     create_as(tx, "1")
 }
 
-/// Adds the empty tables of layout 2 to layout 1 with its index, whose contents stay.
+/// Adds the empty tables of layout 2 to layout 1 with its index. The tables of layout 1 keep their
+/// rows.
 ///
 /// # Errors
 ///
-/// A write error; others only if the tables aren't those of layout 1.
+/// A write error; others only if the schema isn't layout 1 with its index.
 pub fn add_tables<S: Alter>(tx: &mut Transaction<'_, S>) -> Result<(), Error>
     ensures { Transforms IsWriteFault S.Store tx.old tx.new result (Holding layout_one) (Holding layout_two) }
 {

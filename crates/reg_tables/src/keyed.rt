@@ -19,7 +19,7 @@ use crate::statement::{FromRow, first, run};
 use sqlite::types::ValueRef;
 use sqlite::{Alter, Error, ErrorCode, Row, Transaction};
 
-/// A table with one row for each key, and the type as which its values are read.
+/// A table with one row for each key. `Found` is the Rust type of its values.
 pub(crate) trait KeyedTable {
     type Found: FromRow;
 

@@ -4,7 +4,7 @@
 //! A function that writes takes a transaction and never commits it. On `Ok` the contents have
 //! changed as its clause says. On an error the caller must roll the transaction back.
 //! A function that reads takes an `AutocommitConnection` and changes nothing.
-//! Clauses about contents are true while the disk has returned what was written to it
+//! Clauses about contents and errors are true while the disk has returned what was written to it
 //! (`HasCleanDisk`).
 //!
 //! # Errors
@@ -16,7 +16,7 @@
 //! - a *write error* is a read error, or `TransactionState` if an earlier failure has ended the
 //!   transaction;
 //! - an *insert error* is a write error, `TooBig` for a row that is too large, or `NoRowid` or
-//!   `ConstraintViolation(PrimaryKey)` if the row's rowid isn't free.
+//!   `ConstraintViolation(PrimaryKey)` if the row's rowid is out of range or taken.
 //!
 //! A function may return any other error if the database lacks the tables that it needs.
 

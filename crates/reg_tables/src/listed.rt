@@ -1,5 +1,5 @@
 //! Lists of versions, in the order of their subjects and numbers, and single versions of such
-//! lists.
+//! lists. Subjects are in the order of their bytes.
 
 ghost use Rattle.std.specs.Prelude.{◌≡◌, ◌≢◌, ℕ, List, [], ◌∷◌, MatchOption, None, Some, not, map, filter, find, option_map};
 ghost use Rattle.std.specs.Ordering.{is_gt, nat_cmp};

@@ -75,7 +75,8 @@ pub(crate) trait FromRow: Sized {
         ensures named { IfErr result IsReadingError };
 }
 
-/// The values of the rows. Each row is dropped after it is read, so no text is in memory twice.
+/// The values of the rows. Each row is dropped after it is read: only one row's texts are in memory
+/// twice at a time.
 fn lines_in<L: FromRow + Drop>(alloc: Global, rows: Vec<Row>) -> Result<Vec<L>, Error>
     ensures ok { IfOk result (λ lines. map L.shown rows.items ≡ map L.cells lines.items) }
     ensures err { IfErr result (λ e. (All L.is_readable rows.items

@@ -97,6 +97,8 @@ impl FromRow for RawVersion {
     }
 }
 
+/// The flag in this column, counted from 0: 0 is `false` and 1 is `true`. Any other value is an
+/// error.
 pub(crate) fn flag_in(row: &Row, at: usize) -> Result<bool, Error>
     ensures ok { IfOk result (λ flag. column row.now at ≡ flag_cell flag) }
     ensures err { IfErr result (λ e. at < length row.now

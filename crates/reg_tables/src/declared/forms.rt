@@ -10,20 +10,23 @@ pub enum ColumnForm {
 
 /// A foreign key.
 pub enum ReferenceForm {
-    /// This column is the id of a text.
+    /// This column, counted from 1, is the id of a text.
     ToText(usize),
     /// The first two columns are the key of a version, with which the row is deleted.
     ToVersion,
 }
 
-/// The declaration of a table with one key.
+/// The declaration of a table with one automatic index: that of its PRIMARY KEY, or in `texts` that
+/// of the UNIQUE column.
 pub struct TableForm {
     pub name: &'static [u8],
-    /// The name of the key's index, which SQLite chooses.
+    /// The name of the automatic index, which SQLite chooses.
     pub index: &'static [u8],
     /// The column that is an alias of the rowid, counted from 0.
     pub key: Option<usize>,
+    /// The columns of the primary key, counted from 1; 0 is the rowid.
     pub primary: &'static [usize],
+    /// The columns of the automatic index, counted from 1.
     pub unique: &'static [usize],
     pub columns: &'static [ColumnForm],
     /// Whether the table checks that its fourth column is 0 or 1. It has no other check.

@@ -4,7 +4,7 @@ use crate::declared::forms::{
     AGAINST, EVIDENCE, KEPT, LEVELS, META, MODES, TEXTS, TableForm, VERSIONS,
 };
 
-/// A table and the number of its tree. The index of its key has the next tree.
+/// A table and the number of its tree. Its automatic index has the next tree.
 pub struct TableInTree {
     pub form: &'static TableForm,
     pub tree: u32,
@@ -12,7 +12,7 @@ pub struct TableInTree {
 
 /// The declaration of an index.
 pub enum IndexForm {
-    /// The index that SQLite makes for the key of a table.
+    /// The automatic index of a table: SQLite makes it for the PRIMARY KEY or for UNIQUE.
     OfKey(TableInTree),
     /// The index on the ids of versions, in this tree.
     OfIds(u32),
