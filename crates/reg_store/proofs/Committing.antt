@@ -149,7 +149,7 @@ leaves_before old new (NewerLayout number) h = h
 pub before_if_undone : (old new : State) (e : StoreError) → Survives old new (λ _. ⊥) → HasCleanDisk new → KeepsCrashStates old new e
 before_if_undone old new e s clean = leaves_before old new e (λ db it. elim (s.crash clean db it) [ inl was ↦ was | inr none ↦ absurd none ])
 
--- a failed commit leaves the last one while the connection is open; only a failed allocation says nothing about that
+-- After a failed commit, a crash leaves only the last commit if the connection is still open. Otherwise a disk fault closed it.
 module _ (first last end : State) (keeps : KeepsCommit first end) (settled : (db : Trees) → IsTrue end.is_open → end.may_leave db → db ≡ end.committed.trees) (stays : IsTrue first.is_open → first.may_leave first.committed.trees)
     (closes : IsTrue end.is_open ⊎ MoreFaults first.faults end.faults) where
   open_before : IsTrue end.is_open → (db : Trees) → end.may_leave db → first.may_leave db

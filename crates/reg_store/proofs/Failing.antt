@@ -68,7 +68,7 @@ plain_if_by old new NotARegistry h = absurd h
 plain_if_by old new (OldLayout number) h = absurd h
 plain_if_by old new (NewerLayout number) h = absurd h
 
--- an unreadable row isn't a disk fault
+-- an unreadable row isn't reported as `Disk`
 pub disk_cause_by : (old new : State) (e : Error) → old.step_limit ≡ None → IsFault old new e ⊎ IsUnreadable e → HasDiskCause old new (failure_of e)
 disk_cause_by old new e unlimited (inl fault) = disk_cause_if_by old new (failure_of e) (fault_by old new e unlimited fault)
 disk_cause_by old new e unlimited (inr unread) = go e unread
@@ -86,7 +86,7 @@ disk_cause_by old new e unlimited (inr unread) = go e unread
     go MultipleStatement h = absurd h
     go QueryReturnedNoRows h = absurd h
 
--- nor is a rejected statement
+-- nor is a rejected statement reported as `Disk`
 pub disk_cause_anywhere : (old new : State) (e : Error) → old.step_limit ≡ None → IsFault old new e ⊎ (IsRefused e ⊎ IsUnreadable e) → HasDiskCause old new (failure_of e)
 disk_cause_anywhere old new e unlimited (inl fault) = disk_cause_by old new e unlimited (inl fault)
 disk_cause_anywhere old new e unlimited (inr (inr unread)) = disk_cause_by old new e unlimited (inr unread)

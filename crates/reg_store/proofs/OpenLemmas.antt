@@ -144,7 +144,7 @@ unmade_beside g conn begun is others settled commit = record {
   crash = λ clean db it. inl (subst (λ h. (state g h).may_leave db) is it);
 }
 
--- nor to the errors of `check_first`
+-- the limit on steps makes no difference to the errors of `check_first`
 pub unread_unlimited : {S X : Type 0} (g : Ghosts S) (conn begun : Held S) → begun ≡ record conn { step_limit = None } → (new : State) (r : Result X StoreError)
     → IfErr r (λ e. (IsTrue (state g begun).is_open → SpellsSome SpellsLayoutOne (state g begun).now) → IsFaultBy (state g begun) new e)
     → IfErr r (HasDiskCause (state g begun) new) → IfErr r (HasMetaNumberOf 1 (state g begun).now) → IfErr r (ReportsOther 1 (state g begun)) → IfErr r (IsCheckFailure (state g conn) new)

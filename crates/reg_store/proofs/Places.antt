@@ -30,7 +30,7 @@ module _ (key : RowKey) where
   another : (position n : ℕ) → (position ≡ n → ⊥) → ◌≢◌ {A = PositionKey} (key, position) (key, n)
   another position n apart e = apart (ap (λ (p : PositionKey). p.1) e)
 
-  -- and those before the first id
+  -- the positions before the first id stay too
   ids_before : (n : ℕ) (ids : List ℕ) (contents : Contents) (position : ℕ) → position < n → get (with_ids key n ids contents).against (key, position) ≡ get contents.against (key, position)
   ids_before n [] contents position low = refl
   ids_before n (id ∷ ids) contents position low =

@@ -1,4 +1,4 @@
--- What `Store::apply` does to the registry and the kept replies.
+-- What `Store::apply` does to the registry, the evidence and the kept replies.
 use Rattle.std.specs.Prelude.{◌≡◌, ◌≢◌, ◌⊎◌, List, [], Option, None, Some, IsSome, IsTrue, false, ⊤}
 use Rattle.sqlite.specs.Tree.{Trees}
 use Rattle.sqlite.specs.State.{State}

@@ -33,7 +33,7 @@ version_line row = row.0.0 ∷ decimal row.0.1 ∷ decimal row.1.id ∷ flag_tex
 abbrev pub schema_line : ℕ → List ℕ → Fields
 schema_line id text = decimal id ∷ text ∷ []
 
--- Schema Registry API reference, Schemas: a schema's id is its position, counted from 1
+-- this project's choice: the line of each schema, whose id is its position, counted from 1
 abbrev pub schema_lines : Schemas → List Fields
 schema_lines schemas = map (λ (entry : ℕ × List NodeView). schema_line entry.0 (identity entry.1)) (enumerate_from 1 schemas)
 

@@ -1,4 +1,4 @@
--- The registry and the kept replies that tables spell.
+-- The registry, the kept replies and the evidence that tables spell.
 use Rattle.std.specs.Prelude.{◌≡◌, ◌<◌, ◌^◌, ℕ, zero, suc, List, length, slice_get, Option, None, Some, IsTrue, IsUtf8, codes, option_map, option_and_then}
 use Rattle.std.specs.FinMap.{get, insert, empty}
 use Rattle.sqlite.specs.Tree.{Trees}

@@ -9,18 +9,19 @@ use sqlite::{Constraint, ErrorCode};
 use std::alloc::AllocError;
 use thiserror::Error;
 
-/// Why a call of a store fails. A failed call changes nothing; but after `Disk`, a crash may leave
-/// the whole change.
+/// Why a call of a store fails. A failed call changes nothing. But after `Disk`, or after `Memory`
+/// if the disk failed too, a crash may leave the whole change.
 #[derive(Clone, Copy, Debug, PartialEq, Eq, Error)]
 pub enum StoreError {
     /// Allocation failed. The store stays usable, unless the disk failed too.
     #[error("out of memory")]
     Memory,
-    /// The disk failed, or a limit of the file was reached. Every later call of the store returns
-    /// this error too.
+    /// The disk failed, or a limit of the file was reached. Every later call of the `Store` or the
+    /// `Lines` that returned this error returns it too.
     #[error("the disk failed")]
     Disk,
-    /// A table or a column is missing, or the rows don't spell a registry.
+    /// A table or a column is missing or unknown, or the rows don't spell a registry. `create` and
+    /// `create_first` return it for a database that isn't empty.
     #[error("not a registry")]
     NotARegistry,
     /// The database has an older layout, of this number.

@@ -33,7 +33,7 @@ pub use creating::create_first;
 pub use line_iterator::Lines;
 
 /// A schema registry and its kept replies in a database. Contracts use the state of its connection
-/// (`state_of`) and whether the disk has failed (`has_failed`).
+/// (`state_of`) and whether the store has returned `Disk` (`has_failed`).
 #[derive(Drop)]
 pub struct Store<S: Alter> {
     alloc: Global,

@@ -1,5 +1,5 @@
 //! The checks of the tables before a store is opened over them. Each table is read, checked and
-//! freed before the next.
+//! freed before the next, but `evidence` and `against` are checked together.
 
 ghost use Rattle.std.specs.Prelude.{◌≡◌, ◌↔◌, ℤ, map, IfOk, IfErr, OnOk, IsTrue, false};
 ghost use Rattle.std.specs.List.{AllByRecursion};
@@ -169,7 +169,8 @@ fn check_rest<S: Alter>(alloc: Global, db: &mut Conn<S>) -> Result<u64, StoreErr
     Ok(count)
 }
 
-/// Checks the tables of layout 1, and returns the number of rows of `versions`.
+/// Checks the tables of layout 1, with or without the index, and returns the number of rows of
+/// `versions`.
 pub(crate) fn check_layout_one<S: Alter>(alloc: Global, db: &mut Conn<S>) -> Result<u64, StoreError>
     ensures tests { ChecksBaseTables (SpellsAs Layout.One) db.old db.new result
         (λ count db. BaseTablesPass Layout.One db × HasVersionRows db count) }
@@ -186,6 +187,7 @@ pub(crate) fn check_layout_one<S: Alter>(alloc: Global, db: &mut Conn<S>) -> Res
     check_rest(alloc, db)
 }
 
+/// Checks the tables of layout 2, with or without the index.
 pub(crate) fn check_layout_two<S: Alter>(alloc: Global, db: &mut Conn<S>) -> Result<(), StoreError>
     ensures tests { ChecksAllTables db.old db.new result (λ _. AllTablesPass) }
     ensures known { OnOk result (IsOpenable (shown db.old).now.schema) }

@@ -50,8 +50,8 @@ impl<S: Alter> Store<S> {
     /// # Errors
     ///
     /// `Memory` or `Disk`. `NotARegistry` only if the tables no longer hold a registry, a change
-    /// doesn't fit it, or the key has a reply. Nothing has changed; but after `Disk` a crash may
-    /// leave all changes and the reply.
+    /// doesn't fit it, or the key has a reply. Nothing has changed. But after `Disk`, or after
+    /// `Memory` if the disk failed too, a crash may leave all changes and the reply.
     pub fn apply(&mut self, changes: &[Change], keep: Option<Keep<'_>>) -> Result<(), StoreError>
         requires { IfSome keep IsKeepable }
         ensures frame { KeepsStore self.old self.new result }

@@ -29,7 +29,7 @@ impl<S: Alter> Store<S> {
     /// that its evidence names, in the directions of its level. This includes soft-deleted
     /// versions. Versions without evidence pass, and those whose level is NONE.
     ///
-    /// It keeps the texts of one pair in memory, and a small cache of schemas.
+    /// It keeps the two schemas of one comparison in memory, and a small cache of schemas.
     ///
     /// # Errors
     ///
@@ -66,7 +66,7 @@ fn all_true<S: Alter>(alloc: Global, db: &mut Conn<S>) -> Result<bool, StoreErro
     Err(StoreError::Memory)
 }
 
-/// Whether the evidence of the version is true; `false` if its schema is missing.
+/// Whether the evidence of the version, if any, is true.
 fn holds<S: Alter>(
     alloc: Global,
     db: &mut Conn<S>,
@@ -85,7 +85,7 @@ fn holds<S: Alter>(
 }
 
 /// Whether the version's schema is compatible with those that its evidence names, in the directions
-/// of the level.
+/// of the level; `false` if the version's schema is missing.
 fn is_true_under<S: Alter>(
     alloc: Global,
     db: &mut Conn<S>,

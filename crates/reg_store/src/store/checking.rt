@@ -15,7 +15,7 @@ use std::alloc::Global;
 
 /// The number of rows of `versions`, including soft-deleted ones, if the tables spell a registry in
 /// layout 1, with or without the index. The connection is outside a transaction, and the call
-/// returns it. Nothing is written.
+/// returns it without a step limit. Nothing is written.
 ///
 /// # Errors
 ///

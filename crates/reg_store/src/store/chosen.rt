@@ -25,7 +25,7 @@ use sqlite::Alter;
 use std::alloc::Global;
 
 /// The chosen version of the subject, if it is shown. Otherwise the last shown version, to show
-/// whether there are any.
+/// whether there are any. Without a valid choice, no version is needed.
 pub(crate) fn chosen_rows<S: Alter>(
     alloc: Global,
     db: &mut Conn<S>,

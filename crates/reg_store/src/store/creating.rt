@@ -29,7 +29,8 @@ impl<S: Alter> Store<S> {
     /// # Errors
     ///
     /// `NotARegistry` if and only if the database isn't empty; `Memory` or `Disk`. The database
-    /// stays as it was; but after `Disk` a crash may leave the new registry.
+    /// stays as it was. But after `Disk`, or after `Memory` if the disk failed too, a crash may
+    /// leave the new registry.
     pub fn create(
         alloc: Global,
         mut connection: Connection<S>,
@@ -73,7 +74,8 @@ impl<S: Alter> Store<S> {
         }
     }
 
-    /// Whether the store has returned `Disk`. From then on every call returns it.
+    /// Whether the store has returned `Disk`. From then on every call returns it. `Disk` from
+    /// `Lines::next` doesn't count.
     pub fn failed(&self) -> bool
         ensures { result ≡ has_failed self.now }
     {
@@ -102,7 +104,8 @@ impl<S: Alter> Store<S> {
 /// # Errors
 ///
 /// `NotARegistry` if and only if the database isn't empty; `Memory` or `Disk`. The database stays
-/// as it was; but after `Disk` a crash may leave the new registry.
+/// as it was. But after `Disk`, or after `Memory` if the disk failed too, a crash may leave the new
+/// registry.
 pub fn create_first<S: Alter>(
     mut connection: Connection<S>,
 ) -> (Result<(), StoreError>, Connection<S>)

@@ -30,8 +30,8 @@ impl<S: Alter> Store<S> {
     /// # Errors
     ///
     /// `NotARegistry` if the tables spell no registry, `OldLayout` or `NewerLayout` if `meta` names
-    /// a layout below or above 2; `Memory` and `Disk`. The database stays as it was. Only after
-    /// `Disk` may a crash leave the index too.
+    /// a layout below or above 2; `Memory` and `Disk`. The database stays as it was. But after
+    /// `Disk`, or after `Memory` if the disk failed too, a crash may leave the index in addition.
     pub fn open(
         alloc: Global,
         mut connection: Connection<S>,

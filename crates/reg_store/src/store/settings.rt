@@ -15,6 +15,8 @@ use reg_tables::{RawMeta, raw_meta};
 use sqlite::Alter;
 use std::alloc::Global;
 
+/// The own and the global level, and the own and the global mode. A pair that isn't needed may be
+/// a placeholder.
 pub(crate) fn settings_for<S: Alter>(
     alloc: Global,
     db: &mut Conn<S>,

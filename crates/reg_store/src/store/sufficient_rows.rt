@@ -56,7 +56,8 @@ fn soft_deletion_rows<S: Alter>(
     Ok(live)
 }
 
-/// The versions that the level compares with: the last live one, or all.
+/// Versions that include those that the level compares with: all if the level is transitive,
+/// otherwise the last live one.
 pub(crate) fn compared_rows<S: Alter>(
     alloc: Global,
     db: &mut Conn<S>,
@@ -73,8 +74,8 @@ pub(crate) fn compared_rows<S: Alter>(
     last_rows(alloc, db, subject, false)
 }
 
-/// The versions that suffice to register a schema: a live one with its id, else those that the new
-/// version may follow.
+/// The versions that suffice to register a schema: a live one with its id, else those of
+/// `new_schema_rows`.
 pub(crate) fn registered_rows<S: Alter>(
     alloc: Global,
     db: &mut Conn<S>,

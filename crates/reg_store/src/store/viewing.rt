@@ -19,8 +19,9 @@ use std::alloc::Global;
 use std::collections::BTreeMap;
 
 impl<S: Alter> Store<S> {
-    /// The view of the registry that the command needs. If the command has a schema, the caller
-    /// passes its identity text; for other commands any text will do.
+    /// The view of the registry that the command needs. If the command sends a text of a supported
+    /// type, `identity` must be the identity text of its schema, or `None` if it denotes no schema.
+    /// For other commands any `identity` will do.
     ///
     /// # Errors
     ///

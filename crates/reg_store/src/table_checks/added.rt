@@ -186,7 +186,8 @@ fn are_all(numbers: Vec<i64>, count: u64) -> bool
     sorted.len() as u64 == count && are_distinct(&mut sorted)
 }
 
-/// Whether the rows of `evidence` and all rows of `against` are valid.
+/// Whether the rows of `evidence` and all rows of `against` are valid. From `MAX_COUNT` rowids on,
+/// the result is `AllocError`: `ids.count` could be too low, and no memory holds so many.
 fn pass_evidence(alloc: Global, evidence: &[RawEvidence], ids: Ids) -> Result<bool, AllocError>
     ensures few { OnOk result (length ids.rowids.items < greatest_integer) }
     ensures passes { IfOk result (λ yes. IsTrue yes ↔ (IsTrue ids.fit

@@ -17,7 +17,7 @@ use reg_tables::{RawText, text_ids, texts_between};
 use sqlite::Alter;
 use std::alloc::Global;
 
-/// The number of texts in memory at a time, each of up to 1 MiB.
+/// The number of texts in memory at a time. A valid text has at most 1 MiB.
 const TEXTS_AT_ONCE: u32 = 16;
 
 /// Whether each row has the identity text of a schema.
