@@ -76,11 +76,11 @@ refused_if_fault db NotARegistry h = tt
 refused_if_fault db AlreadyNew h = absurd (cc)
 refused_if_fault db (NewerLayout number) h = absurd (cc)
 
--- tables of layout 1 may fail with a fault
+-- for a registry in layout 1, `Memory` and `Disk` are right reasons
 pub reason_if_fault : (old new : State) (e : MigrateError) → IsLayoutOneRegistry old.now → IsTrue (is_fault e) → IsReasonOver old new e
 reason_if_fault old new e found is = record { fault = λ spells. is; disk_cause = inr found; meta_number = refused_if_fault old.now e is; newer = λ number is_open up holds names. inr is }
 
--- if a crash leaves no more than before, each error may come
+-- if a crash leaves no more than before, each error keeps the crash states
 pub leaves_before : (old new : State) (e : MigrateError) → AddsNoCrashState old new → KeepsCrashStates old new e
 leaves_before old new Memory h = inl h
 leaves_before old new Disk h = tt

@@ -73,6 +73,6 @@ spells_migrated before now was moves s = record {
   spelled = contents_spelled s.contents was (nothing_held s.schema s.known before.trees s.contents s.holds.shows) s.spelled;
 }
 
--- so do trees that a crash leaves
+-- trees with the migrated contents, which a crash leaves, spell it too
 pub recovers_migrated : (before : Database) (db : Trees) (was : Stored) → TreesHoldMigrated before db → SpellsLayoutOne before was → RecoversTo db was
 recovers_migrated before db was takes s = record { schema = layout_two; spells = spells_migrated before (record { schema = layout_two; trees = db }) was takes s }

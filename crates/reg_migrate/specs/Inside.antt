@@ -8,7 +8,7 @@ use Rattle.reg_tables.specs.Layout.{IsLayoutOne, layout_two}
 use Rattle.reg_tables.specs.Contents.{Contents, HoldsContents}
 use Rattle.reg_tables.specs.Changes.{marked_layout_two}
 
--- the contents of the tables under this schema are now those of layout 2, with the layout number 2
+-- the contents that the tables had under this schema are now in layout 2, with the layout number 2 and the mode READWRITE
 abbrev pub MigratesFrom : Schema → Database → Database → Type 0
 MigratesFrom schema before db = (contents : Contents) → HoldsContents schema before contents → HoldsContents layout_two db (marked_layout_two contents)
 

@@ -6,8 +6,8 @@ ghost use Rattle.reg_migrate.specs.Errors.{migrate_error_of};
 use reg_store::StoreError;
 use thiserror::Error;
 
-/// Why a migration fails. The database stays as it was; but after `Disk`, a crash may leave it
-/// migrated.
+/// Why a migration fails. The database stays as it was. But after `Disk`, or after `Memory` if the
+/// disk failed too, a crash may leave it migrated.
 #[derive(Clone, Copy, Debug, PartialEq, Eq, Error)]
 pub enum MigrateError {
     /// An allocation failed.

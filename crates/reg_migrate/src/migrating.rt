@@ -55,7 +55,7 @@ fn migrate_connection<S: Alter>(
 }
 
 /// Migrates the registry and its kept replies from layout 1 to layout 2, in one transaction. The
-/// connection is outside a transaction, and the call returns it.
+/// connection is outside a transaction, and the call returns it without a step limit.
 ///
 /// # Errors
 ///
@@ -63,8 +63,8 @@ fn migrate_connection<S: Alter>(
 /// contents of the other tables. `NotARegistry` if the tables spell no registry in layout 1.
 /// `Memory` if an allocation fails, `Disk` if the disk fails or the file reaches a limit.
 ///
-/// The database stays as it was. Only after `Disk`, and only if layout 1 spelled a registry, may a
-/// crash leave layout 2.
+/// The database stays as it was. But if layout 1 spelled a registry, a crash may leave layout 2
+/// after `Disk`, or after `Memory` if the disk failed too.
 pub fn migrate<S: Alter>(
     alloc: Global,
     connection: Connection<S>,
