@@ -93,6 +93,6 @@ pub record FaultCutShort (xs : List AnsweredMessage) (rest out : List ℕ) : Typ
   pub front : IsPrefix part (fault_response code)
   pub written : out ≡ responses xs ++ part
 
--- every response was written in full but the last, or the one to the fault that follows; of that one a beginning, which may be empty or whole
+-- every earlier response was written in full; of the last one, or of the response to the fault, a beginning, which may be empty or whole
 abbrev pub IsCutShort : List AnsweredMessage → List ℕ → List ℕ → Type 0
 IsCutShort xs rest out = LastCutShort xs out ⊎ FaultCutShort xs rest out

@@ -20,7 +20,7 @@ use std::io::{ErrorKind, Read, Write};
 /// How a connection ended.
 #[derive(Clone, Copy, Debug, PartialEq, Eq)]
 pub enum Ended {
-    /// A message ended it, or the input ended after a whole message.
+    /// A message ended it, or the input ended and left no part of a message.
     Closed,
     /// A read failed. Each whole message that was read got its response.
     ReadFailed,
@@ -28,7 +28,7 @@ pub enum Ended {
     WriteFailed,
     /// The input is no message, or it ended inside one.
     Malformed,
-    /// Allocating the table of paths, the buffer or a response failed.
+    /// Allocating the table of paths, the buffers or a response failed.
     Memory,
 }
 

@@ -44,6 +44,7 @@ pub record AnswersOne (AreServed : List Exchange → Type 0) (old new : Option (
   pub stays : closes answered.0 ≡ false
   pub processes : ProcessesMessages AreServed old new bytes (answered ∷ []) (drop size bytes) (responses (answered ∷ []))
 
+-- the next step for these bytes: the first message got its response, or processing stopped
 abbrev pub NextAs : (List Exchange → Type 0) → Option (List ℕ) → Option (List ℕ) → List ℕ → Next → Type 0
 NextAs AreServed old new bytes (AnsweredNext size) = AnswersOne AreServed old new bytes size
 NextAs AreServed old new bytes (Stopped stop) = AnswersAs AreServed old new bytes bytes stop
