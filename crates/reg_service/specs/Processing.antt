@@ -24,7 +24,8 @@ pub record Processes {S : Type 0} {g : Ghosts S} (old new : Service S g) (x : Ex
   -- a crash preserves the exchange if it was acknowledged, and may preserve a delivery that got 50001: version, reply and evidence together
   pub crash : HasCleanDisk (state_in new) → (was : Stored) → IsOpenOver (state_in old) was → RecoversAcknowledged old new was (x ∷ [])
   pub crash_while_open : RecoversSpelled (state_in new)
-  -- the evidence of versions is what the registry named; if all of it was true, it still is
+  -- Unless the reply is 50001, it is due, and a first delivery was applied. The evidence of versions is what the registry named; if all of it
+  -- was true, it still is.
   pub exactly_once : HasCleanDisk (state_in new) → ServesOver (state_in old) (state_in new) (served (x ∷ []))
 
 -- This project's choice: the service processed each delivery of a list, in the state that the previous one left.

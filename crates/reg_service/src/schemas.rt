@@ -16,8 +16,8 @@ use std::hash::{FoldHasher, Hasher};
 const RECENT: usize = 256;
 
 /// Two caches of parsed schemas: of versions by their id, and of texts that clients sent by the
-/// text's hash. A schema is in at most one of them: when it becomes a version, it goes from the
-/// second to the first.
+/// text's hash. When a schema becomes a version, it goes from the second to the first. If a client
+/// sends the text again, it is parsed again, and then both may have it.
 #[derive(Drop)]
 pub(crate) struct SchemaCaches {
     pub registered: SchemaCache,
@@ -50,9 +50,9 @@ impl SchemaCaches {
         }
     }
 
-    /// Stores the schema that the command sent. If the changes add a version with it, its key is
-    /// the version's id: the next version is compared with a parsed schema. Otherwise its key is
-    /// the sent text.
+    /// Stores the schema that the command sent; `canonical` is its identity text. If the changes add
+    /// a version with it, its key is the version's id, so that the next version is compared without
+    /// parsing it. Otherwise its key is the hash of the sent text.
     pub fn keep(
         &mut self,
         alloc: Global,

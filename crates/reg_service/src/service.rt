@@ -99,7 +99,8 @@ impl<S: Alter> Service<S> {
         ensures fails { IfOk result (λ replies. IsTrue (has_failed (store_in self.new))
             → IsTrue (has_failed (store_in self.old)) ⊎ FailsAt self.old self.new (zip list.now replies.items)) }
 
-        // The evidence of versions is what the registry named; if all of it was true, it still is.
+        // Apart from replies 50001, each reply is due, and each first delivery was applied once. The
+        // evidence of versions is what the registry named; if all of it was true, it still is.
         ensures exactly_once { HasCleanDisk (state_in self.new) → IfOk result (λ replies.
             ServesOver (state_in self.old) (state_in self.new) (served (zip list.now replies.items))) }
         ensures repeats { HasCleanDisk (state_in self.new) → IfOk result (λ replies.
