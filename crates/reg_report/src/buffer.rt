@@ -54,8 +54,8 @@ impl OutputBuffer {
         Ok(())
     }
 
-    /// Writes the rest of the buffer, and returns `put`, the result so far. After a failed write,
-    /// writes nothing more.
+    /// Writes the rest of the buffer, and returns `put`, the result so far, or `Write` if this write
+    /// fails. If `put` is a failed write, it writes nothing more.
     pub fn finish<W: Write>(
         mut self,
         writer: &mut W,

@@ -8,10 +8,10 @@ use thiserror::Error;
 /// Why a listing fails. A part of it may have been written.
 #[derive(Debug, Drop, Error)]
 pub enum ReportError {
-    /// The store failed.
+    /// The store failed, also for lack of memory.
     #[error(transparent)]
     Store(StoreError),
-    /// An allocation failed.
+    /// An allocation for the output failed.
     #[error("out of memory")]
     OutOfMemory,
     /// A write failed.

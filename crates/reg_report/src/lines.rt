@@ -17,8 +17,8 @@ use std::alloc::Global;
 use std::convert::AsSlice;
 use std::io::Write;
 
-/// Writes the header line of the listing and its lines. Each line is written before the next one is
-/// read from the store.
+/// Writes the header line of the listing and its lines, through the buffer. Each line is in the
+/// buffer, or written, before the next one is read from the store.
 pub(crate) fn put_lines<W: Write, S: Alter>(
     alloc: Global,
     writer: &mut W,
@@ -38,7 +38,7 @@ pub(crate) fn put_lines<W: Write, S: Alter>(
         };
         put_line(alloc, writer, buffer, line.as_slice())?;
     }
-    // A listing has fewer lines than 2^64 - 1, since no memory is so large.
+    // No database is so large that a listing has 2^64 - 1 lines.
     Err(ReportError::OutOfMemory)
 }
 

@@ -18,13 +18,15 @@ use std::io::Write;
 const BUFFER_SIZE: usize = 65_536;
 
 /// Writes as CSV the subjects that have versions, each with its own level and its numbers of live
-/// and soft-deleted versions.
+/// and soft-deleted versions. The header is `subject,level,live,deleted`. The level is empty if the
+/// subject has none of its own.
 ///
 /// # Errors
 ///
-/// `Store` if the store fails, `OutOfMemory` if an allocation fails: then a number of whole lines
-/// was written, from the header on. `Write` if a write fails: then part of a line may have been
-/// written. The registry stays the same in every case.
+/// `Store` if the store fails, also for lack of memory. `OutOfMemory` if an allocation for the
+/// output fails. After either, a number of whole lines was written, from the header on. `Write` if
+/// a write fails; then part of a line may have been written. The registry stays the same in every
+/// case.
 pub fn list_subjects<W: Write, S: Alter>(
     alloc: Global,
     store: &mut Store<S>,
@@ -35,13 +37,15 @@ pub fn list_subjects<W: Write, S: Alter>(
     list(alloc, store, Listing::Subjects, writer)
 }
 
-/// Writes as CSV the versions of all subjects, soft-deleted ones too.
+/// Writes as CSV the versions of all subjects, soft-deleted ones too, in the order of subjects and
+/// numbers. The header is `subject,version,id,deleted`.
 ///
 /// # Errors
 ///
-/// `Store` if the store fails, `OutOfMemory` if an allocation fails: then a number of whole lines
-/// was written, from the header on. `Write` if a write fails: then part of a line may have been
-/// written. The registry stays the same in every case.
+/// `Store` if the store fails, also for lack of memory. `OutOfMemory` if an allocation for the
+/// output fails. After either, a number of whole lines was written, from the header on. `Write` if
+/// a write fails; then part of a line may have been written. The registry stays the same in every
+/// case.
 pub fn list_versions<W: Write, S: Alter>(
     alloc: Global,
     store: &mut Store<S>,
@@ -52,13 +56,15 @@ pub fn list_versions<W: Write, S: Alter>(
     list(alloc, store, Listing::Versions, writer)
 }
 
-/// Writes as CSV the schemas, in the order of their ids.
+/// Writes as CSV the identity texts of the schemas, in the order of their ids. The header is
+/// `id,text`.
 ///
 /// # Errors
 ///
-/// `Store` if the store fails, `OutOfMemory` if an allocation fails: then a number of whole lines
-/// was written, from the header on. `Write` if a write fails: then part of a line may have been
-/// written. The registry stays the same in every case.
+/// `Store` if the store fails, also for lack of memory. `OutOfMemory` if an allocation for the
+/// output fails. After either, a number of whole lines was written, from the header on. `Write` if
+/// a write fails; then part of a line may have been written. The registry stays the same in every
+/// case.
 pub fn list_schemas<W: Write, S: Alter>(
     alloc: Global,
     store: &mut Store<S>,
@@ -73,9 +79,10 @@ pub fn list_schemas<W: Write, S: Alter>(
 ///
 /// # Errors
 ///
-/// `Store` if the store fails, `OutOfMemory` if an allocation fails: then a number of whole lines
-/// was written, from the header on. `Write` if a write fails: then part of a line may have been
-/// written. The registry stays the same in every case.
+/// `Store` if the store fails, also for lack of memory. `OutOfMemory` if an allocation for the
+/// output fails. After either, a number of whole lines was written, from the header on. `Write` if
+/// a write fails; then part of a line may have been written. The registry stays the same in every
+/// case.
 pub fn list<W: Write, S: Alter>(
     alloc: Global,
     store: &mut Store<S>,
@@ -92,9 +99,10 @@ pub fn list<W: Write, S: Alter>(
 ///
 /// # Errors
 ///
-/// `Store` if the store fails, `OutOfMemory` if an allocation fails: then a number of whole lines
-/// was written, from the header on. `Write` if a write fails: then part of a line may have been
-/// written. The registry stays the same in every case.
+/// `Store` if the store fails, also for lack of memory. `OutOfMemory` if an allocation for the
+/// output fails. After either, a number of whole lines was written, from the header on. `Write` if
+/// a write fails; then part of a line may have been written. The registry stays the same in every
+/// case.
 pub fn list_in_pieces<W: Write, S: Alter>(
     alloc: Global,
     store: &mut Store<S>,
