@@ -26,7 +26,7 @@ PrintsEvidence (Err error) old new (Verdict told) = ⊥
 PrintsEvidence (Err error) old new (Unread told) = (told ≡ error) × (new ≡ old)
 PrintsEvidence (Err error) old new NotWritten = ⊥
 
--- the outcome of an audit, and what was printed. Only memory or the disk makes it fail
+-- the outcome of an audit, and what was printed. Only memory or the disk keeps it from a verdict
 abbrev pub AuditsAs : Stored → Option (List ℕ) → Option (List ℕ) → AuditOutcome → Type 0
 AuditsAs was writer writer' (Verdict holds) = IsVerdictOn was holds × Appends writer writer' (evidence_line holds)
 AuditsAs was writer writer' (Unread error) = IsTrue (is_fault error) × (writer' ≡ writer)

@@ -41,15 +41,15 @@ pub record IsCreatedIn (old new : State) : Type 0 where
   pub spells : IsOpenOver new new_stored
 
 -- why no registry was created: the database isn't empty (`NotARegistry`), or an allocation or the disk failed. Nothing is committed, and a
--- crash leaves nothing new unless the error is `Disk`
+-- crash leaves nothing new unless the disk failed
 pub record FailsToCreate (old new : State) (error : StoreError) : Type 0 where
   pub full : old.now.schema ≢ no_schema → error ≡ NotARegistry
   pub fault : old.now.schema ≡ no_schema → IsFaultBy old new error
   pub leaves : KeepsConnection old new error
 
--- Why no registry was opened. If the tables spell one, an allocation or the disk failed. Another layout is reported with its number. `Disk`
--- always has a disk fault as its cause. Nothing is committed. A crash leaves what it could leave before, or the tables with their index;
--- either way what they spelled.
+-- Why no registry was opened. If the tables spell one, an allocation or the disk failed. Another layout is reported with its number, unless
+-- memory or the disk fails. `Disk` always has a disk fault as its cause. Nothing is committed. A crash leaves what it could leave before, or
+-- the tables with their index; either way what they spelled.
 pub record FailsToOpen (old new : State) (error : StoreError) : Type 0 where
   pub fails : IsOpenFailure old new error
   pub leaves : KeepsConnection old new error

@@ -161,7 +161,7 @@ abbrev pub RunsJob : {S : Type 0} (g : Ghosts S) → Opened S → Bool → Optio
 RunsJob g opened false back reader reader' writer writer' outcome = (back ≡ connection_in opened) × RunsInMemory reader reader' writer writer' outcome
 RunsJob g opened true back reader reader' writer writer' outcome = RunsOn g opened back reader reader' writer writer' outcome
 
--- a database was opened, and P is true of its state
+-- a database was opened that may have a registry, and P is true of its state
 abbrev pub OverDatabase : {S : Type 0} (g : Ghosts S) → Opened S → (State → Type 0) → Type 0
 OverDatabase g Nothing P = ⊥
 OverDatabase g (Texts texts) P = ⊥

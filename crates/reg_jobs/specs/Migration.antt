@@ -35,9 +35,9 @@ pub record MigratesPrinting (old new : State) (writer writer' : Option (List ℕ
   pub moves : Migrates old new count
   pub prints : PrintsLine (kept_line count) writer writer' printed
 
--- Why a database wasn't migrated. If its tables spell a registry in layout 1, an allocation or the disk failed. A newer layout is reported
--- with its number. Nothing is committed. A crash leaves what it could leave before, or layout 2 if layout 1 spelled a registry; either way
--- what it spelled.
+-- Why a database wasn't migrated. If its tables spell a registry in layout 1, the error is `Memory` or `Disk`. A layout above 1 is reported,
+-- unless memory or the disk fails. Nothing is committed. A crash leaves what it could leave before, or layout 2 if layout 1 spelled a
+-- registry; either way what it spelled.
 pub record FailsToMigrate (old new : State) (error : MigrateError) : Type 0 where
   pub reason : IsReasonOver old new error
   pub only_reads : OnlyReads old new

@@ -5,7 +5,7 @@ use Rattle.reg_cli.specs.declared.task.Job.TheVariants.{Run, Text as TextJob, Ch
 use Rattle.reg_jobs.specs.declared.job.Opened.{Opened}
 use Rattle.reg_jobs.specs.declared.job.Opened.TheVariants.{Nothing, Texts, Failed, Empty, OrphanedLog, Fresh, Database}
 
--- a database for a job that may create its registry. It has a registry or is empty, or only its log is left, or it can't be opened
+-- a database for a job that may create its registry. It is opened, empty or not, or only its log is left, or it can't be opened
 abbrev pub OpensToRun : {S : Type 0} → Opened S → Type 0
 OpensToRun Nothing = ⊥
 OpensToRun (Texts texts) = ⊥

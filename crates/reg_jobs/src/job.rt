@@ -38,7 +38,7 @@ pub enum Opened<S: Alter> {
     OrphanedLog,
     /// An empty database, in which the job creates its registry.
     Fresh(Connection<S>),
-    /// A database that has a registry.
+    /// Any other database. Whether it has a registry is checked later.
     Database(Connection<S>),
 }
 

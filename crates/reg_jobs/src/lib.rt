@@ -1,4 +1,4 @@
-//! The jobs of the program: sessions over a registry, connections to a listener, listings,
+//! The program's jobs and its server: sessions over a registry, connections to a listener, listings,
 //! migrations and audits. Also the identity text of a schema in a file, and checks of two schemas.
 
 #![tactic(auto)]

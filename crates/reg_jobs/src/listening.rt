@@ -67,7 +67,7 @@ fn accept_next<C: Clock, E: Write + Drop>(
     retry_accept(clock, queue)
 }
 
-/// Serves the next connection until it ends.
+/// Serves the next connection until it ends. The last one doesn't yield to connections that wait.
 fn serve_next<C: Clock, S: Alter, E: Write + Drop>(
     alloc: Global,
     clock: &C,
@@ -97,9 +97,9 @@ fn serve_next<C: Clock, S: Alter, E: Write + Drop>(
 /// on `errors`, once until the next success, and retries every quarter of a second.
 ///
 /// It closes a connection that sent or took no byte for ten seconds. If another connection waits,
-/// it closes this one between two requests. It does so after a quarter of a second without a byte,
-/// and after a second of service even if more requests have arrived. A request has thirty seconds
-/// to arrive, and its response to be taken.
+/// it closes this one between two requests, unless this is the last one that it serves. It does so
+/// after a quarter of a second without a byte, and after a second of service even if more requests
+/// have arrived. A request has thirty seconds to arrive, and its response thirty to be taken.
 pub fn serve_with_clock<C: Clock, S: Alter, E: Write + Drop>(
     alloc: Global,
     clock: &C,
@@ -120,7 +120,7 @@ pub fn serve_with_clock<C: Clock, S: Alter, E: Write + Drop>(
     }
 }
 
-/// Serves like `serve_with_clock` with a clock that doesn't advance: it closes only connections
+/// Serves like `serve_with_clock` with a clock that can't be read: it closes only connections
 /// without traffic, and retries an accept without a pause.
 pub fn serve_on<S: Alter, E: Write + Drop>(
     alloc: Global,

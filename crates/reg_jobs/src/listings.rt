@@ -23,7 +23,7 @@ pub enum ListOutcome {
     Whole,
     /// The registry couldn't be read to its end. Some whole lines were printed, from the header on.
     Unread(StoreError),
-    /// A write failed.
+    /// A write or the final flush failed.
     NotWritten,
     /// An allocation failed. Some whole lines were printed, from the header on.
     OutOfMemory,

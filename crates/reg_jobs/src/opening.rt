@@ -14,19 +14,19 @@ pub trait Opener<S: Alter> {
     ghost use Rattle.std.specs.Prelude.{IfOk};
     ghost use Rattle.reg_jobs.specs.Opening.{OpensToList, OpensToRun};
 
-    /// Opens the database in a file, and creates it if it is missing.
+    /// Opens the database in a file, and creates it if it is missing or empty.
     ///
     /// # Errors
     ///
-    /// `OutOfMemory` if an allocation fails.
+    /// `OutOfMemory` if an allocation fails. Every other failure is `Opened::Failed`.
     fn open_to_run(&self, file: &str) -> Result<Opened<S>, OutOfMemory>
         ensures { IfOk result OpensToRun };
 
-    /// Opens the database in a file for a job that creates no registry.
+    /// Opens the database in a file for a job that creates no registry. It creates no file.
     ///
     /// # Errors
     ///
-    /// `OutOfMemory` if an allocation fails.
+    /// `OutOfMemory` if an allocation fails. Every other failure is `Opened::Failed`.
     fn open_to_list(&self, file: &str) -> Result<Opened<S>, OutOfMemory>
         ensures { IfOk result OpensToList };
 

@@ -15,7 +15,7 @@ use reg_store::StoreError;
 pub enum Outcome {
     /// A session ended.
     Session(Ended),
-    /// The job's database has no registry, and nothing was read.
+    /// Why no registry was opened or migrated. The input wasn't read.
     Unopened(StoreError),
     /// The server can't listen on this port.
     NotListening(u16),

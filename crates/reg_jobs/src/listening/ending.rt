@@ -11,7 +11,7 @@ use std::time::Clock;
 /// take its last response. Other clients wait as long.
 const LINGER: u64 = 1;
 
-/// The same time, as a number of slices without a byte.
+/// The same time, as a number of reads that time out.
 const SILENCE: u64 = LINGER * 1000 / SOCKET_TIMEOUT_MILLIS;
 
 /// The number of bytes that are dropped at once.

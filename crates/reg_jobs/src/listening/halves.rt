@@ -66,7 +66,8 @@ impl<'a, 'b, C: Clock> Incoming<'a, 'b, C> {
         self.yields && (!self.pending.is_empty() || !has_bytes(self.stream))
     }
 
-    /// Whether nothing more is read.
+    /// Whether the connection ends instead of reading more: between two requests if it yields its
+    /// turn, and during a request if its time is over.
     fn is_over(&mut self, is_idle: bool) -> bool {
         if self.timing.is_between() {
             self.yields_now(is_idle)

@@ -12,10 +12,10 @@ use memchr::memchr;
 use std::io::{self, Read};
 use std::marker::Model;
 
-/// The number of bytes that are read at once.
+/// The maximum number of bytes that are read at once.
 const ROOM: usize = 16_384;
 
-/// The length of an empty line: CR LF, or LF alone.
+/// The maximum length of an empty line: CR LF, or LF alone.
 const EMPTY_LINE: usize = 2;
 
 /// How much of the current request was passed on.
