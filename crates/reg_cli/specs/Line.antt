@@ -73,6 +73,6 @@ abbrev pub line_unless_faulty : Kinds → List Text → Option TaskView
 line_unless_faulty [] arguments = option_and_then (λ found. task_in found.0 found.1) (subcommand_of program arguments)
 line_unless_faulty (fault ∷ faults) arguments = None
 
--- The task of the arguments, or `None` for a usage error: an option given twice, an argument too many, a request for help.
+-- The task of the arguments, or `None` for a usage error, such as an option given twice, an argument too many, or a request for help.
 abbrev pub line : List Text → Option TaskView
 line arguments = line_unless_faulty (fault_of program arguments) arguments
