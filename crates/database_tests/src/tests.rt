@@ -1,5 +1,5 @@
-//! What no clause says of stores, services, sessions and jobs: what failing disks leave, how many
-//! steps lookups take, how connections take turns, and that calls succeed if memory suffices.
+//! What no clause says of stores, services, sessions and jobs. It is what failing disks leave, how
+//! many steps lookups take, how connections take turns, and that calls succeed if memory suffices.
 
 mod accepting;
 mod connections;

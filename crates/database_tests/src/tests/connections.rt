@@ -54,7 +54,7 @@ type Client = (&'static str, usize, bool, &'static str);
 /// at least the first number of milliseconds, and less than the second.
 type Row = (ClockKind, &'static [Client], &'static [u32], u128, u128);
 
-/// The third is cut inside a message, which gets no response.
+/// The second is cut inside a message, which gets no response.
 const IN_TURN: [Client; 5] = [
     (GET, 0, true, IS_BACKWARD),
     (CUT, 0, true, ""),

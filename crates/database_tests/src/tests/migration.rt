@@ -20,8 +20,8 @@ const FILLED: &str =
 /// The report of its migration.
 const COUNTED: Report = Report { versions: 3 };
 
-/// The contents of its database after the kind of the first row, in parts: the rows before `meta`,
-/// the rows of `meta` in each layout, and the later rows.
+/// The rows of its database as `contents` prints them, in parts: those before `meta`, those of
+/// `meta` in each layout, and the later ones. The first row is without its beginning `kept|`.
 const BEFORE: &str =
     "k1 200 [\"set-global\",\"FULL\"]|{\"compatibility\":\"FULL\"}|\nkept|k2 404 [\"delete-subject\",\"z\",false]|{\"error_code\":40401,\"message\":\"Subject not found\"}|\nlevel|s|NONE|\nlevel|u|FORWARD|\n";
 
@@ -111,7 +111,7 @@ fn migrate_again(alloc: Global, files: Files<Fuse<Memory>>) -> Result<Again, Fai
     Ok(task)
 }
 
-/// The contents of a database after the kind of its first row, a kept reply.
+/// The rows in the contents of a database. The first row is without its beginning `kept|`.
 fn rows(text: &str) -> &str {
     match text.split_once("\nkept|") {
         Some((_, rows)) => rows,

@@ -7,7 +7,7 @@ use reg_store::StoreError;
 use std::test::Fail;
 
 /// The outcome of a server or a job over the file F, its line, and its status. A success has no
-/// line, and the status of a verdict.
+/// line. Its status is 0, or 1 for a negative verdict.
 #[rattlefmt::skip]
 const OUTCOMES: [(Outcome, &str, u8); 26] = [
     (Outcome::Session(Ended::ReadFailed), "avroreg: read failed\n", 2),
