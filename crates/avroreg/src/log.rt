@@ -16,7 +16,7 @@ const FRAMELESS: u64 = 56;
 const UNCHECKPOINTED: &[u8; 4] = b"\xff\xff\xff\xff";
 
 /// The name of the log of a file. `sqlite` keeps the log next to the file that a symbolic link
-/// leads to. If the file is missing, there is no link to follow.
+/// leads to. If the file is missing, there is no link to follow; `sqlite` opens no broken link.
 fn log_of(rt: &HostRuntime, file: &str) -> io::Result<String> {
     match fs::canonicalize(rt, file) {
         Ok(real) => Ok(format!(in rt.alloc(); "{}-wal", real.as_str())?),
@@ -41,8 +41,8 @@ pub fn has_log(rt: &HostRuntime, file: &str) -> io::Result<bool> {
     Ok(length_of_log(rt, file)? > 0)
 }
 
-/// Whether the log next to a file is long enough for a frame. Such a log may have commits. `sqlite`
-/// wrote it after the first page of its database.
+/// Whether the log next to a file is long enough for a frame's header. Such a log may have commits.
+/// `sqlite` wrote it after the first page of its database.
 pub fn has_frames(rt: &HostRuntime, file: &str) -> io::Result<bool> {
     Ok(length_of_log(rt, file)? >= FRAMELESS)
 }

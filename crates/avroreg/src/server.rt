@@ -8,7 +8,7 @@ use std::io::Stderr;
 use std::net::{Ipv4Addr, TcpListener};
 
 /// Serves the connections to the server's port over a store. Returns the store's connection, and
-/// `NotListening` if no connection can come to the port.
+/// `NotListening` if the program can't listen on the port, otherwise `None`.
 fn listen<S: Alter + Drop>(
     rt: &HostRuntime,
     server: &Server,
