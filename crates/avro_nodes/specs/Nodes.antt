@@ -24,8 +24,8 @@ pub record FieldView : Type 0 where
   pub value : Option Data
   pub extra : Members
 
--- A schema is a list of these. A place is an index into the list; the root has place 0. The last `Members` of a node are the
--- attributes that have no meaning in a schema (Avro 1.11 specification, Schema Declaration, Primitive Types, Complex Types).
+-- A schema is a list of these. A place is an index into the list; the root has place 0. The last `Members` of a node are its
+-- other attributes, such as `doc`; a union has none (Avro 1.11 specification, Schema Declaration, Primitive Types, Complex Types).
 pub data NodeView : Type 0 where
   primitive : Kind → Members → NodeView
   array : ℕ → Members → NodeView

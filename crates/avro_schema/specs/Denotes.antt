@@ -119,7 +119,7 @@ mutual
         → IsNamed space ms known named → array_in (codes "fields") ms ≡ Some items → IsExtra record_keys ms extra → first < max_places
         → Fields n (namespace_of named.name) items (defined known named.name first) (first + 1) fields nodes known2 → AllDiffer (map (λ f. f.name) fields)
         → Denotes (suc n) space (json.object ms) known first first (rec named fields extra ∷ nodes) known2
-    -- A JSON array is a union of its items, no two of the same kind (Complex Types, Unions). It may be empty (this project's choice).
+    -- A JSON array is a union of its items, no two of the same kind and none a union (Complex Types, Unions). It may be empty (this project's choice).
     union_type : {n : ℕ} {space : List ℕ} {items : Items} {known known2 : Known} {first : ℕ} {branches : List (ℕ × BranchKind)} {nodes : List NodeView} → first < max_places
         → Branches n space items known (first + 1) branches nodes known2 → AllDiffer (map (λ b. b.1) branches)
         → Denotes (suc n) space (json.array items) known first first (union (map (λ b. b.0) branches) ∷ nodes) known2

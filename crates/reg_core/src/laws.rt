@@ -20,9 +20,9 @@ pub fn additions_are_admitted()
 {}
 
 /// A law of the abstract machine: if the evidence of a registry's versions is true, and a command
-/// leaves evidence as `IsEvidenceAfter` says, it is true after the command. That says: existing
-/// versions keep their evidence, removed versions have none, and the evidence of a new version is
-/// the level in force and the ids of the schemas that it was compared with.
+/// leaves evidence as `IsEvidenceAfter` says, it is true after the command. By `IsEvidenceAfter`,
+/// existing versions keep their evidence, and removed versions have none. The evidence of a new
+/// version is the level in force and the ids of the schemas that it was compared with.
 pub fn evidence_stays_true()
     ensures { (g : Registry) (command : Command) (had has : EvidenceMap) → IsRegistry g → IsTrueEvidence g had
         → IsEvidenceAfter g command had has → IsTrueEvidence (step g command).0 has }
