@@ -17,7 +17,7 @@ go="golang-go golang-github-lensesio-schema-registry-dev"
 try first-hour "curl sqlite3" ./first-hour.sh
 try backup "curl python3" backup/try.sh
 try lost-ids "curl python3" backup/try-lost-ids.sh
-try watch "curl python3" watch/try.sh
+try watch "curl jq nginx openssl python3" watch/try.sh
 try check-schemas "curl jq python3-avro" check-schemas/try.sh
 try clients "$python $go" clients/run.sh
 try replay "nginx curl python3 libavro-java libjackson-json-java libslf4j-java" clients/replay.sh

@@ -1,12 +1,12 @@
 #!/usr/bin/env bash
-# Tests watch: with a server that is up, with an old backup, with the server killed, and with a full disk. Checks that the
-# dashboard and the alert rules name only metrics that watch writes, and that docs/running.md has a row for each rule. The full
-# disk needs root and a mount of tmpfs.
+# Tests watch: with a server that is up, through nginx with passwords, with an old backup, with the server killed, and with a
+# full disk. Checks that the dashboard and the alert rules name only metrics that watch writes, and that docs/running.md has a
+# row for each rule. The full disk needs root and a mount of tmpfs.
 #
 #   AVROREG=PROGRAM examples/watch/try.sh
 set -u
 source "$(dirname "$0")/../serving.sh"
-packages curl jq python3
+packages curl jq nginx openssl python3
 here=$examples/watch
 metrics=$scratch/avroreg.prom
 
@@ -71,6 +71,34 @@ rules=$(sed -n 's/.*- alert: //p' "$here/alerts.yml" | sort)
 rows=$(sed -n 's/^| `\(Avroreg[A-Za-z]*\)` |.*/\1/p' "$examples/../docs/running.md" | sort)
 [ -n "$rules" ] && [ "$rules" = "$rows" ] || fail "docs/running.md has rows for other rules: $rows"
 jq -e '.panels | length == 6' "$here/dashboard.json" >/dev/null || fail "the dashboard hasn't six panels"
+
+start_nginx users "${url##*:}" "s,# \(auth_\),\1,; s,/etc/nginx/avroreg,$scratch/avroreg,"
+echo "viewer:$(openssl passwd -apr1 'good:word')" >"$scratch/avroreg.users"
+# through_nginx UP [CONTENTS]: runs watch through nginx, with these contents of the user file, and checks `up`.
+through_nginx() {
+  local user=()
+  [ $# = 1 ] || { printf %s "$2" >"$scratch/user" && user=(--user-file "$scratch/user"); }
+  python3 "$here/watch" ${user[@]+"${user[@]}"} "http://127.0.0.1:$front" "$scratch/registry.db" "$metrics" 2>"$scratch/message" ||
+    fail "watch failed: $(cat "$scratch/message")"
+  check up "$1"
+}
+through_nginx 1 $'viewer:good:word\n'
+check subjects 2
+for contents in viewer:wrong other:good:word; do
+  through_nginx 0 "$contents"
+  grep -q '/config returned 40[13]' "$scratch/message" || fail "watch doesn't report the rejected user"
+done
+through_nginx 0
+check subjects none
+for contents in '' viewer ':word' 'viewer:' $'viewer:good\nviewer:word\n' $'viewer:word\xff'; do
+  printf %s "$contents" >"$scratch/user"
+  python3 "$here/watch" --user-file "$scratch/user" "$url" "$scratch/registry.db" "$scratch/none.prom" 2>"$scratch/message" && fail "watch accepts a malformed file"
+  [ "$(cat "$scratch/message")" = "watch: $scratch/user must have one line, USER:PASSWORD" ] || fail "the message is: $(cat "$scratch/message")"
+done
+python3 "$here/watch" --user-file "$scratch/missing" "$url" "$scratch/registry.db" "$scratch/none.prom" 2>"$scratch/message" && fail "watch accepts a missing file"
+grep -qx "watch: cannot read $scratch/missing: No such file or directory" "$scratch/message" || fail "the message is: $(cat "$scratch/message")"
+[ ! -e "$scratch/none.prom" ] || fail "watch wrote metrics without a user"
+echo "passwords: the user is sent, and a bad file is an error"
 
 jq -c '.time -= 37 * 3600' "$scratch/backups/last-good.json" >"$scratch/old.json"
 mv "$scratch/old.json" "$scratch/backups/last-good.json"
