@@ -72,6 +72,7 @@ try_deb() {
   check "the user exists" inside debian getent passwd avroreg
   check "the service is enabled" test -L "$scratch/debian/etc/systemd/system/multi-user.target.wants/avroreg.service"
   check "every file is as packaged" inside debian dpkg -V avroreg
+  check "its pages name only what it has" "$here/deb/paths" "$scratch/debian/usr/share/doc/avroreg"
   echo '{"type":"int"}' >"$scratch/debian/tmp/schema"
   check "the program is the one that its record names" inside debian sha256sum --quiet -c /usr/share/avroreg/program
   check "the record doesn't call this program proved" grep -q '^# proved: not known' "$scratch/debian/usr/share/avroreg/program"
