@@ -61,3 +61,9 @@ eventually() {
     sleep 0.1
   done
 }
+
+# block PAGE HEADING: prints the first block of shell commands after this line of a page.
+block() {
+  awk -v heading="$2" 'index($0, heading) == 1 { on = 1 } on && /^```$/ { exit } inside { print } on && /^```sh$/ { inside = 1 }' "$1" |
+    grep . || echo "echo 'no commands under $2 in $1'; exit 1"
+}

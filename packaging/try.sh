@@ -1,13 +1,13 @@
 #!/usr/bin/env bash
 # Tests the builds of packaging/. It installs, upgrades, removes and purges the Debian package in a fresh Debian 12. It boots the
-# package under systemd, kills the program, and waits for the next response. It runs the images read-only, without capabilities.
+# package under systemd, kills the program, and waits for the next response. It builds the images and starts both pods.
 #
 #   AVROREG=PROGRAM packaging/try.sh [deb|systemd|oci]..     default: all
 #   BASE      a tree of Debian 12 to copy; by default debootstrap makes one, which needs the network
 #
 # Needs root, and Debian's debootstrap, systemd-container, lintian, mandoc, dpkg-dev, binutils, buildah, podman, crun,
-# catatonit, nginx, curl and iproute2. Prints a line for each check, and a line 'skipped' for each check that it can't run. The
-# last line is 'N passed, M failed'. The status is 0 if all passed.
+# containernetworking-plugins, iptables, catatonit, nginx, openssl, curl, jq, python3 and iproute2. Prints a line for each check,
+# and a line 'skipped' for each check that it can't run. The last line is 'N passed, M failed'. The status is 0 if all passed.
 set -u
 here=$(cd "$(dirname "$0")" && pwd)
 source "$here/checks.sh"

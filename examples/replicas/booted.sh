@@ -34,12 +34,6 @@ clean_nodes() {
 trap clean_nodes EXIT
 trap 'exit 130' INT TERM
 
-# block FILE HEADING: prints the first block of shell commands after this line of a page.
-block() {
-  awk -v heading="$2" 'index($0, heading) == 1 { on = 1 } on && /^```$/ { exit } inside { print } on && /^```sh$/ { inside = 1 }' "$top/$1" |
-    grep . || echo "echo 'no commands under $2 in $1'; exit 1"
-}
-
 # tree NODE: makes a tree of Debian with the repository's files, the node's certificate, and a script of the pages' commands.
 tree() {
   local node=$1 to=$scratch/$1/root/avroreg
@@ -56,8 +50,8 @@ STATE=new
 ENV
   {
     echo "set -eux; cd /root/avroreg; ip addr add 10.78.0.${node#n}/24 dev host0; ip link set host0 up"
-    block docs/running.md "**Another Linux with systemd.**" | sed 's/^curl /curl --retry 9 --retry-connrefused -s -f /'
-    block examples/replicas/README.md "## Set up three nodes" |
+    block "$top/docs/running.md" "**Another Linux with systemd.**" | sed 's/^curl /curl --retry 9 --retry-connrefused -s -f /'
+    block "$top/examples/replicas/README.md" "## Set up three nodes" |
       sed "s,tls/n1\.,tls/$node.,g; s,^editor \(.*\),cp etcd.env \1,; s,\(/etc/avroreg/\)  .*,\1 \&\& sed -i 's/^node = .*/node = \"$node\"/' /etc/avroreg/relay.toml," |
       sed '/^avroreg-cluster/d'
   } >"$to/set-up.sh"
