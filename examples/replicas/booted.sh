@@ -147,8 +147,12 @@ check "n2 is rebuilt from it" cluster n2 restore /root/backup
 check "n2 is healthy after it" eventually 120 is_healthy n2
 check "a pause" cluster n3 pause
 for node in n1 n2 n3; do
-  check "$node gets a new program" cluster "$node" upgrade /root/avroreg/crates/avroreg/out/avroreg
+  # The same program with one more byte, so that the check sees which one runs.
+  { cat "$program"; echo; } >"$scratch/$node/root/new" && chmod 755 "$scratch/$node/root/new"
+  check "$node gets a new program" cluster "$node" upgrade /root/new
   check "$node is healthy with it" eventually 120 is_healthy "$node"
+  check "$node runs it" on "$node" bash -c 'cmp "/proc/$(systemctl show -P MainPID avroreg)/exe" /root/new'
+  check "packaging/install records it" on "$node" bash -c 'AVROREG=/root/new /root/avroreg/packaging/install && sha256sum -c /usr/share/avroreg/program'
 done
 check "writes go on" cluster n3 resume
 check "a write at n3" eventually 60 register n3 d 4
