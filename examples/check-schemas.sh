@@ -100,8 +100,8 @@ check() {
   body=$(jq -Rsc '{schema: .}' "$1") || stop "$1 can't be read"
   ask POST "/subjects/$quoted" "$body"
   case $status/$code in
-  200/*) echo "$file: version $(jq .version <<<"$answer") of $subject has it" ;;
-  404/40401) echo "$file: the first one of $subject" ;;
+  200/*) echo "$file: already version $(jq .version <<<"$answer") of $subject" ;;
+  404/40401) echo "$file: the first version of $subject" ;;
   404/40403) compare ;;
   422/42201)
     echo "$file: not a schema that the registry accepts"

@@ -34,7 +34,7 @@ check() {
   found=$("$examples/check-schemas.sh" "$@" 2>"$scratch/errors")
   [ $? = "$status" ] || fail "wrong status for $*: $found $(cat "$scratch/errors")"
   [ "$found" = "$wanted" ] || fail "it printed for $*: $found"
-  printf '%s\n   -> %d %s\n' "${found:-nothing}" "$status" "$(cat "$scratch/errors")"
+  printf '%s\n   -> status %d %s\n' "${found:-nothing}" "$status" "$(cat "$scratch/errors")"
 }
 
 start_server "$scratch/check.db"
@@ -59,14 +59,14 @@ payments-value.avsc: incompatible with version 3 of payments-value, by BACKWARD_
     second opinion, the new schema reads version 3: at $.total: reader "long", writer missing: the reader'"'"'s field has no default
 prices-value.avsc: not a schema that the registry accepts
 refunds-value.avsc: compatible with refunds-value, by FORWARD
-returns-value.avsc: the first one of returns-value
-shop%2Fcarts.avsc: version 1 of shop/carts has it' "$schemas" "$url"
+returns-value.avsc: the first version of returns-value
+shop%2Fcarts.avsc: already version 1 of shop/carts' "$schemas" "$url"
 
 mkdir "$scratch/good" "$scratch/none"
 cp "$schemas"/{orders,refunds,returns}-value.avsc "$scratch/good"
 check 0 'orders-value.avsc: compatible with orders-value, by BACKWARD
 refunds-value.avsc: compatible with refunds-value, by FORWARD
-returns-value.avsc: the first one of returns-value' "$scratch/good" "$url/"
+returns-value.avsc: the first version of returns-value' "$scratch/good" "$url/"
 [ "$(curl -s "$url/subjects")" = '["orders-value","payments-value","refunds-value","shop/carts"]' ] ||
   fail "something was registered"
 check 2 '' "$scratch/none" "$url"
