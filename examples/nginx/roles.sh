@@ -5,7 +5,7 @@
 #   AVROREG=PROGRAM examples/nginx/roles.sh [SHARE]     SHARE 3 sends each third message of bypass.py; default: all
 set -u
 source "$(dirname "$0")/../serving.sh"
-packages nginx curl jq openssl
+packages nginx curl jq openssl procps python3
 here=$examples/nginx
 
 for user in admin:a ci:c viewer:v nobody:n Admin:y; do
