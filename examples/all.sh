@@ -23,7 +23,7 @@ try clients "$python $go" clients/run.sh
 try replay "nginx curl python3 libavro-java libjackson-json-java libslf4j-java" clients/replay.sh
 try from-confluent "curl python3 openssl" from-confluent/try.sh
 try nginx "nginx $python $go" nginx/try.sh
-try nginx-roles "nginx curl jq openssl" nginx/roles.sh
+try nginx-roles "nginx curl jq openssl procps python3" nginx/roles.sh
 try nginx-tls "nginx openssl $python" nginx/tls.sh
 try replicas "python3 etcd-server openssl curl iproute2 e2fsprogs" replicas/trial.sh 60
 try page "nginx curl jq chromium chromium-driver python3-selenium" page/try.sh
