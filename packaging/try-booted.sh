@@ -28,33 +28,33 @@ check "its retry gets the first reply" write k1 orders
 check "it stops" systemctl stop avroreg
 check "stopped, the file is readable" runuser -u avroreg -- avroreg list --db /var/lib/avroreg/registry.db versions
 check "it starts again" systemctl start avroreg
-check "and answers at once" answers 200 '["orders"]' "$url/subjects"
+check "the service answers at once" answers 200 '["orders"]' "$url/subjects"
 
 echo AVROREG_PORT=8082 >/etc/default/avroreg-payments
 check "a second registry starts" systemctl start avroreg@payments
 check "it accepts a write" write k1 payments http://127.0.0.1:8082
 check "it has its own file" test -s /var/lib/avroreg-payments/registry.db
-check "the first one doesn't know of it" answers 200 '["orders"]' "$url/subjects"
+check "the first registry doesn't have its subject" answers 200 '["orders"]' "$url/subjects"
 
 check "a backup is made while the server runs" systemctl start avroreg-backup
 check "the backup passed its audit" test -s /var/lib/avroreg-backup/last-good.json
 check "metrics are written" systemctl start avroreg-watch
-check "they say that the server answers" grep -qx 'avroreg_up 1' /var/lib/avroreg-metrics/avroreg.prom
+check "the metrics report that the server is up" grep -qx 'avroreg_up 1' /var/lib/avroreg-metrics/avroreg.prom
 check "the timers start" systemctl start avroreg-backup.timer avroreg-watch.timer
 check "a backup of the second registry is made" systemctl start avroreg-backup@payments
-check "it has the second registry's subject" grep -q '"subjects": 1' /var/lib/avroreg-backup-payments/last-good.json
+check "the backup has the second registry's subject" grep -q '"subjects": 1' /var/lib/avroreg-backup-payments/last-good.json
 check "metrics of the second registry are written" systemctl start avroreg-watch@payments
-check "they have its name" grep -qx 'avroreg_up{registry="payments"} 1' /var/lib/avroreg-metrics/avroreg-payments.prom
-check "and its backup's" grep -qE '^avroreg_backup_schemas\{registry="payments"\} 1$' /var/lib/avroreg-metrics/avroreg-payments.prom
-check "its timers start" systemctl start avroreg-backup@payments.timer avroreg-watch@payments.timer
+check "these metrics have the second registry's name" grep -qx 'avroreg_up{registry="payments"} 1' /var/lib/avroreg-metrics/avroreg-payments.prom
+check "the metrics of its backup have the name too" grep -qE '^avroreg_backup_schemas\{registry="payments"\} 1$' /var/lib/avroreg-metrics/avroreg-payments.prom
+check "the second registry's timers start" systemctl start avroreg-backup@payments.timer avroreg-watch@payments.timer
 
 cp /etc/default/avroreg /root/default
 sed -i 's/^AVROREG_PORT=.*/AVROREG_PORT=none/' /etc/default/avroreg
 systemctl reset-failed avroreg
 check "wrong arguments are a failure" bash -c '! systemctl restart avroreg'
-check "the status says so" property avroreg ExecMainStatus 64
+check "the service's exit status is 64" property avroreg ExecMainStatus 64
 sleep 3
-check "and systemd doesn't try them again" property avroreg NRestarts 0
+check "systemd doesn't start it again with them" property avroreg NRestarts 0
 cp /root/default /etc/default/avroreg
 systemctl reset-failed avroreg
 systemctl stop avroreg
@@ -63,7 +63,7 @@ rm -f /var/lib/avroreg/registry.db-wal
 head -c 5000 /dev/urandom >/var/lib/avroreg/registry.db
 systemctl start avroreg 2>/dev/null
 check "a damaged file is a failure" eventually 120 property avroreg ActiveState failed
-check "after five starts" property avroreg NRestarts 5
+check "systemd gives up after five more starts" property avroreg NRestarts 5
 check "the journal names the file" bash -c "journalctl -u avroreg -o cat | grep -q 'avroreg: .*registry.db'"
 cp -a /root/kept/. /var/lib/avroreg/
 systemctl reset-failed avroreg
@@ -77,17 +77,17 @@ SETTINGS
 check "another file is served" bash -c "systemctl stop avroreg && runuser -u avroreg -- avroreg list --db /var/lib/avroreg/registry.db versions &&
   mv /var/lib/avroreg/registry.db /var/lib/avroreg/moved.db && systemctl start avroreg && curl -s -f $url/subjects/orders/versions"
 sleep 1 # the next backup needs another name, which has the time in seconds
-check "the backup follows it" systemctl start avroreg-backup
+check "the backup copies that file" systemctl start avroreg-backup
 check "a removal stops both registries" bash -c "dpkg -r avroreg && ! curl -s $url/config && ! curl -s http://127.0.0.1:8082/config"
-check "and the timers of both" bash -c "! systemctl is-active avroreg-backup.timer && ! systemctl is-active avroreg-watch@payments.timer"
-check "it is purged" dpkg -P avroreg
+check "a removal stops the timers of both" bash -c "! systemctl is-active avroreg-backup.timer && ! systemctl is-active avroreg-watch@payments.timer"
+check "the package is purged" dpkg -P avroreg
 
 check "the sources install it without a package" env AVROREG=/root/program /root/sources/packaging/install
 check "the program is the one that its record names" sha256sum -c /usr/share/avroreg/program
 mv /var/lib/avroreg/moved.db /var/lib/avroreg/registry.db
-check "it is enabled and starts" systemctl enable --now avroreg
+check "the service is enabled and starts" systemctl enable --now avroreg
 check "it serves the registry" answers 200 '[1]' "$url/subjects/orders/versions"
-check "its template starts the second one" bash -c "echo AVROREG_PORT=8082 >/etc/default/avroreg-payments && systemctl start avroreg@payments"
+check "the template starts the second registry" bash -c "echo AVROREG_PORT=8082 >/etc/default/avroreg-payments && systemctl start avroreg@payments"
 check "a backup is made without the package" systemctl start avroreg-backup
 echo AVROREG_PORT=8083 >>/etc/default/avroreg
 check "installed again, it keeps the settings" bash -c "AVROREG=/root/program /root/sources/packaging/install && grep -qx AVROREG_PORT=8083 /etc/default/avroreg"
