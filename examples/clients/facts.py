@@ -73,7 +73,7 @@ def check_paths(registry: Registry):
     for tool, calls in TOOLS.items():
         for method, path in calls:
             registry.check_exists(method, path, {} if method in ("PUT", "POST") else None)
-        print(f"{tool}: {len(calls)} calls, each with a path of avroreg")
+        print(f"{tool}: avroreg has the path of each call ({len(calls)})")
     for method, path in MISSING:
         registry.check(404, method, path, {} if method == "POST" else None)
     for path in "/config", "/config/s", "/mode", "/mode/s":
