@@ -154,7 +154,7 @@ def main():
     compare_chunked(alone, behind)
     first, second = wait_time(alone), wait_time(behind)
     assert first > 0.2 and second < 1, (first, second)  # avroreg alone closes the silent connection after a quarter of a second
-    print(f"next to a silent client: {first:.3f} s alone, {second:.3f} s behind nginx")
+    print(f"next to a client that sends nothing, a response takes {first:.3f} s alone, {second:.3f} s behind nginx")
 
 
 if __name__ == "__main__":
