@@ -782,7 +782,7 @@ def print_cost(plan: Plan, target: Server):
     """Prints the number of writes, and the time that they take at 100 to 1,000 writes a second."""
     writes = len(plan.steps)
     fillers = f", {plan.fillers:,} of them for ids that wouldn't be given otherwise" if plan.fillers else ""
-    print(f"{target.url} gets {plan.wanted}, by {writes} writes{fillers}", flush=True)
+    print(f"{target.url} will get {plan.wanted}, in {writes} writes{fillers}", flush=True)
     if writes > 5000:
         print(f"At 100 to 1,000 writes a second this takes {clock(writes / 1000)} to {clock(writes / 100)}", flush=True)
 
@@ -803,10 +803,9 @@ def check_target(target: Server, plan: Plan, source: str, run: str, dry: bool):
         if dry:
             print(f"{target.url} isn't empty: a copy continues only in the file in which it has begun")
         elif target.ask("PUT", "/config", NO_LEVEL, plan.steps[0].key(source, run)).code != 42290:
-            raise Stop(CANNOT, f"{target.url} isn't empty, and no run named {run} with these steps has begun there: "
-                               "use a new file")
+            raise Stop(CANNOT, f"{target.url} isn't empty, and this copy (--run {run}) hasn't begun there: use a new file")
     elif target.get("/mode")["mode"] != "READWRITE":
-        raise Stop(CANNOT, f"{target.url} forbids writes by its mode")
+        raise Stop(CANNOT, f"{target.url} is read-only: first set its mode to READWRITE")
 
 
 # Writing, and comparing
@@ -902,7 +901,7 @@ def move(flags: argparse.Namespace):
     if not flags.dry_run:
         write(target, plan, source.url, flags.run)
         compare(plan.wanted, target)
-        print(f"{target.url} was read, and has {plan.wanted}, as it has to")
+        print(f"{target.url} now has {plan.wanted}, as expected")
 
 
 def main():

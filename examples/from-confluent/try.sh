@@ -78,7 +78,7 @@ start_stand_in --modes
 move 0 --dry-run "$source" "$url"
 cat "$scratch/moved"
 check_new "$url"
-writes=$(sed -n 's/.* by \([0-9]*\) writes$/\1/p' "$scratch/moved")
+writes=$(sed -n 's/.* in \([0-9]*\) writes$/\1/p' "$scratch/moved")
 for sixth in 1 2 3 4 5; do
   move_killed $((writes * sixth / 600 * 100)) "$source" "$url"
 done
@@ -142,8 +142,8 @@ TERM=xterm script -qec "stty cols 100; python3 $examples/from-confluent.py --use
   fail "the mover failed in a terminal: $(tail -n 3 "$scratch/typed")"
 tr '\r' '\n' <"$scratch/typed" | grep -E '#\.+\] written .* left' | tail -n 1 | sed 's/^[^[]*\[K//'
 grep -qE '\[#+\.+\] written [0-9]+ of [0-9]+ writes, [0-9]+:[0-9]{2} left' "$scratch/typed" || fail "the terminal shows no bar"
-check_output ', as it has to' "$scratch/typed"
-writes=$(sed -n 's/.* by \([0-9]*\) writes.*/\1/p' "$scratch/typed")
+check_output ', as expected' "$scratch/typed"
+writes=$(sed -n 's/.* in \([0-9]*\) writes.*/\1/p' "$scratch/typed")
 [ "$writes" -lt 400 ] || fail "$writes writes for 200 versions"
 compare "$source" "$url" "$avroreg"
 size=("${all[@]}")
