@@ -119,7 +119,7 @@ for node in n1 n2 n3; do
 done
 for node in n1 n2 n3; do
   check "$node is healthy" eventually 120 is_healthy "$node"
-  check "its units are valid" on "$node" systemd-analyze verify --man=no etcd.service avroreg.service avroreg-relay.service
+  check "$node: the units are valid" on "$node" systemd-analyze verify --man=no etcd.service avroreg.service avroreg-relay.service
   for pair in etcd=etcd avroreg=avroreg avroreg-relay=avroreg-relay; do
     check "$node: ${pair%=*} runs as its own user" user_of "$node" "${pair%=*}" "${pair#*=}"
   done
@@ -145,7 +145,7 @@ check "n1 is healthy after it" eventually 120 is_healthy n1
 cp -r "$scratch/n1/root/backup" "$scratch/n2/root/"
 check "n2 is rebuilt from it" cluster n2 restore /root/backup
 check "n2 is healthy after it" eventually 120 is_healthy n2
-check "a pause" cluster n3 pause
+check "writes are paused" cluster n3 pause
 for node in n1 n2 n3; do
   # The same program with one more byte, so that the check sees which one runs.
   { cat "$program"; echo; } >"$scratch/$node/root/new" && chmod 755 "$scratch/$node/root/new"
@@ -154,12 +154,12 @@ for node in n1 n2 n3; do
   check "$node runs it" on "$node" bash -c 'cmp "/proc/$(systemctl show -P MainPID avroreg)/exe" /root/new'
   check "packaging/install records it" on "$node" bash -c 'AVROREG=/root/new /root/avroreg/packaging/install && sha256sum -c /usr/share/avroreg/program'
 done
-check "writes go on" cluster n3 resume
+check "writes are resumed" cluster n3 resume
 check "a write at n3" eventually 60 register n3 d 4
 check "entries are trimmed" cluster n3 trim
 check "the nodes are equal" fingerprints
 check "the relay ends by SIGTERM with its position saved" on n1 systemctl stop avroreg-relay
-check "and nginx may no longer read from avroreg" on n1 test ! -e /run/avroreg-relay/local-reads
-check "its journal says so" on n1 bash -c "journalctl -u avroreg-relay -o cat | grep -q 'ended at revision'"
+check "after that, nginx may not read from n1's avroreg" on n1 test ! -e /run/avroreg-relay/local-reads
+check "the journal has the relay's last revision" on n1 bash -c "journalctl -u avroreg-relay -o cat | grep -q 'ended at revision'"
 print_counts
 [ "$failures" = 0 ]

@@ -39,7 +39,7 @@ class Calls(unittest.IsolatedAsyncioTestCase):
                 writer.write(self.responses.pop(0))
                 if not self.responses:
                     return
-        except asyncio.IncompleteReadError:
+        except (asyncio.IncompleteReadError, asyncio.CancelledError):  # the client has closed the connection, or the test has ended
             pass
         finally:
             writer.close()

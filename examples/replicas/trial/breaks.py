@@ -80,34 +80,34 @@ ODD = {
     ),
     # The relay ignores Transfer-Encoding, so another reader may see another end of the body.
     "ignore-a-coding": Break(
-        "what could be read in two ways",
+        "an ambiguous request got",
         (Edit("http1.py", '    if b"transfer-encoding" in fields:\n', '    if b"transfer-encodings" in fields:\n'),),
     ),
     # If there are two lengths, the relay uses the first one.
     "take-the-first-length": Break(
-        "what could be read in two ways",
+        "an ambiguous request got",
         (Edit("http1.py", "    if len(lengths) > 1 or not re.", "    if not re."),),
     ),
     # After a malformed head, the relay reads on.
     "read-on": Break(
-        "what could be read in two ways",
+        "an ambiguous request got",
         (Edit("server.py", 'time.monotonic(), "faulty", b"", True\n', 'time.monotonic(), "faulty", b"", False\n'),),
     ),
 }
 
 
-OTHERS = "Wrong..another node answers for it"
+OTHERS = "Wrong..another node answers a read of the subjects"
 ANY_GET = Edit("nginx.conf", '"$request_method:$http_cache_control"', '"$request_method:"')
 ANY_METHOD = Edit("nginx.conf", '    default 1;\n    "GET:"  0;', "    default 0;")
 
 CLIENTS = {
     # nginx forwards the 404 of its own avroreg.
     "answer-404-alone": Break(
-        "Wrong..and a read of what n1 doesn.t know",
+        "Wrong..another node answers a read of a subject that n1 doesn.t have",
         (Edit("nginx.conf", "        error_page 404 ", "        error_page 418 "),),
     ),
     # nginx ignores Cache-Control, and reads from its own avroreg.
-    "read-fresh-locally": Break("Wrong..a fresh read is not", (ANY_GET,)),
+    "read-fresh-locally": Break("Wrong..a fresh read at n1 has them", (ANY_GET,)),
     # nginx reads from its own avroreg though the relay has stopped.
     "read-from-a-stopped-node": Break(OTHERS, (Edit("nginx.conf", "if (!-f ", "if (-d "),)),
     # A relay that stops leaves the file.
@@ -116,10 +116,10 @@ CLIENTS = {
         (Edit("replica.py", "        self.broken = reason\n        self.end_local_reads()\n", "        self.broken = reason\n"),),
     ),
     # nginx sends writes to its own avroreg, which rejects them because of the key that nginx sets.
-    "send-writes-past-the-log": Break("Wrong..a write at n1 is answered Found.status=400", (ANY_METHOD,)),
+    "send-writes-past-the-log": Break("Wrong..a write at n1 got Found.status=400", (ANY_METHOD,)),
     # The relay keeps its connection, so avroreg doesn't serve nginx for a quarter of a second.
     "keep-the-connection": Break(
-        "Wrong..after a write it isn.t slower",
+        "Wrong..a read after a write isn.t slower",
         (Edit("registry.py", "or not (is_followed or self.asking > 1)", "and False"),),
     ),
 }

@@ -117,9 +117,9 @@ class Odd(LocalTrial):
                 text = f"{head}\r\nHost: h\r\nRegistry-Retry-Key: u{count}\r\n{framing.replace('{length}', str(len(body)))}\r\n\r\n{body}"
                 found = statuses_of(responses_to(self.nodes[0], text.encode("latin-1")))
                 if found not in ([400], [501]):
-                    raise Wrong(f"what could be read in two ways is answered {found}: {text!r}")
+                    raise Wrong(f"an ambiguous request got {found}: {text!r}")
         status, _ = ask(self.nodes[0], "GET", "/config/hidden", None, **{"Cache-Control": "no-cache"})
-        check(status == 404, f"{3 * count} requests that could be read in two ways are refused, and none hides a write")
+        check(status == 404, f"{3 * count} ambiguous requests are rejected, and none hides a write")
 
     def check_writes_without_key(self) -> None:
         """Checks that avroreg rejects each kind of write with the key `?`. So the relay can't apply a write past the log."""
@@ -129,9 +129,9 @@ class Odd(LocalTrial):
             connection.request(method, target, body, {"Registry-Retry-Key": NO_KEY.decode()})
             response = connection.getresponse()
             if (response.status, json.loads(response.read())["error_code"]) != (400, 40001):
-                raise Wrong(f"avroreg takes a write with the key of a read: {method} {target}")
+                raise Wrong(f"avroreg accepted a write with the relay's key for reads: {method} {target}")
             connection.close()
-        check(True, f"avroreg refuses {len(WRITES)} writes of all kinds with the key of a read")
+        check(True, f"avroreg rejects {len(WRITES)} writes of all kinds with the relay's key for reads")
 
     def entries(self) -> int:
         found = re.search("log: ([0-9]+) entries", self.command(self.nodes[0], "status"))
@@ -143,7 +143,7 @@ class Odd(LocalTrial):
         for at, (method, target, body) in enumerate(WRITES):
             status, response = ask(self.nodes[0], method, target, body, **{"Registry-Retry-Key": f"w{at}"})
             if status != 200:
-                raise Wrong(f"{method} {target} is answered {status}: {response!r}")
+                raise Wrong(f"{method} {target} got {status}: {response!r}")
             if self.entries() != before + at + 1:
                 raise Wrong(f"a write is past the log: {method} {target}")
         check(True, f"the log has {len(WRITES)} writes of all kinds")

@@ -32,7 +32,7 @@ class Operations(ThroughNginx):
     def from_nothing(self) -> None:
         self.set_up()
         check(self.register(self.nodes[0], 3) == [1, 2, 3], "three schemas are registered at n1")
-        check(self.register(self.nodes[1], 2) == [4, 5], "two at n2")
+        check(self.register(self.nodes[1], 2) == [4, 5], "two schemas are registered at n2")
         self.wait_until_equal()
         check("5 entries" in self.command(self.nodes[2], "status"), "status shows five entries")
 
@@ -48,7 +48,7 @@ class Operations(ThroughNginx):
         single = http.client.HTTPConnection("127.0.0.1", first.ports["registry"], timeout=60)
         for number in range(4):
             single.request("POST", f"/subjects/old{number}/versions", schema(1000 + number), {"Registry-Retry-Key": f"old{number}"})
-            check(json.loads(single.getresponse().read())["id"] == number + 1, f"the single avroreg registers {number + 1}")
+            check(json.loads(single.getresponse().read())["id"] == number + 1, f"the single avroreg registers a schema with id {number + 1}")
         single.close()
         for node in self.nodes:
             node.start("etcd")
@@ -132,12 +132,12 @@ class Operations(ThroughNginx):
                 time.sleep(0.02)
 
         reader = threading.Thread(target=read)
-        check("aren't paused" in self.command(self.nodes[1], "upgrade", new, fails=True), "without a pause there is no upgrade")
+        check("aren't paused" in self.command(self.nodes[1], "upgrade", new, fails=True), "upgrade fails unless writes are paused")
         reader.start()
         try:
             self.command(self.nodes[1], "pause")
             status, body = ask(self.nodes[0], "PUT", "/config", b'{"compatibility":"FULL"}')
-            check((status, json.loads(body)["error_code"]) == (503, 50304), "a write is answered 503, 50304")
+            check((status, json.loads(body)["error_code"]) == (503, 50304), "a write gets 503 with 50304")
             for node in self.nodes:
                 before = node.process("registry")
                 self.command(node, "upgrade", new)
@@ -171,7 +171,7 @@ class Operations(ThroughNginx):
         self.command(self.nodes[2], "backup", backup)
         self.wait_until_equal()
         self.wait_for(self.have_published, "the nodes have published their positions")
-        check("removed 5" in self.command(self.nodes[2], "trim"), "then it removes them")
+        check("removed 5" in self.command(self.nodes[2], "trim"), "once n2 has applied them, trim removes them")
         self.register(self.nodes[1], 2)
         self.wait_until_equal()
         self.command(self.nodes[0], "restore", backup)
@@ -180,7 +180,7 @@ class Operations(ThroughNginx):
         self.wait_until_equal()
         self.wait_for(self.have_published, "the nodes have published their positions")
         self.command(self.nodes[2], "trim")
-        check("newer backup" in self.command(self.nodes[0], "restore", backup, fails=True), "a backup older than the log is refused")
+        check("newer backup" in self.command(self.nodes[0], "restore", backup, fails=True), "a backup older than the log is rejected")
         self.wait_until_equal()
 
     def write_until_full(self) -> None:
@@ -189,7 +189,7 @@ class Operations(ThroughNginx):
         for number in range(200):
             status, response = ask(self.nodes[0], "PUT", f"/config/full{number}", body, **{"Registry-Retry-Key": f"full{number}"})
             if status == 503:
-                check(number, f"after {number} large writes etcd's quota is full, and a write is answered {json.loads(response)['error_code']}")
+                check(number, f"after {number} large writes etcd's quota is full, and a write gets {json.loads(response)['error_code']}")
                 return
         raise Wrong("etcd's quota doesn't get full")
 
@@ -237,7 +237,7 @@ class Operations(ThroughNginx):
                 path.unlink(missing_ok=True)
             node.start("etcd")
         self.wait_for(lambda: all(it.is_up("etcd") for it in self.nodes), "a new etcd runs")
-        check("another cluster" in self.command(self.nodes[0], "restore", backup, fails=True), "restore refuses another cluster's backup")
+        check("another cluster" in self.command(self.nodes[0], "restore", backup, fails=True), "restore rejects another cluster's backup")
         for node in self.nodes:
             self.command(node, "adopt", backup / "registry.db")
         self.wait_until_equal()
@@ -258,7 +258,7 @@ class Operations(ThroughNginx):
         self.wait_for(lambda: second.health().get("status") == "stopped", "n2 stops after the next registration")
         check([it.health()["status"] for it in (first, third)] == ["ok", "ok"], "the others go on")
         status, body = ask(second, "GET", "/subjects")
-        check((status, json.loads(body)["error_code"]) == (503, 50303), "n2 answers 503, 50303")
+        check((status, json.loads(body)["error_code"]) == (503, 50303), "n2 responds 503 with 50303")
         backup = self.folder / "for-n2"
         self.command(first, "backup", backup)
         self.command(second, "restore", backup)

@@ -107,7 +107,7 @@ class LocalTrial:
             time.sleep(0.2)
         check(len({it["digest"] for it in found}) == 1, f"{len(nodes)} nodes at revision {found[0]['revision']} with one digest")
         prints = {self.command(it, "fingerprint") for it in nodes}
-        check(len(prints) == 1, f"and one fingerprint: {prints.pop().split()[1]}")
+        check(len(prints) == 1, f"they have one fingerprint: {prints.pop().split()[1]}")
 
     def wait_for(self, condition: Callable[[], object], text: str) -> None:
         until = time.monotonic() + 60

@@ -79,11 +79,11 @@ class ThroughNginx(LocalTrial):
 
     def check_users(self) -> None:
         statuses = [self.send("GET", "/subjects", user=user).status for user in ("", "producer:guess")]
-        check(statuses == [401, 401], "without a right password: 401")
+        check(statuses == [401, 401], "without the right password: 401")
         status, key, _ = self.send("POST", "/subjects/a/versions", schema(1))
         check(status == 200 and re.fullmatch("[0-9a-f]{32}", key), f"a write without a key gets one: {key}")
         status, key, _ = self.send("POST", "/subjects/a/versions", schema(1), **{"Registry-Retry-Key": "mine"})
-        check((status, key) == (200, "mine"), "one with a key keeps it")
+        check((status, key) == (200, "mine"), "a write with a key keeps its key")
         foreign = [
             self.send(method, "/config", b'{"compatibility":"NONE"}', Origin="http://elsewhere").status for method in ("PUT", "GET")
         ]
@@ -107,36 +107,36 @@ class ThroughNginx(LocalTrial):
         for number in range(20):
             written = self.send("POST", f"/subjects/l{number}/versions", schema(10 + number))
             if written.status != 200:
-                raise Wrong(f"a write at n1 is answered {written}")
+                raise Wrong(f"a write at n1 got {written}")
             seconds, by_id = self.timed_read(f"/schemas/ids/{json.loads(written.body)['id']}")
             first.append(seconds)
             seconds, versions = self.timed_read(f"/subjects/l{number}/versions")
             second.append(seconds)
             if by_id[0] != 200 or versions != (200, b"[1]"):
-                raise Wrong(f"what n1 acknowledged isn't in a read there: {by_id}, {versions}")
-        check(True, "a read at n1 has what n1 acknowledged")
-        check(self.reads_of_relay() == before, "without its relay")
+                raise Wrong(f"a read at n1 lacks a write that n1 acknowledged: {by_id}, {versions}")
+        check(True, "a read at n1 has each write that n1 acknowledged")
+        check(self.reads_of_relay() == before, "n1's relay got none of these reads")
         halves = statistics.median(first), statistics.median(second)
-        check(halves[0] < halves[1] + 0.15, f"after a write it isn't slower: {halves[0] * 1000:.0f} ms, otherwise {halves[1] * 1000:.0f} ms")
+        check(halves[0] < halves[1] + 0.15, f"a read after a write isn't slower: {halves[0] * 1000:.0f} ms, otherwise {halves[1] * 1000:.0f} ms")
         check(self.send("POST", "/subjects/a%2Fb/versions", schema(1)).status == 200, "a subject with an escape is registered")
-        check(self.read("/subjects/a%2Fb/versions") == (200, b"[1]"), "and read")
+        check(self.read("/subjects/a%2Fb/versions") == (200, b"[1]"), "its versions are read")
         unknown = [self.read(target)[0] for target in ("/subjects/a%2Fc/versions", "/schemas/ids/999")]
-        check(unknown == [404, 404], f"an unknown subject and id: {unknown}")
+        check(unknown == [404, 404], f"an unknown subject and an unknown id get {unknown}")
         for value in ("no-cache", "max-age=0, No-Cache", "max-age=0"):
             check(self.read("/subjects/a/versions", **{"Cache-Control": value}) == (200, b"[1]"), f"a read with {value}")
-        check(self.send("POST", "/subjects/a", schema(1)).status == 200, "a look-up with a body")
+        check(self.send("POST", "/subjects/a", schema(1)).status == 200, "a lookup with a body")
         check(self.send("HEAD", "/subjects").status == 405, "avroreg doesn't support HEAD")
 
     def check_another_node(self) -> None:
         first = self.nodes[0]
         first.end("relay", signal.SIGKILL)
-        check(self.send("POST", "/subjects/b/versions", schema(2)).status == 200, "n1's relay is away, and another node takes a write")
-        check(self.read("/subjects/b/versions") == (200, b"[1]"), "and a read of what n1 doesn't know")
-        check(self.read("/subjects/a/versions", **FRESH) == (200, b"[1]"), "and a fresh read")
+        check(self.send("POST", "/subjects/b/versions", schema(2)).status == 200, "n1's relay is killed, and another node accepts a write")
+        check(self.read("/subjects/b/versions") == (200, b"[1]"), "another node answers a read of a subject that n1 doesn't have")
+        check(self.read("/subjects/a/versions", **FRESH) == (200, b"[1]"), "another node answers a fresh read")
         self.cluster.start("n1", "relay")
         self.wait_until_equal()
         first.end("registry", signal.SIGKILL)
-        check(self.read("/subjects/a/versions") == (200, b"[1]"), "n1's avroreg is away, and another node answers a read")
+        check(self.read("/subjects/a/versions") == (200, b"[1]"), "n1's avroreg is killed, and another node answers a read")
         self.cluster.start("n1", "registry")
 
     def check_old_node(self) -> None:
@@ -147,14 +147,14 @@ class ThroughNginx(LocalTrial):
         assert etcd
         os.kill(etcd, signal.SIGSTOP)
         try:
-            check(self.send("POST", "/subjects/c/versions", schema(3)).status == 200, "n1's etcd hangs, and another node takes a write")
-            check(self.register_at(second, "a", 4) == 200, "n2 takes another one")
-            check(self.read("/subjects/a/versions") == (200, b"[1]"), "a read at n1 is as old as that")
-            check(self.read("/subjects/a/versions", **FRESH) == (200, b"[1,2]"), "a fresh read is not")
-            check(self.read("/subjects/c/versions") == (200, b"[1]"), "and n1 answers 404 for no subject that another node has acknowledged")
+            check(self.send("POST", "/subjects/c/versions", schema(3)).status == 200, "n1's etcd hangs, and another node accepts a write")
+            check(self.register_at(second, "a", 4) == 200, "n2 accepts another write")
+            check(self.read("/subjects/a/versions") == (200, b"[1]"), "a read at n1 lacks these writes")
+            check(self.read("/subjects/a/versions", **FRESH) == (200, b"[1,2]"), "a fresh read at n1 has them")
+            check(self.read("/subjects/c/versions") == (200, b"[1]"), "n1 finds a subject that another node acknowledged")
         finally:
             os.kill(etcd, signal.SIGCONT)
-        check(ask(second, "GET", "/subjects/c/versions") == (200, b"[1]"), "it is applied exactly once")
+        check(ask(second, "GET", "/subjects/c/versions") == (200, b"[1]"), "the write of that subject is applied exactly once")
         self.wait_until_equal()
 
     def register_at(self, node: Node, subject: str, number: int) -> int:
@@ -171,13 +171,13 @@ class ThroughNginx(LocalTrial):
         direct.request("POST", "/subjects/past/versions", schema(9999))
         check(direct.getresponse().status == 200, "a schema is registered at n1's avroreg itself")
         direct.close()
-        check(self.register_at(second, "d", 5) == 200, "n2 takes a write")
+        check(self.register_at(second, "d", 5) == 200, "n2 accepts a write")
         self.wait_for(lambda: first.health().get("status") == "stopped", "n1 stops")
         subjects = self.read("/subjects")
-        check(subjects[0] == 200 and b'"d"' in subjects[1] and b'"past"' not in subjects[1], "another node answers for it")
-        check(self.read("/subjects/past/versions")[0] == 404, "for one subject too")
+        check(subjects[0] == 200 and b'"d"' in subjects[1] and b'"past"' not in subjects[1], "another node answers a read of the subjects")
+        check(self.read("/subjects/past/versions")[0] == 404, "the write past the log isn't found")
         backup = self.folder / "for-n1"
         self.command(second, "backup", backup)
         self.command(first, "restore", backup)
         self.wait_for(first.local_reads.exists, "n1 is rebuilt, and its relay lets nginx read from avroreg")
-        check(b'"past"' not in self.read("/subjects")[1], "which is right again")
+        check(b'"past"' not in self.read("/subjects")[1], "its avroreg lacks the write past the log")

@@ -122,7 +122,7 @@ class Trial:
         example = [(it.message(), status, body) for it, status, body in wrongly[:1]]
         self.check(not wrongly, f"responses that the log doesn't give: {len(wrongly)} of {count} {example or ''}")
         early = compare.out_of_order([message for _, message in fold.log], writes)
-        self.check(not early, f"writes that the log has after one that began later than they were acknowledged: {early}")
+        self.check(not early, f"writes that were acknowledged before another one began, and are after it in the log: {early}")
         self.outcome = Outcome(len(lost), 0, len(wrongly), early, 0, fold.repeats())
         self.compare_tables(fold)
 
