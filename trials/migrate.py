@@ -225,7 +225,7 @@ def lines():
             pass
         check_outcome("a file that another process uses", line("cannot open F"), run_program(["migrate", "--db", "F"], folder=folder))
         other.communicate()
-    print("lines: 10 right", flush=True)
+    print("lines: 10 cases have the right output and status", flush=True)
 
 
 def check_either(where, folder, before, migrated, must_be_migrated=False):
