@@ -90,7 +90,7 @@ register() { responds "$1" 200 "{\"id\":$3}" -H "Registry-Retry-Key: $2" -d "{\"
 cluster() {
   local node=$1
   shift
-  on "$node" avroreg-cluster "$@" || { on "$node" journalctl -u avroreg -o short-precise -n 12; return 1; }
+  on "$node" avroreg-cluster "$@" || { on "$node" journalctl -u avroreg -o short-precise -n 6; return 1; } # (a failed check prints 12 lines)
 }
 is_healthy() { on "$1" curl -s -f -m 10 http://127.0.0.1:8082/health; }
 user_of() { [ "$(on "$1" ps -o user:20= -p "$(on "$1" systemctl show -P MainPID "$2")")" = "$3" ]; }
