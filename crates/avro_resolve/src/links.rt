@@ -118,7 +118,7 @@ fn add_node_links(
 }
 
 /// For each place of a side the unions that have it as a branch, and its links, sorted by label.
-/// `rank_map` is `None` for the reader's side, which alone has links by aliases.
+/// `rank_map` is `None` for the reader's side. Only that side has links by aliases.
 pub fn links_of(alloc: Global, side: &Side, rank_map: Option<&RankMap>) -> AllocResult<Links>
     requires { IsSide side.now }
     ensures { IfOk result (λ a. HasReferrers (names_of side.now) (ranks_of rank_map.entry) (nodes_of side.now) a) }
