@@ -78,6 +78,7 @@ try_deb() {
   check "the record doesn't call this program proved" grep -q '^# proved: not known' "$scratch/debian/usr/share/avroreg/program"
   check "the program runs" grep -qx '"int"' <(inside debian avroreg text /tmp/schema)
   check "lost-ids runs" grep -q -- '--old FILE' <(inside debian /usr/share/avroreg/lost-ids --help)
+  check "restore runs" grep -q 'BACKUP F OLD' <(inside debian /usr/share/avroreg/restore --help)
   check "the units are valid" inside debian systemd-analyze verify --man=no avroreg.service avroreg@orders.service avroreg-backup.timer avroreg-watch.timer \
     avroreg-backup@orders.timer avroreg-watch@orders.timer
   mkdir -p "$scratch/debian/var/lib/avroreg"

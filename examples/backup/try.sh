@@ -1,6 +1,6 @@
 #!/usr/bin/env bash
-# Tests hot-copy and restore-drill: copies with a new log or a checkpoint at a chosen moment, copies under load with and
-# without kill -9, and then a drill. trial.sh makes many more copies, on any file systems.
+# Tests hot-copy, nightly, restore-drill and restore: copies with a new log or a checkpoint at a chosen moment, copies under load
+# with and without kill -9, restores that fail at each step, and a drill. trial.sh makes many more copies, on any file systems.
 #
 #   AVROREG=PROGRAM examples/backup/try.sh [COPIES]          COPIES copies under load, 4 by default
 #   AVROREG=PROGRAM examples/backup/try.sh breaks [NAME]..   breaks hot-copy, and expects this script to detect it
@@ -39,9 +39,10 @@ if [ "${1:-}" = breaks ]; then
   exit
 fi
 
-mkdir "$scratch/certain" "$scratch/load"
+mkdir "$scratch/certain" "$scratch/load" "$scratch/restore"
 python3 "$here/certain.py" "$scratch/certain" || fail "a copy was wrong, or hot-copy didn't end"
 python3 "$here/trial.py" "${1:-4}" "$scratch/load" || fail "a copy under load was wrong"
+python3 "$here/try-restore.py" "$scratch/restore" || fail "a restore was wrong"
 
 start_server "$scratch/registry.db"
 curl -s -o "$scratch/reply" -d '{"schema":"\"string\""}' "$url/subjects/orders/versions"
