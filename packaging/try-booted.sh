@@ -38,6 +38,16 @@ check "the first registry doesn't have its subject" answers 200 '["orders"]' "$u
 
 check "a backup is made while the server runs" systemctl start avroreg-backup
 check "the backup passed its audit" test -s /var/lib/avroreg-backup/last-good.json
+backup=$(ls /var/lib/avroreg-backup/registry-*.db)
+restore() { /usr/share/avroreg/restore "$backup" /var/lib/avroreg/registry.db /var/lib/avroreg/old-1 2>&1; }
+check "a restore is refused while the server runs" grep -q 'stop avroreg' <(restore)
+check "a write after the backup is acknowledged" answers 200 '{"id":2}' -d '{"schema":"\"int\""}' "$url/subjects/later/versions"
+systemctl stop avroreg
+check "the backup is restored" restore
+check "it starts with the restored file" systemctl start avroreg
+check "the registry is that of the backup" answers 200 '["orders"]' "$url/subjects"
+check "its user owns the restored file" test "$(stat -c '%a %U %G' /var/lib/avroreg/registry.db)" = "600 avroreg avroreg"
+check "the old files are kept" test -s /var/lib/avroreg/old-1/registry.db-wal
 check "metrics are written" systemctl start avroreg-watch
 check "the metrics report that the server is up" grep -qx 'avroreg_up 1' /var/lib/avroreg-metrics/avroreg.prom
 check "the timers start" systemctl start avroreg-backup.timer avroreg-watch.timer

@@ -82,6 +82,8 @@ check "the volume belongs to the image's user" test "$(stat -c %u "$volume")" = 
 mkdir "$scratch/backup"
 check "the host copies it while it runs" "$here/../examples/backup/hot-copy" "$volume/registry.db" "$scratch/backup/registry.db"
 check "the image audits the copy" podman run --rm --user 0 --network none -v "$scratch/backup:/backup" "localhost/avroreg:$version" audit --db /backup/registry.db
+restore() { "$here/../examples/backup/restore" "$scratch/backup/registry.db" "$volume/registry.db" "$volume/old-1" 2>&1; }
+check "a restore is refused while the pod runs" grep -q 'stop avroreg' <(restore)
 check "the image sets the variable of the C library" grep -qx GLIBC_TUNABLES=glibc.malloc.tcache_count=2000 \
   <(podman inspect -f '{{range .Config.Env}}{{println .}}{{end}}' avroreg-registry)
 process=$(pid_of avroreg-registry)
@@ -96,7 +98,7 @@ settings=$scratch/settings
 tls=https://127.0.0.1:8443
 sed "s,path: /etc/avroreg-nginx,path: $settings," "$here/oci/pod-tls.yaml" >"$scratch/pod-tls.yaml"
 block "$here/../docs/running.md" "### TLS and passwords in a container" |
-  sed "/^curl /d; s,/etc/avroreg-nginx,$settings,g; s,/root/registry,$scratch/registry,; s,packaging/oci/pod-tls,$scratch/pod-tls," >"$scratch/set-up.sh"
+  sed "/^curl /d; s,/var/tmp,$scratch,; s,/etc/avroreg-nginx,$settings,g; s,/root/registry,$scratch/registry,; s,packaging/oci/pod-tls,$scratch/pod-tls," >"$scratch/set-up.sh"
 export -f podman
 # certify: makes a certificate and its key.
 certify() {
@@ -154,5 +156,10 @@ check "nginx reads it" reload
 check "and sends it" eventually 60 secure 200 BACKWARD "$tls/config"
 check "nginx can't write its settings, and other users can't read them" are_kept
 check "the pod is removed" podman kube down "$scratch/pod-tls.yaml"
+check "the copy is restored" restore
+check "the image's user owns it" test "$(stat -c '%a %u %g' "$volume/registry.db")" = "600 10001 10001"
+check "a temporary container serves it" podman run -d --rm --name restored --network host -v avroreg:/var/lib/avroreg "localhost/avroreg:$version"
+check "the registry is that of the copy" eventually 60 answers 200 '[1]' http://127.0.0.1:8081/subjects/orders/versions
+check "the temporary container stops" podman stop restored
 skip_check "the limits of a container, which need a cgroup"
 print_counts
