@@ -1,6 +1,7 @@
 -- What the queries of versions with their subjects return.
-use Rattle.std.proofs.Common.{◌≡◌, ◌≢◌, ◌==◌, ◌&&◌, inl, inr, ℕ, pos, List, [], ◌∷◌, length, map, All, Bool, true, false, Option, None, Some, MatchOption, slice_get, refl, sym, ap, subst, ◌∙◌}
+use Rattle.std.proofs.Common.{◌≡◌, ◌≢◌, ◌≤◌, ◌==◌, ◌&&◌, inl, inr, ℕ, pos, List, [], ◌∷◌, length, map, All, Bool, true, false, Option, None, Some, MatchOption, slice_get, refl, sym, ap, subst, ◌∙◌, arith}
 use Rattle.reg_tables.proofs.Kit.{unsigned_Decides, entries, get, IsUtf8, ◌<◌, ◌^◌, option_map, is_eq, nat_cmp, cases_Bool, both_ways, false_from_ne_true, length-map, map-map, Int, Text, Row, overlay, Output, IsAnswer, Schema, State, Shown, Has, contains_had, has_contained, has_filtered, has_kept, is_true, from_truth, all_of, filter_all, value_cmp-Int}
+use Rattle.std.proofs.lemmas.List.{length-take}
 use Rattle.sqlite.specs.Order.{column}
 use Rattle.sqlite_sql.specs.Ops.{binary}
 use Rattle.reg_tables.specs.Layout.{HasFiveTables}
@@ -152,6 +153,9 @@ module _ (old new : State) (schema : Schema) (contents : Contents) (h : HoldsCon
         o.2 ∙ ap (λ (p : Output). p.1) r.3 ∙ whole r.0 (e.0, e.1) e.3,
       )
 
+  at_most : length found ≤ versions_limit
+  at_most = omega (arith, ap length some_answer.shown ∙ length-take 33 all_shown)
+
   few_are_all : length found < versions_limit → (e : ListedVersionView) → Has (id_versions id contents) e → Has found (listed_version_cells e)
   few_are_all few e there =
       let kept = has_filtered has_id (entries contents.versions) e there in
@@ -163,6 +167,7 @@ module _ (old new : State) (schema : Schema) (contents : Contents) (h : HoldsCon
 
   pub some_of_id : (lines : List ListedVersion) → map (λ (row : Row). column row 0 ∷ column row 1 ∷ column row 2 ∷ column row 3 ∷ []) found ≡ map (λ (line : ListedVersion). listed_version_cells (listed_version_view line)) lines → AreVersionsOfId id contents (map listed_version_view lines)
   some_of_id lines read = record {
+    few = subst (λ n. n ≤ versions_limit) (sym count) at_most;
     each = λ version there. contains_had (id_versions id contents) version (each version (has_contained (map listed_version_view lines) version there));
     all = λ few version there. contains_had (map listed_version_view lines) version (all (subst (λ n. n < versions_limit) count few) version (has_contained (id_versions id contents) version there));
   }

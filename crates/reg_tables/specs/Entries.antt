@@ -1,5 +1,5 @@
 -- Rows of `versions` as they are read.
-use Rattle.std.specs.Prelude.{◌≡◌, ℕ, ◌<◌, ◌^◌, pos, List, ◌∷◌, length, map, filter, bytes_eq, ◌==◌, string_bytes, IsUtf8}
+use Rattle.std.specs.Prelude.{◌≡◌, ℕ, ◌<◌, ◌≤◌, ◌^◌, pos, List, ◌∷◌, length, map, filter, bytes_eq, ◌==◌, string_bytes, IsUtf8}
 use Rattle.std.specs.FinMap.{entries}
 use Rattle.std.specs.List.{Contains}
 use Rattle.sqlite.specs.declared.types.Value.TheVariants.{Int, Text}
@@ -38,8 +38,9 @@ listed_version_view line = ((string_bytes line.subject, line.number), record { i
 abbrev pub versions_limit : ℕ
 versions_limit = 33
 
--- these versions have the id; if they are fewer than `versions_limit`, they are all versions with the id, in any order
+-- these versions have the id; they are at most `versions_limit`, and if they are fewer, they are all versions with the id, in any order
 pub record AreVersionsOfId (id : ℕ) (contents : Contents) (versions : List ListedVersionView) : Type 0 where
+  pub few : length versions ≤ versions_limit
   pub each : (version : ListedVersionView) → Contains versions version → Contains (id_versions id contents) version
   pub all : length versions < versions_limit → (version : ListedVersionView) → Contains (id_versions id contents) version → Contains versions version
 

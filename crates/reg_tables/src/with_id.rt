@@ -15,7 +15,7 @@ use std::alloc::Global;
 /// The most versions that `some_versions_of_id` returns.
 pub const VERSIONS_LIMIT: usize = 33;
 
-/// Versions with this id, in any order. If they are fewer than `VERSIONS_LIMIT`, they are all. The
+/// At most `VERSIONS_LIMIT` versions with this id, in any order. If they are fewer, they are all. The
 /// limit and the index bound the steps of the query.
 ///
 /// # Errors
