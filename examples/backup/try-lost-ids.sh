@@ -86,6 +86,7 @@ check_id new 7
 serve_backup "somebody else wrote"
 check_id new 4
 check_end 1 "got the id 5 in place of 4" --old old.db --backup backup.db
+grep -q "with a new folder OLD, and run this again with the same arguments" out || fail "$case: $(cat out)"
 serve_backup "a read-only registry"
 curl -s -o mode.out -X PUT -d '{"mode":"READONLY"}' "$url/mode"
 check_end 1 'PUT /mode with {"mode":"READWRITE"}' --old old.db --backup backup.db
@@ -134,7 +135,8 @@ check_end 0 "would register 4 schemas: placeholders" --log first.log.gz second.l
 check_end 0 "ids used up: 4, from 4 to 7" --log first.log.gz second.log --since 20261128T023000Z
 check_no_subjects
 check_id new 8
-TZ=Asia/Tokyo check_end 0 "would register 4 schemas" --log first.log.gz second.log --since 2026-11-28T11:30 --dry-run
+TZ=Asia/Tokyo check_end 0 "would register 4 schemas" --log first.log.gz second.log --since 2026-11-28T11:30+09:00 --dry-run
+check_end 2 "2026-11-28T02:30 is no time with an offset" --log first.log.gz second.log --since 2026-11-28T02:30
 check_end 2 "The log begins at 2026-11-28T03:00:00" --log second.log --since 20261128T023000Z
 check_end 0 "ids used up: 5, from 9 to 13" --log second.log --since 20261128T023000Z --count 2
 check_end 3 "0 lost ids" --log first.log.gz second.log --since 2026-11-28T04:00+00:00
