@@ -62,6 +62,21 @@ mkdir "$scratch/nights" "$scratch/bad"
 [ -s "$scratch/nights/last-good.json" ] || fail "the nightly backup isn't noted"
 "$here/nightly" --program false "$scratch/registry.db" "$scratch/bad" 2>"$scratch/error" && fail "a failed audit wasn't noticed"
 [ -z "$(ls "$scratch/bad")" ] || fail "a backup that failed its audit was left"
+# This program kills the run that starts it. The copy is left for a day, under another name than a backup's.
+printf '#!/bin/sh\nkill -KILL $PPID\n' >"$scratch/killer"
+# This one leaves a file next to the copy, such as its log.
+printf '#!/bin/sh\n: >"$3-wal"\n' >"$scratch/logger"
+chmod +x "$scratch/killer" "$scratch/logger"
+"$here/nightly" --program "$scratch/killer" "$scratch/registry.db" "$scratch/bad" && fail "a run wasn't killed"
+[ "$(cd "$scratch/bad" && find . -name 'registry-*.db' | cut -c 1-13)" = ./unfinished- ] || fail "a killed run left a backup: $(find "$scratch/bad")"
+"$here/nightly" --program "$scratch/logger" "$scratch/registry.db" "$scratch/bad" 2>"$scratch/error" && fail "a copy with a log became a backup"
+grep -q 'still has a log' "$scratch/error" || fail "no message about a log: $(cat "$scratch/error")"
+[ "$(ls "$scratch/bad" | cut -c 1-11)" = unfinished- ] || fail "not only the killed run's copy is there: $(ls "$scratch/bad")"
+touch -d '2 days ago' "$scratch/bad"/unfinished-*
+"$here/nightly" "$scratch/registry.db" "$scratch/bad" || fail "no nightly backup after a killed run"
+[ "$(ls "$scratch/bad" | tr -d '0-9\n')" = last-good.jsonregistry-TZ.db ] || fail "a killed run's copy was left: $(ls "$scratch/bad")"
+"$here/nightly" "$scratch/registry.db" "$scratch/none" 2>"$scratch/error" && fail "a missing folder wasn't noticed"
+grep -q 'there is no folder' "$scratch/error" || fail "no message about a missing folder: $(cat "$scratch/error")"
 
 fullest=$(ls "$scratch/nights"/registry-*.db)
 stop_server
