@@ -51,6 +51,27 @@ curl -s -o "$scratch/reply" -d '{"schema":"\"string\""}' "$url/subjects/orders/v
 curl -s -o "$scratch/reply" -d '{"schema":"\"int\""}' "$url/subjects/other/versions"
 "$here/restore-drill" "$url" "$scratch/backup.db" >"$scratch/drill" && fail "the drill missed a difference"
 grep -q '^differs: GET /subjects$' "$scratch/drill" || fail "the drill doesn't name the difference"
+# check_drill URL TEXT: checks that the drill with this registry ends with status 2, and prints this text.
+check_drill() {
+  local got
+  "$here/restore-drill" "$1" "$scratch/backup.db" >"$scratch/drill" 2>&1
+  got=$?
+  [ "$got" = 2 ] && grep -q "$2" "$scratch/drill" || fail "a drill with $1: status $got, $(cat "$scratch/drill")"
+}
+check_drill "http://127.0.0.1:$(free_port)" "Is the running registry served there"
+# Like nginx above its limit, this server responds with 429.
+limited=$(free_port)
+python3 -c 'import http.server, sys
+class Limited(http.server.BaseHTTPRequestHandler):
+    def do_GET(self): self.send_error(429)
+    def log_message(self, *arguments): pass
+http.server.HTTPServer(("127.0.0.1", int(sys.argv[1])), Limited).serve_forever()' "$limited" &
+started+=("$!")
+for _ in $(seq "$start_tries"); do
+  curl -s -o "$scratch/reply" "http://127.0.0.1:$limited/" && break
+  sleep 0.1
+done
+check_drill "http://127.0.0.1:$limited" "GET /config got 429 from nginx"
 "$HOT_COPY" "$scratch/registry.db" "$scratch/backup.db" 2>"$scratch/error" && fail "an existing backup was overwritten"
 "$HOT_COPY" "$scratch/none.db" "$scratch/other.db" 2>"$scratch/error" && fail "a missing file was copied"
 (ulimit -f 40 && "$HOT_COPY" "$scratch/registry.db" "$scratch/other.db" 2>"$scratch/error") && fail "40 KB were enough for a copy"
