@@ -158,8 +158,8 @@ check "nginx can't write its settings, and other users can't read them" are_kept
 check "the pod is removed" podman kube down "$scratch/pod-tls.yaml"
 check "the copy is restored" restore
 check "the image's user owns it" test "$(stat -c '%a %u %g' "$volume/registry.db")" = "600 10001 10001"
-check "a temporary container serves it" podman run -d --rm --name restored --network host -v avroreg:/var/lib/avroreg "localhost/avroreg:$version"
+check "a temporary container serves it" podman run -d --replace --name restored --network host -v avroreg:/var/lib/avroreg "localhost/avroreg:$version"
 check "the registry is that of the copy" eventually 60 answers 200 '[1]' http://127.0.0.1:8081/subjects/orders/versions
-check "the temporary container stops" podman stop restored
+check "the temporary container is removed" podman rm -f restored
 skip_check "the limits of a container, which need a cgroup"
 print_counts
