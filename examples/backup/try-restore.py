@@ -1,5 +1,5 @@
 #!/usr/bin/env python3
-"""Tests restore: good restores, everything that it refuses, and each of its renames failing or being the last.
+"""Tests restore: good restores, everything that it refuses, each of its renames failing or being the last, and kills after them.
 
     try-restore.py FOLDER       an empty folder; AVROREG names the program, RESTORE the script
 """
@@ -15,6 +15,7 @@ from checks import PROGRAM, Server, versions_of
 RESTORE = os.environ.get("RESTORE", str(Path(__file__).resolve().with_name("restore")))
 OWNER = 12345 if os.getuid() == 0 else os.getuid()
 # Runs restore with its rename number N broken: it fails, or it and each later one fail, or the process ends like one that was killed.
+# Or the process ends at the final sync.
 BROKEN = """
 import os, pathlib, runpy, sys
 restore, how, number = sys.argv[1], sys.argv[2], int(sys.argv[3])
@@ -28,6 +29,8 @@ def broken(source, target):
         raise OSError(5, "Input/output error", str(source))
     return rename(source, target)
 pathlib.Path.rename = broken
+if how == "killed at sync":
+    os.sync = lambda: os._exit(9)
 sys.argv = [restore, *sys.argv[4:]]
 runpy.run_path(restore, run_name="__main__")
 """
@@ -179,6 +182,11 @@ class Cases:
         (self.old / "registry.db").write_bytes(b"older")
         self.before = contents_of(self.here)
         self.refused("OLD has files", "name a new one")
+        self.case("")
+        self.old.mkdir()
+        (self.old / "registry.db").write_bytes(b"older")
+        self.before = contents_of(self.here)
+        self.refused("OLD has files, and F has no log", "name a new folder OLD")
         for file in (self.old / "new" / "note", self.old / "note"):
             shutil.rmtree(self.old)
             (self.old / "new").mkdir(parents=True)
@@ -235,6 +243,42 @@ class Cases:
         self.run()
         right = self.ran.returncode == 1 and "again with a new folder OLD." in self.ran.stderr and contents_of(self.here) == self.before
         self.report("killed, then a server made a new F", "refused", "" if right else self.ran.stderr)
+        first = {name.removeprefix("old/"): data for name, data in self.before.items() if name.startswith("old/")}
+        self.run(old=self.here / "again")
+        kept = {name: contents_of(self.old).get(name) for name in first}
+        right = self.ran.returncode == 0 and self.database.read_bytes() == self.backup.read_bytes() and kept == first
+        self.report("then with a new folder", "restored, and the first folder is kept", "" if right else f"{self.ran.stderr}{sorted(contents_of(self.here))}")
+
+    def after_renames(self) -> None:
+        """Kills after the last rename, and runs that don't know the first run's folder."""
+        for suffixes in (("", "-wal"), ("-wal",)):
+            self.case(*suffixes)
+            self.run(how=("killed at sync", 0))
+            ended = self.database.exists() and (self.old / "new").is_dir()
+            self.report(f"killed at the sync, {len(suffixes)} old files", "ended", "" if ended and self.ran.returncode == 9 else self.ran.stderr)
+            self.restored("then with the same command")
+        self.restored("a third time")
+        self.run(backup=self.served)
+        right = self.ran.returncode == 1 and "isn't a copy of" in self.ran.stderr and "Nothing was changed." in self.ran.stderr
+        self.report("then with another backup", "refused", "" if right else self.ran.stderr)
+        for how in (("killed", 2), ("killed", 3), ("killed at sync", 0)):
+            self.case("", "-wal")
+            self.run(how=how)
+            now = contents_of(self.here)
+            self.run(old=self.here / "another")
+            right = self.ran.returncode == 1 and f"An earlier run with {self.old} as OLD was interrupted" in self.ran.stderr
+            right = right and contents_of(self.here) == now and not (self.here / "another").exists()
+            self.report(f"{how[0]} {how[1]}, then with another folder", "refused", "" if right else f"{self.ran.stderr}{sorted(contents_of(self.here))}")
+            self.restored("then with the named folder")
+        self.case("", "-wal")
+        self.run(how=("killed at sync", 0))
+        self.register(self.database, 3)
+        subprocess.run([PROGRAM, "list", "--db", self.database, "schemas"], check=True, capture_output=True)
+        self.before = contents_of(self.here)
+        self.refused("killed at the sync, then a server changed F", "name a new folder OLD")
+        self.run(old=self.here / "again")
+        right = self.ran.returncode == 0 and self.database.read_bytes() == self.backup.read_bytes()
+        self.report("then with a new folder", "restored", "" if right else f"{self.ran.stderr}{sorted(contents_of(self.here))}")
 
 
 def main() -> int:
@@ -243,6 +287,7 @@ def main() -> int:
     cases.bad_backups()
     cases.bad_places()
     cases.renames()
+    cases.after_renames()
     return 1 if cases.wrong else 0
 
 
