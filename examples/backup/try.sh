@@ -109,7 +109,15 @@ touch -d '2 days ago' "$scratch/bad"/unfinished-*
 grep -q 'there is no folder' "$scratch/error" || fail "no message about a missing folder: $(cat "$scratch/error")"
 
 fullest=$(ls "$scratch/nights"/registry-*.db)
+# The server still writes to removed files. After a thousand writes, a copy of its descriptor 3 is the registry.
+curl -s -o "$scratch/reply" -d '{"schema":"\"long\""}' "$url/subjects/third/versions"
+rm "$scratch/registry.db" "$scratch/registry.db-wal"
+"$HOT_COPY" "$scratch/registry.db" "$scratch/other.db" 2>"$scratch/error"
+[ $? = 2 ] && grep -q "registry.db is missing. If avroreg runs on .*, don't stop it" "$scratch/error" || fail "a missing file: $(cat "$scratch/error")"
+curl -s -o "$scratch/reply" -X PUT -d '{"compatibility":"NONE"}' "$url/config/no-subject?n=[1-1000]"
+cp -p "/proc/$server/fd/3" "$scratch/registry.db"
 stop_server
+[ "$("$AVROREG" list --db "$scratch/registry.db" schemas | wc -l)" = 4 ] || fail "the copy of a removed file lost a schema"
 start_server "$scratch/new.db"
 stop_server
 for night in first second; do
