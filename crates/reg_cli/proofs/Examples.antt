@@ -3,7 +3,7 @@ use Rattle.std.proofs.Common.{◌≡◌, refl, [], ◌∷◌, Some, None, codes}
 use Rattle.clap.proofs.OnLiterals.{clap_on_literals}
 use Rattle.reg_cli.specs.Line.{line}
 use Rattle.reg_cli.specs.Tasks.{to_run, to_print, to_check, to_list, to_migrate, to_audit, to_serve}
-use Rattle.reg_cli.specs.declared.task.ListingName.TheVariants.{Versions}
+use Rattle.reg_cli.specs.declared.task.ListingKind.TheVariants.{Versions}
 
 -- `run`
 pub in_memory : line (codes "run" ∷ []) ≡ Some (to_run None)

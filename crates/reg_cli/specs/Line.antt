@@ -4,11 +4,11 @@ use Rattle.clap.specs.Words.{Kinds, Row, Text, fault_of, first_of, subcommand_of
 use Rattle.reg_cli.specs.Commands.{max_connections, program}
 use Rattle.reg_cli.specs.Numbers.{number_in}
 use Rattle.reg_cli.specs.Tasks.{TaskView, to_run, to_print, to_check, to_list, to_migrate, to_audit, to_serve}
-use Rattle.reg_cli.specs.declared.task.ListingName.{ListingName}
-use Rattle.reg_cli.specs.declared.task.ListingName.TheVariants.{Subjects, Versions, Schemas}
+use Rattle.reg_cli.specs.declared.task.ListingKind.{ListingKind}
+use Rattle.reg_cli.specs.declared.task.ListingKind.TheVariants.{Subjects, Versions, Schemas}
 
 -- the listing with this name
-abbrev pub listing_in : Text → Option ListingName
+abbrev pub listing_in : Text → Option ListingKind
 listing_in argument =
     if bytes_eq argument (codes "subjects") then Some Subjects
     else if bytes_eq argument (codes "versions") then Some Versions

@@ -1,7 +1,7 @@
 -- The program's tasks, with each text as its bytes.
 use Rattle.std.specs.Prelude.{ℕ, Option, option_map, string_bytes}
 use Rattle.clap.specs.Words.{Text}
-use Rattle.reg_cli.specs.declared.task.ListingName.{ListingName}
+use Rattle.reg_cli.specs.declared.task.ListingKind.{ListingKind}
 use Rattle.reg_cli.specs.declared.task.Job.{Job}
 use Rattle.reg_cli.specs.declared.task.Job.TheVariants.{Run, Text as TextJob, Check, List as ListJob, Migrate, Audit}
 use Rattle.reg_cli.specs.declared.task.Task.{Task}
@@ -13,7 +13,7 @@ pub data TaskView : Type 0 where
   to_run : Option Text → TaskView
   to_print : Text → TaskView
   to_check : Text → Text → TaskView
-  to_list : Text → ListingName → TaskView
+  to_list : Text → ListingKind → TaskView
   to_migrate : Text → TaskView
   to_audit : Text → TaskView
   to_serve : Text → ℕ → ℕ → TaskView

@@ -10,4 +10,4 @@ mod values;
 
 pub use fault::LineFault;
 pub use parsing::task_of;
-pub use task::{Job, ListingName, MAX_CONNECTIONS, Server, Task};
+pub use task::{Job, ListingKind, MAX_CONNECTIONS, Server, Task};

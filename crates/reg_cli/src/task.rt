@@ -5,7 +5,7 @@ pub const MAX_CONNECTIONS: u32 = 2_147_483_647;
 
 /// The kind of a listing.
 #[derive(Clone, Copy, Debug, PartialEq, Eq)]
-pub enum ListingName {
+pub enum ListingKind {
     /// The subjects, each with its own level and its numbers of versions.
     Subjects,
     /// The versions of each subject.
@@ -25,7 +25,7 @@ pub enum Job {
     /// Print whether the reader's schema can read data of the writer's schema.
     Check { reader: String, writer: String },
     /// Print a listing of the registry in a database file.
-    List { database: String, kind: ListingName },
+    List { database: String, kind: ListingKind },
     /// Upgrade the registry in a database file to the newest layout.
     Migrate { database: String },
     /// Print whether all pairs in the evidence of a registry are compatible. The registry is in a

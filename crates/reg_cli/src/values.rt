@@ -5,7 +5,7 @@ ghost use Rattle.clap.specs.Words.{first_of, found_of, rows_of};
 ghost use Rattle.reg_cli.specs.Line.{connections_in, listing_in};
 ghost use Rattle.reg_cli.specs.Numbers.{number_in};
 
-use crate::task::{ListingName, MAX_CONNECTIONS};
+use crate::task::{ListingKind, MAX_CONNECTIONS};
 use clap::ArgMatches;
 use std::alloc::{AllocError, Global};
 
@@ -64,13 +64,13 @@ pub fn connections_in(text: Option<&str>) -> Option<u32>
 }
 
 /// The listing with this name, or `None`.
-pub fn listing_in(argument: &str) -> Option<ListingName>
+pub fn listing_in(argument: &str) -> Option<ListingKind>
     ensures { result ≡ listing_in argument.now }
 {
     match argument {
-        "subjects" => Some(ListingName::Subjects),
-        "versions" => Some(ListingName::Versions),
-        "schemas" => Some(ListingName::Schemas),
+        "subjects" => Some(ListingKind::Subjects),
+        "versions" => Some(ListingKind::Versions),
+        "schemas" => Some(ListingKind::Schemas),
         _ => None,
     }
 }

@@ -16,7 +16,7 @@ use Rattle.reg_store.specs.Opening.{OpensOver}
 use Rattle.reg_store.specs.Spells.{IsOpenOver, SpellsWhileOpen}
 use Rattle.reg_store.specs.Stores.{StillSpells, state_of}
 use Rattle.reg_store.specs.declared.store.Store.{Store}
-use Rattle.reg_cli.specs.declared.task.ListingName.{ListingName}
+use Rattle.reg_cli.specs.declared.task.ListingKind.{ListingKind}
 use Rattle.reg_jobs.specs.declared.listings.ListOutcome.{ListOutcome}
 use Rattle.reg_jobs.specs.declared.listings.ListOutcome.TheVariants.{Whole, Unread, NotWritten, OutOfMemory}
 use Rattle.reg_jobs.specs.declared.auditing.AuditOutcome.{AuditOutcome}
@@ -81,7 +81,7 @@ OverDatabase-map g (Fresh old) P Q follows over = over
 OverDatabase-map g (Database old) P Q follows over = follows (state g old) over
 
 -- a listing of the registry of a database
-pub ListsOver-found : (old begun new : State) (kind : ListingName) (writer writer' : Option (List ℕ)) (listed : ListOutcome)
+pub ListsOver-found : (old begun new : State) (kind : ListingKind) (writer writer' : Option (List ℕ)) (listed : ListOutcome)
     → OpensOver old begun → ((was : Stored) → SpellsWhileOpen begun was → ListsAs (table_of kind) was.registry writer writer' listed)
     → IfUnread listed (IsFaultOver begun new)
     → StillSpells begun new → ListsOver old kind writer writer' listed new

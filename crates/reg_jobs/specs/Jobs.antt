@@ -22,7 +22,7 @@ use Rattle.reg_jobs.specs.declared.files.TextOutcome.{TextOutcome}
 use Rattle.reg_jobs.specs.declared.files.CheckOutcome.{CheckOutcome}
 use Rattle.reg_cli.specs.declared.task.Job.{Job}
 use Rattle.reg_cli.specs.declared.task.Job.TheVariants.{Run, Text as TextJob, Check as CheckJob, List as ListJob, Migrate, Audit}
-use Rattle.reg_cli.specs.declared.task.ListingName.{ListingName}
+use Rattle.reg_cli.specs.declared.task.ListingKind.{ListingKind}
 use Rattle.reg_jobs.specs.declared.errors.Errors.{Errors}
 use Rattle.reg_jobs.specs.declared.job.Opened.{Opened}
 use Rattle.reg_jobs.specs.declared.job.Opened.TheVariants.{Nothing, Texts, Failed, Empty, OrphanedLog, Fresh, Database}
@@ -183,7 +183,7 @@ FindsNone g (Fresh old) back error = (back ≡ Some old) × (error ≡ NotARegis
 FindsNone g (Database old) back error = LacksRegistry g (Database old) back error
 
 -- a listing of the registry of a database, which the tables still spell
-pub record ListsOver (old : State) (kind : ListingName) (writer writer' : Option (List ℕ)) (listed : ListOutcome) (new : State) : Type 0 where
+pub record ListsOver (old : State) (kind : ListingKind) (writer writer' : Option (List ℕ)) (listed : ListOutcome) (new : State) : Type 0 where
   pub was : Stored
   pub begins : SpellsUnopened old.now was
   pub lists : ListsAs (table_of kind) was.registry writer writer' listed
@@ -196,7 +196,7 @@ pub record FindsNoRegistry {S : Type 0} (g : Ghosts S) (opened : Opened S) (back
   pub lacks : FindsNone g opened back error
 
 -- the outcome of a listing of what was opened
-abbrev pub ListsOn : {S : Type 0} (g : Ghosts S) → Opened S → ListingName → Option (Held S) → Option (List ℕ) → Option (List ℕ) → Outcome → Type 0
+abbrev pub ListsOn : {S : Type 0} (g : Ghosts S) → Opened S → ListingKind → Option (Held S) → Option (List ℕ) → Option (List ℕ) → Outcome → Type 0
 ListsOn g opened kind back writer writer' (SessionEnded ended) = ⊥
 ListsOn g opened kind back writer writer' (Unopened error) = FindsNoRegistry g opened back writer writer' error
 ListsOn g opened kind back writer writer' (NotListening port) = ⊥

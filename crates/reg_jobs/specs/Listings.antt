@@ -9,8 +9,8 @@ use Rattle.reg_store.specs.Listings.{listing_lines}
 use Rattle.reg_report.specs.Csv.{WritesPrefix, header, listing}
 use Rattle.reg_report.specs.declared.error.ReportError.{ReportError}
 use Rattle.reg_report.specs.declared.error.ReportError.TheVariants.{Store, Write, OutOfMemory as ReportOutOfMemory}
-use Rattle.reg_cli.specs.declared.task.ListingName.{ListingName as Word}
-use Rattle.reg_cli.specs.declared.task.ListingName.TheVariants.{Subjects as WordSubjects, Versions as WordVersions, Schemas as WordSchemas}
+use Rattle.reg_cli.specs.declared.task.ListingKind.{ListingKind as Word}
+use Rattle.reg_cli.specs.declared.task.ListingKind.TheVariants.{Subjects as WordSubjects, Versions as WordVersions, Schemas as WordSchemas}
 use Rattle.reg_jobs.specs.declared.listings.ListOutcome.{ListOutcome}
 use Rattle.reg_jobs.specs.declared.listings.ListOutcome.TheVariants.{Whole, Unread, NotWritten, OutOfMemory}
 

@@ -14,7 +14,7 @@ use crate::line::report_result;
 use crate::listings::{list_store, table_of};
 use crate::migration::migrate_in;
 use crate::outcome::{Outcome, result_of};
-use reg_cli::{Job, ListingName};
+use reg_cli::{Job, ListingKind};
 use reg_http::{Ended, serve};
 use reg_service::Service;
 use reg_store::{Store, StoreError};
@@ -201,7 +201,7 @@ fn run<S: Alter + Drop, R: Read, W: Write>(
 fn list_on<S: Alter + Drop, W: Write>(
     alloc: Global,
     opened: Opened<S>,
-    kind: ListingName,
+    kind: ListingKind,
     writer: &mut W,
 ) -> (Outcome, Option<Connection<S>>)
     ensures { ListsOn S.Store opened kind result.1 (W.contents writer.old) (W.contents writer.new) result.0 }

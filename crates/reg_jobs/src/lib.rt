@@ -26,4 +26,4 @@ pub use listings::ListOutcome;
 pub use migration::MigrateOutcome;
 pub use opening::{Opener, open_for};
 pub use outcome::Outcome;
-pub use reg_cli::{Job, LineFault, ListingName, Server, Task, task_of};
+pub use reg_cli::{Job, LineFault, ListingKind, Server, Task, task_of};

@@ -30,13 +30,13 @@ pub enum ListOutcome {
 }
 
 /// The listing of the store that an argument names.
-pub fn table_of(kind: reg_cli::ListingName) -> Listing
+pub fn table_of(kind: reg_cli::ListingKind) -> Listing
     ensures { result ≡ table_of kind }
 {
     match kind {
-        reg_cli::ListingName::Subjects => Listing::Subjects,
-        reg_cli::ListingName::Versions => Listing::Versions,
-        reg_cli::ListingName::Schemas => Listing::Schemas,
+        reg_cli::ListingKind::Subjects => Listing::Subjects,
+        reg_cli::ListingKind::Versions => Listing::Versions,
+        reg_cli::ListingKind::Schemas => Listing::Schemas,
     }
 }
 

@@ -5,7 +5,7 @@ use super::doing::run_job;
 use super::support::{
     DatabaseTask, FULL_SET, Failing, GET, IS_FULL, SET_FULL, empty_disk, on_disk,
 };
-use reg_jobs::{Job, ListingName, Opened};
+use reg_jobs::{Job, ListingKind, Opened};
 use sqlite::{Alter, Connection};
 use std::alloc::{AllocError, Global};
 use std::io::{self, Write};
@@ -52,7 +52,7 @@ fn job_of(alloc: Global, job_kind: JobKind) -> Result<Job, AllocError> {
         },
         JobKind::List => Job::List {
             database,
-            kind: ListingName::Subjects,
+            kind: ListingKind::Subjects,
         },
         JobKind::Migrate => Job::Migrate { database },
         JobKind::Audit => Job::Audit { database },
