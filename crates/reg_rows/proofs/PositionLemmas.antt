@@ -63,17 +63,17 @@ version_total = then_total (on_total (λ (v : RowKey). v.0) nat_list_cmp_total) 
 version_exact : (x y : RowKey) → version_order x y ≡ Equal → x ≡ y
 version_exact = exact_pairs (slice_cmp nat_cmp) nat_cmp exact_bytes exact_unsigned
 
-place_total : IsTotalOrder position_order
-place_total = then_total (on_total (λ (p : VersionPosition). p.0) version_total) (on_total (λ (p : VersionPosition). p.1) nat_cmp_total)
+position_total : IsTotalOrder position_order
+position_total = then_total (on_total (λ (p : VersionPosition). p.0) version_total) (on_total (λ (p : VersionPosition). p.1) nat_cmp_total)
 
-place_exact : (x y : VersionPosition) → position_order x y ≡ Equal → x ≡ y
-place_exact = exact_pairs version_order nat_cmp version_exact exact_unsigned
+position_exact : (x y : VersionPosition) → position_order x y ≡ Equal → x ≡ y
+position_exact = exact_pairs version_order nat_cmp version_exact exact_unsigned
 
 pub version_search : (sorted : List (Bor (List ℕ) × ℕ)) (key : Bor (List ℕ) × ℕ) → Any (λ y. version_order (version_view y) (version_view key) ≡ Equal) sorted ↔ Contains (map version_view sorted) (version_view key)
 version_search sorted key = (contains_tied version_view version_order version_total version_exact sorted key, tied_contained version_view version_order version_total version_exact sorted key)
 
-pub place_search : (sorted : List (Bor (List ℕ) × ℕ × ℕ)) (key : Bor (List ℕ) × ℕ × ℕ) → Any (λ y. position_order (position_view y) (position_view key) ≡ Equal) sorted ↔ Contains (map position_view sorted) (position_view key)
-place_search sorted key = (contains_tied position_view position_order place_total place_exact sorted key, tied_contained position_view position_order place_total place_exact sorted key)
+pub position_search : (sorted : List (Bor (List ℕ) × ℕ × ℕ)) (key : Bor (List ℕ) × ℕ × ℕ) → Any (λ y. position_order (position_view y) (position_view key) ≡ Equal) sorted ↔ Contains (map position_view sorted) (position_view key)
+position_search sorted key = (contains_tied position_view position_order position_total position_exact sorted key, tied_contained position_view position_order position_total position_exact sorted key)
 
 same_or_not : {K : Type 0} (R : K → K → Ordering) → IsTotalOrder R → ((x y : K) → R x y ≡ Equal → x ≡ y) → (x y : K) → (x ≡ y) ⊎ (x ≡ y → ⊥)
 same_or_not {K = K} R order exact x y = go (R x y) refl
@@ -118,54 +118,54 @@ permuted_back f xs ys y same = permuted f ys xs y (IsPermutation-sym xs ys same)
 -- ---- positions
 
 -- the greatest position of a version, or 0 if it has none
-record Greatest (version : RowKey) (places : List VersionPosition) : Type 0 where
+record Greatest (version : RowKey) (positions : List VersionPosition) : Type 0 where
   at : ℕ
-  above : (position : ℕ) → Contains places (version, position) → position ≤ at
-  there : (at ≡ 0) ⊎ Contains places (version, at)
+  above : (position : ℕ) → Contains positions (version, position) → position ≤ at
+  there : (at ≡ 0) ⊎ Contains positions (version, at)
 
-module _ (version : RowKey) (place : VersionPosition) (places : List VersionPosition) (rest : Greatest version places) where
-  after_other : (place.0 ≡ version → ⊥) → Greatest version (place ∷ places)
+module _ (version : RowKey) (position : VersionPosition) (positions : List VersionPosition) (rest : Greatest version positions) where
+  after_other : (position.0 ≡ version → ⊥) → Greatest version (position ∷ positions)
   after_other other = record {
     at = rest.at;
-    above = λ p h. elim (cons_cases place places (version, p) h) [ inl e ↦ absurd (other (ap (λ (q : VersionPosition). q.0) e)) | inr h ↦ rest.above p h ];
-    there = elim (rest.there) [ inl none ↦ inl none | inr h ↦ inr (later place places (version, rest.at) h) ];
+    above = λ p h. elim (cons_cases position positions (version, p) h) [ inl e ↦ absurd (other (ap (λ (q : VersionPosition). q.0) e)) | inr h ↦ rest.above p h ];
+    there = elim (rest.there) [ inl none ↦ inl none | inr h ↦ inr (later position positions (version, rest.at) h) ];
   }
 
-  after_own : place.0 ≡ version → Greatest version (place ∷ places)
-  after_own own = elim (cases_lt rest.at place.1) [
+  after_own : position.0 ≡ version → Greatest version (position ∷ positions)
+  after_own own = elim (cases_lt rest.at position.1) [
     | inl less ↦ record {
-      at = place.1;
-      above = λ p h. elim (cons_cases place places (version, p) h) [ inl e ↦ (let same : place.1 ≡ p = ap (λ (q : VersionPosition). q.1) e in omega arith) | inr h ↦ (let low = rest.above p h in omega arith) ];
-      there = inr (here place places (version, place.1) (ap (λ (v : RowKey). (v, place.1)) own));
+      at = position.1;
+      above = λ p h. elim (cons_cases position positions (version, p) h) [ inl e ↦ (let same : position.1 ≡ p = ap (λ (q : VersionPosition). q.1) e in omega arith) | inr h ↦ (let low = rest.above p h in omega arith) ];
+      there = inr (here position positions (version, position.1) (ap (λ (v : RowKey). (v, position.1)) own));
     }
     | inr more ↦ record {
       at = rest.at;
-      above = λ p h. elim (cons_cases place places (version, p) h) [ inl e ↦ (let same : place.1 ≡ p = ap (λ (q : VersionPosition). q.1) e in omega arith) | inr h ↦ rest.above p h ];
-      there = elim (rest.there) [ inl none ↦ inl none | inr h ↦ inr (later place places (version, rest.at) h) ];
+      above = λ p h. elim (cons_cases position positions (version, p) h) [ inl e ↦ (let same : position.1 ≡ p = ap (λ (q : VersionPosition). q.1) e in omega arith) | inr h ↦ rest.above p h ];
+      there = elim (rest.there) [ inl none ↦ inl none | inr h ↦ inr (later position positions (version, rest.at) h) ];
     }
   ]
 
-greatest : (version : RowKey) (places : List VersionPosition) → Greatest version places
+greatest : (version : RowKey) (positions : List VersionPosition) → Greatest version positions
 greatest version [] = record { at = 0; above = λ p h. absurd (omega (arith, h.1)); there = inl refl }
-greatest version (place ∷ places) = elim (same_or_not version_order version_total version_exact place.0 version) [
-  | inl own ↦ after_own version place places (greatest version places) own
-  | inr other ↦ after_other version place places (greatest version places) other
+greatest version (position ∷ positions) = elim (same_or_not version_order version_total version_exact position.0 version) [
+  | inl own ↦ after_own version position positions (greatest version positions) own
+  | inr other ↦ after_other version position positions (greatest version positions) other
 ]
 
-module _ (places : List VersionPosition) (follow : (place : VersionPosition) → Contains places place → HasPredecessor places place) (version : RowKey) where
+module _ (positions : List VersionPosition) (follow : (position : VersionPosition) → Contains positions position → HasPredecessor positions position) (version : RowKey) where
   -- if the list has a position of the version, it has all smaller ones
-  below : (n : ℕ) → Contains places (version, n) → (p : ℕ) → 0 < p → p ≤ n → Contains places (version, p)
+  below : (n : ℕ) → Contains positions (version, n) → (p : ℕ) → 0 < p → p ≤ n → Contains positions (version, p)
   below zero h p low high = absurd (omega arith)
   below (suc n) h p low high = elim (cases_lt p (suc n)) [
     | inl less ↦ elim ((follow (version, suc n) h).1) [
       | inl one ↦ absurd (omega arith)
-      | inr before ↦ below n (subst (λ (q : ℕ). Contains places (version, q)) (omega arith) before) p low (omega arith)
+      | inr before ↦ below n (subst (λ (q : ℕ). Contains positions (version, q)) (omega arith) before) p low (omega arith)
     ]
-    | inr same ↦ subst (λ (q : ℕ). Contains places (version, q)) (omega arith) h
+    | inr same ↦ subst (λ (q : ℕ). Contains positions (version, q)) (omega arith) h
   ]
 
-  counted : IsContiguousFor places version
-  counted = let top = greatest version places in record {
+  counted : IsContiguousFor positions version
+  counted = let top = greatest version positions in record {
     count = top.at;
     positions = λ p. (
       λ h. ((follow (version, p) h).0, top.above p h),
@@ -173,35 +173,35 @@ module _ (places : List VersionPosition) (follow : (place : VersionPosition) →
     );
   }
 
-follows : (places : List VersionPosition) → AreContiguous places → (place : VersionPosition) → Contains places place → HasPredecessor places place
-follows places are place h =
-    let c = are place.0 in
-    let within = (c.positions place.1).0 h in
-    (within.0, elim (cases_lt 1 place.1) [ inl more ↦ inr ((c.positions (place.1 - 1)).1 (omega arith, omega arith)) | inr one ↦ inl (omega arith) ])
+follows : (positions : List VersionPosition) → AreContiguous positions → (position : VersionPosition) → Contains positions position → HasPredecessor positions position
+follows positions are position h =
+    let c = are position.0 in
+    let within = (c.positions position.1).0 h in
+    (within.0, elim (cases_lt 1 position.1) [ inl more ↦ inr ((c.positions (position.1 - 1)).1 (omega arith, omega arith)) | inr one ↦ inl (omega arith) ])
 
 -- ---- sorted
 
 -- sorting keeps the members
-module _ (evidence sorted : List (Bor (List ℕ) × ℕ)) (places : List (Bor (List ℕ) × ℕ × ℕ)) (same : IsPermutation evidence sorted) where
+module _ (evidence sorted : List (Bor (List ℕ) × ℕ)) (positions : List (Bor (List ℕ) × ℕ × ℕ)) (same : IsPermutation evidence sorted) where
   abbrev HasOwn : VersionPosition → Type 0
-  HasOwn place = Contains (map version_view sorted) place.0
+  HasOwn position = Contains (map version_view sorted) position.0
 
-  pub evidence_sorted : AllByRecursion (HasVersion sorted) places ↔ HaveEvidence (map version_view evidence) (map position_view places)
+  pub evidence_sorted : AllByRecursion (HasVersion sorted) positions ↔ HaveEvidence (map version_view evidence) (map position_view positions)
   evidence_sorted = (
-    λ all place h. permuted_back version_view evidence sorted place.0 same (each_shown position_view HasOwn places all place h),
-    λ have. all_shown position_view HasOwn places (λ place h. permuted version_view evidence sorted place.0 same (have place h)),
+    λ all position h. permuted_back version_view evidence sorted position.0 same (each_shown position_view HasOwn positions all position h),
+    λ have. all_shown position_view HasOwn positions (λ position h. permuted version_view evidence sorted position.0 same (have position h)),
   )
 
-module _ (places sorted : List (Bor (List ℕ) × ℕ × ℕ)) (same : IsPermutation places sorted) where
-  to_sorted : (place : VersionPosition) → HasPredecessor (map position_view places) place → HasPredecessor (map position_view sorted) place
-  to_sorted place f = (f.0, elim (f.1) [ inl one ↦ inl one | inr before ↦ inr (permuted position_view places sorted (place.0, place.1 - 1) same before) ])
+module _ (positions sorted : List (Bor (List ℕ) × ℕ × ℕ)) (same : IsPermutation positions sorted) where
+  to_sorted : (position : VersionPosition) → HasPredecessor (map position_view positions) position → HasPredecessor (map position_view sorted) position
+  to_sorted position f = (f.0, elim (f.1) [ inl one ↦ inl one | inr before ↦ inr (permuted position_view positions sorted (position.0, position.1 - 1) same before) ])
 
-  from_sorted : (place : VersionPosition) → HasPredecessor (map position_view sorted) place → HasPredecessor (map position_view places) place
-  from_sorted place f = (f.0, elim (f.1) [ inl one ↦ inl one | inr before ↦ inr (permuted_back position_view places sorted (place.0, place.1 - 1) same before) ])
+  from_sorted : (position : VersionPosition) → HasPredecessor (map position_view sorted) position → HasPredecessor (map position_view positions) position
+  from_sorted position f = (f.0, elim (f.1) [ inl one ↦ inl one | inr before ↦ inr (permuted_back position_view positions sorted (position.0, position.1 - 1) same before) ])
 
   -- each position is 1 or has its predecessor, exactly if the positions are 1 to their number
-  pub positions_sorted : AllByRecursion (HasPredecessorIn sorted) sorted ↔ AreContiguous (map position_view places)
+  pub positions_sorted : AllByRecursion (HasPredecessorIn sorted) sorted ↔ AreContiguous (map position_view positions)
   positions_sorted = (
-    λ all version. counted (map position_view places) (λ place h. from_sorted place (each_shown position_view (HasPredecessor (map position_view sorted)) sorted all place (permuted position_view places sorted place same h))) version,
-    λ are. all_shown position_view (HasPredecessor (map position_view sorted)) sorted (λ place h. to_sorted place (follows (map position_view places) are place (permuted_back position_view places sorted place same h))),
+    λ all version. counted (map position_view positions) (λ position h. from_sorted position (each_shown position_view (HasPredecessor (map position_view sorted)) sorted all position (permuted position_view positions sorted position same h))) version,
+    λ are. all_shown position_view (HasPredecessor (map position_view sorted)) sorted (λ position h. to_sorted position (follows (map position_view positions) are position (permuted_back position_view positions sorted position same h))),
   )

@@ -8,17 +8,17 @@ abbrev pub VersionPosition : Type 0
 VersionPosition = RowKey × ℕ
 
 -- The positions of the version are 1, 2, .. up to `count`. The table itself rejects duplicates.
-pub record IsContiguousFor (places : List VersionPosition) (version : RowKey) : Type 0 where
+pub record IsContiguousFor (listed : List VersionPosition) (version : RowKey) : Type 0 where
   pub count : ℕ
-  pub positions : (position : ℕ) → Contains places (version, position) ↔ ((0 < position) × (position ≤ count))
+  pub positions : (position : ℕ) → Contains listed (version, position) ↔ ((0 < position) × (position ≤ count))
 
 -- the same for each version
 abbrev pub AreContiguous : List VersionPosition → Type 0
-AreContiguous places = (version : RowKey) → IsContiguousFor places version
+AreContiguous positions = (version : RowKey) → IsContiguousFor positions version
 
 -- each version with a position has evidence
 abbrev pub HaveEvidence : List RowKey → List VersionPosition → Type 0
-HaveEvidence evidence places = (place : VersionPosition) → Contains places place → Contains evidence place.0
+HaveEvidence evidence positions = (position : VersionPosition) → Contains positions position → Contains evidence position.0
 
 -- ---- with a borrowed subject
 

@@ -15,11 +15,11 @@ fn is_among<K: Ord>(sorted: &[K], key: &K) -> bool
 }
 
 /// Whether the sorted versions contain the version of this position.
-fn has_version<'a>(sorted: &[(&'a str, u32)], place: &(&'a str, u32, u32)) -> bool
+fn has_version<'a>(sorted: &[(&'a str, u32)], position: &(&'a str, u32, u32)) -> bool
     requires { AreSortedVersions sorted.now }
-    ensures { IsTrue result ↔ HasVersion sorted.now place.now }
+    ensures { IsTrue result ↔ HasVersion sorted.now position.now }
 {
-    is_among(sorted, &(place.0, place.1))
+    is_among(sorted, &(position.0, position.1))
 }
 
 /// Whether the sorted versions contain the version of each position.
@@ -27,8 +27,8 @@ fn have_versions<'a>(sorted: &[(&'a str, u32)], positions: &[(&'a str, u32, u32)
     requires { AreSortedVersions sorted.now }
     ensures { IsTrue result ↔ AllByRecursion (HasVersion sorted.now) positions.now }
 {
-    for place in positions {
-        if !has_version(sorted, place) {
+    for position in positions {
+        if !has_version(sorted, position) {
             return false;
         }
     }
@@ -46,14 +46,14 @@ pub fn have_evidence<'a>(evidence: Vec<(&'a str, u32)>, positions: &[(&'a str, u
 }
 
 /// Whether the position is 1, or the sorted positions contain its predecessor.
-fn has_predecessor(sorted: &[(&str, u32, u32)], place: &(&str, u32, u32)) -> bool
+fn has_predecessor(sorted: &[(&str, u32, u32)], position: &(&str, u32, u32)) -> bool
     requires { AreSortedPositions sorted.now }
-    ensures { IsTrue result ↔ HasPredecessorIn sorted.now place.now }
+    ensures { IsTrue result ↔ HasPredecessorIn sorted.now position.now }
 {
-    match place.2 {
+    match position.2 {
         0 => false,
         1 => true,
-        position => is_among(sorted, &(place.0, place.1, position - 1)),
+        number => is_among(sorted, &(position.0, position.1, number - 1)),
     }
 }
 
@@ -62,8 +62,8 @@ fn have_predecessors(sorted: &[(&str, u32, u32)]) -> bool
     requires { AreSortedPositions sorted.now }
     ensures { IsTrue result ↔ AllByRecursion (HasPredecessorIn sorted.now) sorted.now }
 {
-    for place in sorted {
-        if !has_predecessor(sorted, place) {
+    for position in sorted {
+        if !has_predecessor(sorted, position) {
             return false;
         }
     }

@@ -15,7 +15,7 @@ use Rattle.reg_tables.proofs.Keys.{position_order}
 use Rattle.reg_store.specs.Inside.Applying.{with_own, HasNoPositions}
 use Rattle.reg_store.specs.Spells.{id_at, IsSpelledEvidence}
 use Rattle.reg_store.proofs.Maps.{insert_each, remove_each}
-use Rattle.reg_store.proofs.Places.{ids_beside, ids_elsewhere, at_zero, at_next}
+use Rattle.reg_store.proofs.Positions.{ids_beside, ids_elsewhere, at_zero, at_next}
 
 abbrev level_of_one : Evidence → List ℕ
 level_of_one one = level_text one.level
@@ -29,12 +29,12 @@ module _ (contents : Contents) (evidence : EvidenceMap) (s : IsSpelledEvidence c
   pub has_none : (key : RowKey) → get contents.evidence key ≡ None → get evidence key ≡ None
   has_none key none = no_value level_of_one (get evidence key) (sym (s.levels key) ∙ none)
 
-  pub has_no_place : (key : RowKey) → get contents.evidence key ≡ None → HasNoPositions contents key
-  has_no_place key none position = s.ids (key, position) ∙ ap (option_and_then (id_at position)) (has_none key none)
+  pub has_no_position : (key : RowKey) → get contents.evidence key ≡ None → HasNoPositions contents key
+  has_no_position key none position = s.ids (key, position) ∙ ap (option_and_then (id_at position)) (has_none key none)
 
   -- other tables don't matter
   pub evidence_beside : (now : Contents) → now.evidence ≡ contents.evidence → now.against ≡ contents.against → IsSpelledEvidence now evidence
-  evidence_beside now levels ids = record { levels = λ key. ap (λ m. get m key) levels ∙ s.levels key; ids = λ place. ap (λ m. get m place) ids ∙ s.ids place; few = s.few }
+  evidence_beside now levels ids = record { levels = λ key. ap (λ m. get m key) levels ∙ s.levels key; ids = λ position. ap (λ m. get m position) ids ∙ s.ids position; few = s.few }
 
   -- ---- a new version with its evidence
 
@@ -52,13 +52,13 @@ module _ (contents : Contents) (evidence : EvidenceMap) (s : IsSpelledEvidence c
     pub evidence_more : IsSpelledEvidence (with_own key own contents) (insert evidence key own)
     evidence_more = record {
       levels = λ q. ap (λ (c : Contents). get c.evidence q) (ids_beside key 1 own.against (with_evidence key (level_text own.level) contents)) ∙ insert_each version_order level_of_one contents.evidence evidence s.levels key own q;
-      ids = λ place. elim (same_or_not version_cmp version_order place.0 key) [
+      ids = λ position. elim (same_or_not version_cmp version_order position.0 key) [
         | inl is ↦
-            ap (λ (q : RowKey). get (with_own key own contents).against (q, place.1)) is ∙ own_ids place.1
-            ∙ sym (ap (option_and_then (id_at place.1)) (ap (get (insert evidence key own)) is ∙ get-insert-same row_cmp version_order evidence key own))
+            ap (λ (q : RowKey). get (with_own key own contents).against (q, position.1)) is ∙ own_ids position.1
+            ∙ sym (ap (option_and_then (id_at position.1)) (ap (get (insert evidence key own)) is ∙ get-insert-same row_cmp version_order evidence key own))
         | inr other ↦
-            ids_elsewhere key 1 own.against (with_evidence key (level_text own.level) contents) place other ∙ s.ids place
-            ∙ sym (ap (option_and_then (id_at place.1)) (get-insert-other row_cmp version_order evidence key own place.0 other))
+            ids_elsewhere key 1 own.against (with_evidence key (level_text own.level) contents) position other ∙ s.ids position
+            ∙ sym (ap (option_and_then (id_at position.1)) (get-insert-other row_cmp version_order evidence key own position.0 other))
       ];
       few = few_each;
     }
@@ -66,14 +66,14 @@ module _ (contents : Contents) (evidence : EvidenceMap) (s : IsSpelledEvidence c
   -- ---- a removed version
 
   module _ (key : RowKey) where
-    places : (place : PositionKey) → get (without_positions contents.against key) place ≡ cond (not (is_eq (version_cmp place.0 key))) (get contents.against place) None
-    places place = get-retain_keys contents.against (λ q. not (is_eq (version_cmp q.0 key))) place (λ x tie. ap (λ (p : PositionKey). not (is_eq (version_cmp p.0 key))) (sym (position_order.antisymmetric place x tie)))
+    positions : (position : PositionKey) → get (without_positions contents.against key) position ≡ cond (not (is_eq (version_cmp position.0 key))) (get contents.against position) None
+    positions position = get-retain_keys contents.against (λ q. not (is_eq (version_cmp q.0 key))) position (λ x tie. ap (λ (p : PositionKey). not (is_eq (version_cmp p.0 key))) (sym (position_order.antisymmetric position x tie)))
 
-    place_stays : (place : PositionKey) → place.0 ≢ key → get (without_positions contents.against key) place ≡ get contents.against place
-    place_stays place other = places place ∙ ap (λ b. cond (not b) (get contents.against place) None) (other_key version_cmp version_order place.0 key other)
+    position_stays : (position : PositionKey) → position.0 ≢ key → get (without_positions contents.against key) position ≡ get contents.against position
+    position_stays position other = positions position ∙ ap (λ b. cond (not b) (get contents.against position) None) (other_key version_cmp version_order position.0 key other)
 
-    place_goes : (place : PositionKey) → place.0 ≡ key → get (without_positions contents.against key) place ≡ None
-    place_goes place is = places place ∙ ap (λ b. cond (not b) (get contents.against place) None) (tied_key version_cmp version_order place.0 key is)
+    position_goes : (position : PositionKey) → position.0 ≡ key → get (without_positions contents.against key) position ≡ None
+    position_goes position is = positions position ∙ ap (λ b. cond (not b) (get contents.against position) None) (tied_key version_cmp version_order position.0 key is)
 
     was_there : (q : RowKey) (one : Evidence) → get (remove evidence key) q ≡ Some one → get evidence q ≡ Some one
     was_there q one there = elim (same_or_not row_cmp version_order q key) [
@@ -84,16 +84,16 @@ module _ (contents : Contents) (evidence : EvidenceMap) (s : IsSpelledEvidence c
     pub evidence_left : IsSpelledEvidence (without_version key contents) (remove evidence key)
     evidence_left = record {
       levels = remove_each version_order level_of_one contents.evidence evidence s.levels key;
-      ids = λ place. elim (same_or_not version_cmp version_order place.0 key) [
-        | inl is ↦ place_goes place is ∙ sym (ap (option_and_then (id_at place.1)) (ap (get (remove evidence key)) is ∙ get-remove-same row_cmp version_order evidence key))
-        | inr other ↦ place_stays place other ∙ s.ids place ∙ sym (ap (option_and_then (id_at place.1)) (get-remove-other row_cmp version_order evidence key place.0 other))
+      ids = λ position. elim (same_or_not version_cmp version_order position.0 key) [
+        | inl is ↦ position_goes position is ∙ sym (ap (option_and_then (id_at position.1)) (ap (get (remove evidence key)) is ∙ get-remove-same row_cmp version_order evidence key))
+        | inr other ↦ position_stays position other ∙ s.ids position ∙ sym (ap (option_and_then (id_at position.1)) (get-remove-other row_cmp version_order evidence key position.0 other))
       ];
       few = λ q one there. s.few q one (was_there q one there);
     }
 
 pub no_evidence : (contents : Contents) → contents.evidence ≡ empty → contents.against ≡ empty → IsSpelledEvidence contents empty
-no_evidence contents none no_place = record {
+no_evidence contents none no_position = record {
   levels = λ q. ap (λ m. get m q) none ∙ get-empty version_cmp q ∙ sym (ap (option_map level_of_one) (get-empty row_cmp q));
-  ids = λ place. ap (λ m. get m place) no_place ∙ get-empty position_cmp place ∙ sym (ap (option_and_then (id_at place.1)) (get-empty row_cmp place.0));
+  ids = λ position. ap (λ m. get m position) no_position ∙ get-empty position_cmp position ∙ sym (ap (option_and_then (id_at position.1)) (get-empty row_cmp position.0));
   few = λ q one there. absurd (let none = sym (get-empty row_cmp q) ∙ there in cc);
 }

@@ -62,7 +62,7 @@ find-keyed {V} {W} write key (e ∷ es) =
 module _ (contents : Contents) (rows : IsEvidence contents) where
   -- the evidence of a version whose row has this level
   abbrev one_at : RowKey → List ℕ → Evidence
-  one_at key text = record { level = unwrap_or (level_of text) Backward; against = ids_from contents.against key 1 (rows.places key).count }
+  one_at key text = record { level = unwrap_or (level_of text) Backward; against = ids_from contents.against key 1 (rows.positions key).count }
 
   evidence_in : EvidenceMap
   evidence_in = from_entries (map (λ (e : RowKey × List ℕ). (e.0, one_at e.0 e.1)) (entries contents.evidence))
@@ -79,9 +79,9 @@ module _ (contents : Contents) (rows : IsEvidence contents) where
 
   ids_back : (key : RowKey) (position : ℕ) (o : Option (List ℕ)) → get contents.evidence key ≡ o → get contents.against (key, position) ≡ option_and_then (id_at position) (option_map (one_at key) o)
   ids_back key position None none = is_none (get contents.against (key, position)) (λ id there. none_is (get contents.evidence key) none (rows.owners (key, position) id there))
-  ids_back key zero (Some text) there = is_none (get contents.against (key, 0)) (λ id here. let low = (((rows.places key).each 0).0 (subst IsSome (sym here) refl)).0 in absurd (omega (arith, low)))
+  ids_back key zero (Some text) there = is_none (get contents.against (key, 0)) (λ id here. let low = (((rows.positions key).each 0).0 (subst IsSome (sym here) refl)).0 in absurd (omega (arith, low)))
   ids_back key (suc n) (Some text) there =
-      let order = rows.places key in
+      let order = rows.positions key in
       let ids = ids_from contents.against key 1 order.count in
       let long = many contents.against key 1 order.count in
       elim (slice_get_cases ids n).1 [
@@ -99,12 +99,12 @@ module _ (contents : Contents) (rows : IsEvidence contents) where
     evidence_in,
     record {
       levels = λ key. level_back key (get contents.evidence key) (λ text there. rows.levels key text there) ∙ ap (option_map (λ (one : Evidence). level_text one.level)) (sym (found key));
-      ids = λ place. ids_back place.0 place.1 (get contents.evidence place.0) refl ∙ ap (option_and_then (id_at place.1)) (sym (found place.0));
+      ids = λ position. ids_back position.0 position.1 (get contents.evidence position.0) refl ∙ ap (option_and_then (id_at position.1)) (sym (found position.0));
       few = λ key one there.
           let it = was_written (one_at key) (get contents.evidence key) one (sym (found key) ∙ there) in
           let same = ap (λ (x : Evidence). length x.against) it.2 in
-          let long = many contents.against key 1 (rows.places key).count in
-          let few = (rows.places key).few in
+          let long = many contents.against key 1 (rows.positions key).count in
+          let few = (rows.positions key).few in
           omega (arith, same, long, few);
     },
   )
@@ -143,15 +143,15 @@ module _ (contents : Contents) (evidence : EvidenceMap) (s : IsSpelledEvidence c
         (λ some. stands one position (subst IsSome is some), λ within. subst IsSome (sym is) (stood one position within)));
   }
 
-  owned : (place : PositionKey) (id : ℕ) (o : Option Evidence) → get evidence place.0 ≡ o → get contents.against place ≡ Some id → IsSome (get contents.evidence place.0)
-  owned place id None none there = absurd (let gone = sym (s.ids place ∙ ap (option_and_then (id_at place.1)) none) ∙ there in cc)
-  owned place id (Some one) has there = subst IsSome (sym (s.levels place.0 ∙ ap (option_map (λ (x : Evidence). level_text x.level)) has)) refl
+  owned : (position : PositionKey) (id : ℕ) (o : Option Evidence) → get evidence position.0 ≡ o → get contents.against position ≡ Some id → IsSome (get contents.evidence position.0)
+  owned position id None none there = absurd (let gone = sym (s.ids position ∙ ap (option_and_then (id_at position.1)) none) ∙ there in cc)
+  owned position id (Some one) has there = subst IsSome (sym (s.levels position.0 ∙ ap (option_map (λ (x : Evidence). level_text x.level)) has)) refl
 
   pub evidence_if_spelled : IsEvidence contents
   evidence_if_spelled = record {
     levels = λ key text there.
         (let it = was_written (λ (one : Evidence). level_text one.level) (get evidence key) text (sym (s.levels key) ∙ there) in
         ap (λ v. is_some (level_of v)) it.2 ∙ ap is_some (level_of-level_text it.0.level));
-    owners = λ place id there. owned place id (get evidence place.0) refl there;
-    places = λ key. in_order key (get evidence key) refl;
+    owners = λ position id there. owned position id (get evidence position.0) refl there;
+    positions = λ key. in_order key (get evidence key) refl;
   }

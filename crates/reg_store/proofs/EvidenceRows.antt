@@ -16,7 +16,7 @@ use Rattle.reg_tables.proofs.ListingLemmas.{found_first, find_had}
 use Rattle.reg_tables.proofs.Keys.{position_order}
 use Rattle.reg_rows.specs.Spelling.{FitsEvidence}
 use Rattle.reg_store.specs.Inside.Evidence.{IsEvidence}
-use Rattle.reg_store.specs.Inside.TableChecks.{evidence_fits, against_fits, version_at, place_at, AreInSequence}
+use Rattle.reg_store.specs.Inside.TableChecks.{evidence_fits, against_fits, version_at, position_at, AreInSequence}
 
 pub none_is : {X : Type 0} (o : Option X) → o ≡ None → IsSome o → ⊥
 none_is None e there = absurd (cc)
@@ -26,7 +26,7 @@ pub the_value : {X : Type 0} (o : Option X) → IsSome o → (x : X) × (o ≡ S
 the_value None there = absurd (cc)
 the_value (Some x) there = (x, refl)
 
-module _ (evidence : List RawEvidence) (against : List RawAgainst) (versions_apart : HasNoDuplicates version_cmp (map evidence_entry evidence)) (places_apart : HasNoDuplicates position_cmp (map against_entry against)) where
+module _ (evidence : List RawEvidence) (against : List RawAgainst) (versions_apart : HasNoDuplicates version_cmp (map evidence_entry evidence)) (positions_apart : HasNoDuplicates position_cmp (map against_entry against)) where
   abbrev evidence_in : FinMap version_cmp (List ℕ)
   evidence_in = from_entries (map without_rowid (map evidence_entry evidence))
 
@@ -40,10 +40,10 @@ module _ (evidence : List RawEvidence) (against : List RawAgainst) (versions_apa
       let es = map evidence_entry evidence in
       get-from_entries version_order.total (map without_rowid es) (version_at line) ∙ found_first version_cmp version_order es (evidence_entry line) versions_apart.keys (maps_had evidence_entry evidence line there)
 
-  id_there : (line : RawAgainst) → Has against line → get against_in (place_at line) ≡ Some line.id
+  id_there : (line : RawAgainst) → Has against line → get against_in (position_at line) ≡ Some line.id
   id_there line there =
       let es = map against_entry against in
-      get-from_entries position_order.total (map without_rowid es) (place_at line) ∙ found_first position_cmp position_order es (against_entry line) places_apart.keys (maps_had against_entry against line there)
+      get-from_entries position_order.total (map without_rowid es) (position_at line) ∙ found_first position_cmp position_order es (against_entry line) positions_apart.keys (maps_had against_entry against line there)
 
   -- ---- from maps to rows
 
@@ -54,10 +54,10 @@ module _ (evidence : List RawEvidence) (against : List RawAgainst) (versions_apa
       let l = has_mapped evidence_entry evidence e.0 e.1 in
       (l.0, l.1, ap (λ (y : ℤ × RowKey × List ℕ). y.1) (sym l.2) ∙ e.2, ap (λ (y : ℤ × RowKey × List ℕ). y.2) (sym l.2) ∙ e.3)
 
-  id_line : (place : PositionKey) (id : ℕ) → get against_in place ≡ Some id → (line : RawAgainst) × Has against line × (place_at line ≡ place)
-  id_line place id there =
+  id_line : (position : PositionKey) (id : ℕ) → get against_in position ≡ Some id → (line : RawAgainst) × Has against line × (position_at line ≡ position)
+  id_line position id there =
       let es = map against_entry against in
-      let e = find_had position_cmp position_order es place id (sym (get-from_entries position_order.total (map without_rowid es) place) ∙ there) in
+      let e = find_had position_cmp position_order es position id (sym (get-from_entries position_order.total (map without_rowid es) position) ∙ there) in
       let l = has_mapped against_entry against e.0 e.1 in
       (l.0, l.1, ap (λ (y : ℤ × PositionKey × ℕ). y.1) (sym l.2) ∙ e.2)
 
@@ -74,46 +74,46 @@ module _ (evidence : List RawEvidence) (against : List RawAgainst) (versions_apa
       let l = level_line key it.0 it.1 in
       subst (Contains (map version_at evidence)) l.2 (contains_had (map version_at evidence) (version_at l.0) (maps_had version_at evidence l.0 l.1))
 
-  place_told : (place : PositionKey) → Contains (map place_at against) place → IsSome (get against_in place)
-  place_told place h =
-      let l = has_mapped place_at against place (has_contained (map place_at against) place h) in
+  position_told : (position : PositionKey) → Contains (map position_at against) position → IsSome (get against_in position)
+  position_told position h =
+      let l = has_mapped position_at against position (has_contained (map position_at against) position h) in
       subst (λ k. IsSome (get against_in k)) (sym l.2) (subst IsSome (sym (id_there l.0 l.1)) refl)
 
-  place_listed : (place : PositionKey) → IsSome (get against_in place) → Contains (map place_at against) place
-  place_listed place h =
-      let it = the_value (get against_in place) h in
-      let l = id_line place it.0 it.1 in
-      subst (Contains (map place_at against)) l.2 (contains_had (map place_at against) (place_at l.0) (maps_had place_at against l.0 l.1))
+  position_listed : (position : PositionKey) → IsSome (get against_in position) → Contains (map position_at against) position
+  position_listed position h =
+      let it = the_value (get against_in position) h in
+      let l = id_line position it.0 it.1 in
+      subst (Contains (map position_at against)) l.2 (contains_had (map position_at against) (position_at l.0) (maps_had position_at against l.0 l.1))
 
   -- ---- both ways
 
   module _ (contents : Contents) (same_evidence : contents.evidence ≡ evidence_in) (same_against : contents.against ≡ against_in) where
-    few_places : AllByRecursion against_fits against → (key : RowKey) (count : ℕ) → ((position : ℕ) → (0 < position) × (position ≤ count) → Contains (map place_at against) (key, position)) → count < 2 ^ 32
-    few_places fits key zero all = lit≤ tt
-    few_places fits key (suc n) all =
-        let l = has_mapped place_at against (key, suc n) (has_contained (map place_at against) (key, suc n) (all (suc n) (omega arith, omega arith))) in
+    few_positions : AllByRecursion against_fits against → (key : RowKey) (count : ℕ) → ((position : ℕ) → (0 < position) × (position ≤ count) → Contains (map position_at against) (key, position)) → count < 2 ^ 32
+    few_positions fits key zero all = lit≤ tt
+    few_positions fits key (suc n) all =
+        let l = has_mapped position_at against (key, suc n) (has_contained (map position_at against) (key, suc n) (all (suc n) (omega arith, omega arith))) in
         let low = all_has against_fits against l.0 fits l.1 in
         let is : suc n ≡ l.0.position = ap (λ (p : PositionKey). p.1) l.2 in
         omega (arith, low, is)
 
     pub evidence_if_fits : AllByRecursion evidence_fits evidence → AllByRecursion against_fits against → AreInSequence evidence against → IsEvidence contents
-    evidence_if_fits fits places_fit placed = record {
+    evidence_if_fits fits positions_fit placed = record {
       levels = λ key level there.
           let l = level_line key level (ap (λ m. get m key) (sym same_evidence) ∙ there) in
           subst FitsEvidence l.3 (all_has evidence_fits evidence l.0 fits l.1);
-      owners = λ place id there.
-          let l = id_line place id (ap (λ m. get m place) (sym same_against) ∙ there) in
-          let here = contains_had (map place_at against) (place_at l.0) (maps_had place_at against l.0 l.1) in
-          let told = version_told place.0 (placed.0 place (subst (Contains (map place_at against)) l.2 here)) in
-          subst (λ m. IsSome (get m place.0)) (sym same_evidence) told;
-      places = λ key.
+      owners = λ position id there.
+          let l = id_line position id (ap (λ m. get m position) (sym same_against) ∙ there) in
+          let here = contains_had (map position_at against) (position_at l.0) (maps_had position_at against l.0 l.1) in
+          let told = version_told position.0 (placed.0 position (subst (Contains (map position_at against)) l.2 here)) in
+          subst (λ m. IsSome (get m position.0)) (sym same_evidence) told;
+      positions = λ key.
           let it = placed.1 key in
           record {
             count = it.count;
-            few = few_places places_fit key it.count (λ position within. (it.positions position).1 within);
+            few = few_positions positions_fit key it.count (λ position within. (it.positions position).1 within);
             each = λ position. (
-              λ some. (it.positions position).0 (place_listed (key, position) (subst (λ m. IsSome (get m (key, position))) same_against some)),
-              λ within. subst (λ m. IsSome (get m (key, position))) (sym same_against) (place_told (key, position) ((it.positions position).1 within)),
+              λ some. (it.positions position).0 (position_listed (key, position) (subst (λ m. IsSome (get m (key, position))) same_against some)),
+              λ within. subst (λ m. IsSome (get m (key, position))) (sym same_against) (position_told (key, position) ((it.positions position).1 within)),
             );
           };
     }
@@ -122,24 +122,24 @@ module _ (evidence : List RawEvidence) (against : List RawAgainst) (versions_apa
       pub level_fits : AllByRecursion evidence_fits evidence
       level_fits = all_from evidence_fits evidence (λ line there. it.levels (version_at line) (string_bytes line.level) (ap (λ m. get m (version_at line)) same_evidence ∙ level_there line there))
 
-      pub places_fit : AllByRecursion against_fits against
-      places_fit = all_from against_fits against (λ line there.
-          let order = it.places (string_bytes line.subject, line.version) in
-          let some = subst (λ m. IsSome (get m (place_at line))) (sym same_against) (subst IsSome (sym (id_there line there)) refl) in
+      pub positions_fit : AllByRecursion against_fits against
+      positions_fit = all_from against_fits against (λ line there.
+          let order = it.positions (string_bytes line.subject, line.version) in
+          let some = subst (λ m. IsSome (get m (position_at line))) (sym same_against) (subst IsSome (sym (id_there line there)) refl) in
           let high = ((order.each line.position).0 some).1 in
           let few = order.few in
           omega (arith, high, few))
 
-      pub in_place : AreInSequence evidence against
-      in_place = (
-        λ place h.
-            (let it_there = the_value (get against_in place) (place_told place h) in
-            version_listed place.0 (subst (λ m. IsSome (get m place.0)) same_evidence (it.owners place it_there.0 (ap (λ m. get m place) same_against ∙ it_there.1)))),
-        λ key. let order = it.places key in record {
+      pub in_sequence : AreInSequence evidence against
+      in_sequence = (
+        λ position h.
+            (let it_there = the_value (get against_in position) (position_told position h) in
+            version_listed position.0 (subst (λ m. IsSome (get m position.0)) same_evidence (it.owners position it_there.0 (ap (λ m. get m position) same_against ∙ it_there.1)))),
+        λ key. let order = it.positions key in record {
           count = order.count;
           positions = λ position. (
-            λ h. (order.each position).0 (subst (λ m. IsSome (get m (key, position))) (sym same_against) (place_told (key, position) h)),
-            λ within. place_listed (key, position) (subst (λ m. IsSome (get m (key, position))) same_against ((order.each position).1 within)),
+            λ h. (order.each position).0 (subst (λ m. IsSome (get m (key, position))) (sym same_against) (position_told (key, position) h)),
+            λ within. position_listed (key, position) (subst (λ m. IsSome (get m (key, position))) same_against ((order.each position).1 within)),
           );
         },
       )

@@ -32,7 +32,7 @@ use Rattle.reg_store.specs.declared.layout.Layout.TheVariants.{One}
 use Rattle.reg_store.specs.Spells.{SpellsLayoutOne, SpellsUnopened, SpellsWhileOpen}
 use Rattle.reg_store.specs.Inside.TableChecks.{AreDistinct, mode_fits, EvidenceFits, BaseTablesPass, SpellsSome, AllTablesPass}
 use Rattle.reg_store.proofs.EvidenceMaps.{spelled_if_evidence, evidence_if_spelled}
-use Rattle.reg_store.proofs.EvidenceRows.{evidence_if_fits, level_fits, places_fit, in_place}
+use Rattle.reg_store.proofs.EvidenceRows.{evidence_if_fits, level_fits, positions_fit, in_sequence}
 use Rattle.reg_store.proofs.MetaRows.{mode_spelt, meta_is, layout_two_meta_is}
 use Rattle.reg_store.proofs.ReadBack.{mode_of-mode_text}
 use Rattle.reg_store.proofs.Spelling.{spelled_beside}
@@ -105,16 +105,16 @@ module _ (db : Database) (s : SpellsSome SpellsUnopened db) where
       )
 
   pub evidence_passes : (evidence : List RawEvidence) (against : List RawAgainst) → ListsEvidence db evidence → ListsAgainst db against → EvidenceFits evidence against
-  evidence_passes evidence against lists places =
+  evidence_passes evidence against lists positions =
       let levels = listed_if_shown evidence_form version_cmp version_order distinct_versions (db.trees (table_at db.schema 6).tree) (map evidence_entry evidence) lists held.evidence distinct_texts (shown_by holds TableName.Evidence known) in
-      let ids = listed_if_shown against_form position_cmp position_order distinct_positions (db.trees (table_at db.schema 7).tree) (map against_entry against) places held.against distinct_numbers (shown_by holds Against known) in
+      let ids = listed_if_shown against_form position_cmp position_order distinct_positions (db.trees (table_at db.schema 7).tree) (map against_entry against) positions held.against distinct_numbers (shown_by holds Against known) in
       let rows = evidence_if_spelled held s.stored.evidence s.spells.spelled.evidence in
       record {
         apart = subst AreDistinct (rowids_of evidence_entry (λ (line : RawEvidence). line.rowid) (λ line. refl) evidence) levels.apart.rowids;
         fit = level_fits evidence against levels.apart ids.apart held levels.is ids.is rows;
-        places_apart = subst AreDistinct (rowids_of against_entry (λ (line : RawAgainst). line.rowid) (λ line. refl) against) ids.apart.rowids;
-        places_fit = places_fit evidence against levels.apart ids.apart held levels.is ids.is rows;
-        placed = in_place evidence against levels.apart ids.apart held levels.is ids.is rows;
+        positions_apart = subst AreDistinct (rowids_of against_entry (λ (line : RawAgainst). line.rowid) (λ line. refl) against) ids.apart.rowids;
+        positions_fit = positions_fit evidence against levels.apart ids.apart held levels.is ids.is rows;
+        placed = in_sequence evidence against levels.apart ids.apart held levels.is ids.is rows;
       }
 
 pub all_tables_known : (db : Database) → SpellsSome SpellsUnopened db → HasEightTables db.schema
@@ -169,9 +169,9 @@ spelled_if_all_passed db known sound p =
     let modes = p.added.modes in
     let evidence = p.added.evidence in
     let versions_apart = evidence_apart db known sound evidence.evidence evidence.lists.0 evidence.fits.apart in
-    let places_apart = against_apart db known sound evidence.against evidence.lists.1 evidence.fits.places_apart in
+    let positions_apart = against_apart db known sound evidence.against evidence.lists.1 evidence.fits.positions_apart in
     let lines = lines_in metas.lines rest modes.lines evidence.evidence evidence.against in
-    let apart = apart_if_passed db keys sound metas.lines metas.lists metas.apart rest modes.lines evidence.evidence evidence.against (modes_apart db known sound modes.lines modes.lists modes.apart) versions_apart places_apart in
+    let apart = apart_if_passed db keys sound metas.lines metas.lists metas.apart rest modes.lines evidence.evidence evidence.against (modes_apart db known sound modes.lines modes.lists modes.apart) versions_apart positions_apart in
     let all = lists_if_passed db keys sound metas.lines metas.lists metas.apart rest modes.lines evidence.evidence evidence.against
     (listed_in pair_form db.trees _ (slice_get db.schema.tables 5) (map mode_entry modes.lines) (has_table db.schema TableName.Modes tables) modes.lists) (listed_in evidence_form db.trees _ (slice_get db.schema.tables 6) (map evidence_entry evidence.evidence) (has_table db.schema TableName.Evidence tables) evidence.lists.0)
     (listed_in against_form db.trees _ (slice_get db.schema.tables 7) (map against_entry evidence.against) (has_table db.schema Against tables) evidence.lists.1) in
@@ -179,7 +179,7 @@ spelled_if_all_passed db known sound p =
     let meta = layout_two_meta_is metas.lines metas.fit in
     let held = contents_of lines in
     let own = λ (subject : List ℕ). option_and_then mode_of (get (modes_in modes.lines) subject) in
-    let admitted = spelled_if_evidence held (evidence_if_fits evidence.evidence evidence.against versions_apart places_apart held refl refl evidence.fits.fit evidence.fits.places_fit evidence.fits.placed) in
+    let admitted = spelled_if_evidence held (evidence_if_fits evidence.evidence evidence.against versions_apart positions_apart held refl refl evidence.fits.fit evidence.fits.positions_fit evidence.fits.placed) in
     record {
       stored = record { registry = record it.0 { global = meta.0; global_mode = meta.1; own_modes = own }; replies = it.1; evidence = admitted.0 };
       spells = record {

@@ -1,7 +1,7 @@
 pub mod Maps
 pub mod Numbering
 pub mod Ids
-pub mod Places
+pub mod Positions
 pub mod Evidence
 pub mod SpelledTwo
 pub mod Spelling

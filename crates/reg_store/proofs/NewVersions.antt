@@ -28,8 +28,8 @@ use Rattle.reg_store.specs.Spells.{Spells, IsSpelledEvidence, IsSpelledLayoutTwo
 use Rattle.reg_store.specs.Changes.{stored_after_changes}
 use Rattle.reg_store.specs.Inside.Applying.{HasNoPositions, HasTexts, PutsOwn, IsFaultOfOwn, with_ids, with_own}
 use Rattle.reg_store.proofs.Additions.{number_is_free, spelled_row}
-use Rattle.reg_store.proofs.Evidence.{evidence_beside, evidence_more, has_no_place}
-use Rattle.reg_store.proofs.Places.{ids_beside}
+use Rattle.reg_store.proofs.Evidence.{evidence_beside, evidence_more, has_no_position}
+use Rattle.reg_store.proofs.Positions.{ids_beside}
 use Rattle.reg_store.proofs.Spelling.{spelled_as}
 
 no_level : {db : Database} {was : Stored} (s : Spells db was) (key : RowKey) → get s.contents.versions key ≡ None → get s.contents.evidence key ≡ None
@@ -54,7 +54,7 @@ module _ (old mid new : State) (row : Row) (own : Evidence) (puts : ChangesIf ol
   bare = no_level s row.0 absent
 
   free : HasNoPositions s.contents row.0
-  free = has_no_place s.contents was.evidence s.spelled.evidence row.0 bare
+  free = has_no_position s.contents was.evidence s.spelled.evidence row.0 bare
 
   named : (nodes : List NodeView) → schema_at was.registry.schemas row.1.id ≡ Some nodes → HasTexts (with_row row s.contents) row.0 own.against
   named nodes schema = record {

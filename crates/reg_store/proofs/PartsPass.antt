@@ -26,7 +26,7 @@ use Rattle.reg_tables.proofs.MapLemmas.{same_or_not, tied_key}
 use Rattle.reg_tables.proofs.Tables.{shown_by}
 use Rattle.reg_rows.specs.Positions.{VersionPosition, IsContiguousFor, AreContiguous}
 use Rattle.reg_store.specs.Spells.{SpellsUnopened}
-use Rattle.reg_store.specs.Inside.TableChecks.{AreDistinct, against_fits, version_at, place_at, evidence_fits, ArePositionsInOrder, JudgesVersions, EvidenceFits, EvidencePasses, SpellsSome}
+use Rattle.reg_store.specs.Inside.TableChecks.{AreDistinct, against_fits, version_at, position_at, evidence_fits, ArePositionsInOrder, JudgesVersions, EvidenceFits, EvidencePasses, SpellsSome}
 use Rattle.reg_store.proofs.EvidenceMaps.{evidence_if_spelled}
 use Rattle.reg_store.proofs.EvidenceRows.{version_listed}
 use Rattle.reg_store.proofs.LayoutTwoChecks.{all_tables_known, evidence_passes}
@@ -58,10 +58,10 @@ has_among (first ∷ versions) version row (inr later) is = go (is_of first row)
     go false rest = rest
 
 -- each row has a position
-abbrev ArePlaced : List Row → Type 0
-ArePlaced rows = (row : Row) → Has rows row → (place : VersionPosition) × (against_form.key_of row ≡ position_cells place)
+abbrev HavePositions : List Row → Type 0
+HavePositions rows = (row : Row) → Has rows row → (position : VersionPosition) × (against_form.key_of row ≡ position_cells position)
 
-module _ (db : Database) (keyed : ArePlaced (against_rows db)) where
+module _ (db : Database) (keyed : HavePositions (against_rows db)) where
   parted : (versions : List RowKey) → IsDistinct (eq_by_cmp version_cmp) versions → IsPermutation (filter (among versions) (against_rows db)) (rows_of db versions)
   unfolding IsDistinct
   parted [] apart = subst (λ l. IsPermutation l []) (sym (none_passes (among []) (against_rows db) (λ row there. refl))) (IsPermutation-refl [])
@@ -71,9 +71,9 @@ module _ (db : Database) (keyed : ArePlaced (against_rows db)) where
     where
       alone : (row : Row) → Has (against_rows db) row → is_of version row ≡ true → among versions row ≡ true → ⊥
       alone row there own other =
-          let place = keyed row there in
+          let position = keyed row there in
           let it = among_has versions row other in
-          let same = sym (of_one row place.0 version place.1 own) ∙ of_one row place.0 it.0 place.1 it.2 in
+          let same = sym (of_one row position.0 version position.1 own) ∙ of_one row position.0 it.0 position.1 it.2 in
           both_ways _ (all_has (λ k. eq_by_cmp version_cmp version k ≡ false) versions it.0 apart.0 it.1) (tied_key version_cmp version_order version it.0 same)
 
       each : (row : Row) → Has (against_rows db) row → Splits (among (version ∷ versions) row) (is_of version row) (among versions row)
@@ -104,12 +104,12 @@ module _ (db : Database) (evidence : List RawEvidence) (lists : ListsEvidence db
         fits = record {
           apart = passed.0;
           fit = passed.1;
-          places_apart = subst AreDistinct (sym it.have) apart;
-          places_fit = fits_if_fit db versions rowids fit it sure;
+          positions_apart = subst AreDistinct (sym it.have) apart;
+          positions_fit = fits_if_fit db versions rowids fit it sure;
           placed = (
-            λ place h.
-                (let l = has_mapped place_at ids place (has_contained (map place_at ids) place h) in
-                subst (λ (p : VersionPosition). Contains versions p.0) (sym l.2) (contains_had versions (place_at l.0).0 (version_read db versions it.parts it.lists l.0 l.1))),
+            λ position h.
+                (let l = has_mapped position_at ids position (has_contained (map position_at ids) position h) in
+                subst (λ (p : VersionPosition). Contains versions p.0) (sym l.2) (contains_had versions (position_at l.0).0 (version_read db versions it.parts it.lists l.0 l.1))),
             positions_if_fit db versions rowids fit it listed sure,
           );
         };
@@ -125,7 +125,7 @@ module _ (db : Database) (evidence : List RawEvidence) (lists : ListsEvidence db
     shows : ShowsMap against_form (against_rows db) (get held.against)
     shows = shown_by holds Against (all_tables_known db s)
 
-    keyed : ArePlaced (against_rows db)
+    keyed : HavePositions (against_rows db)
     keyed row there = let e = shows.sound row there in (e.0, e.3.0)
 
     covered : IsPermutation (against_rows db) (rows_of db versions)
@@ -164,23 +164,23 @@ module _ (db : Database) (evidence : List RawEvidence) (lists : ListsEvidence db
         later_fit [] fit = fit
         later_fit (line ∷ lines) fit = later_fit lines fit.1
 
-        positions : AreContiguous (map place_at lines)
+        positions : AreContiguous (map position_at lines)
         positions other = elim (same_or_not version_cmp version_order other version) [
           | inl same ↦
-              subst (λ v. IsContiguousFor (map place_at lines) v) (sym same)
+              subst (λ v. IsContiguousFor (map position_at lines) v) (sym same)
               (if_counted (filter (is_of version) (against_rows db)) lines lists.0 version (close (against_rows db) version (counted_if (against_rows db) ids all version (fits.placed.1 version))))
-          | inr apart ↦ uncounted (map place_at lines) other (λ position h.
-              let l = has_mapped place_at lines (other, position) (has_contained (map place_at lines) (other, position) h) in
+          | inr apart ↦ uncounted (map position_at lines) other (λ position h.
+              let l = has_mapped position_at lines (other, position) (has_contained (map position_at lines) (other, position) h) in
               let r = line_row (filter (is_of version) (against_rows db)) lines lists.0 l.0 l.1 in
               let kept = has_filtered (is_of version) (against_rows db) r.0 r.1 in
-              apart (ap (λ (p : VersionPosition). p.0) l.2 ∙ of_one r.0 (place_at l.0) version (key_is r.0 l.0 r.2) kept.1))
+              apart (ap (λ (p : VersionPosition). p.0) l.2 ∙ of_one r.0 (position_at l.0) version (key_is r.0 l.0 r.2) kept.1))
         ]
 
     pub parts_apart : AreDistinct rowids
-    parts_apart = subst AreDistinct it.have fits.places_apart
+    parts_apart = subst AreDistinct it.have fits.positions_apart
 
     pub parts_counted : length (against_rows db) ≡ length rowids
     parts_counted = sym (many_lines (against_rows db) ids all) ∙ ap length it.have
 
     pub parts_fit : IsTrue fit
-    parts_fit = it.judged.1 (stand versions it.parts it.lists fits.places_fit)
+    parts_fit = it.judged.1 (stand versions it.parts it.lists fits.positions_fit)

@@ -28,7 +28,7 @@ one_readable db was s =
     let none = nothing_held s.schema s.known db.trees s.contents s.holds.shows in
     readable_base s.contents was.registry was.replies s.spelled.base (λ name value there. utf8_first_meta was.registry.global name value (sym (ap (λ m. get m name) s.spelled.meta) ∙ there))
     (λ subject mode there. absurd (none_in text_cmp s.contents.modes none.0 subject mode there)) (λ key level there. absurd (none_in version_cmp s.contents.evidence none.1 key level there))
-    (λ place id there. absurd (none_in position_cmp s.contents.against none.2 place id there))
+    (λ position id there. absurd (none_in position_cmp s.contents.against none.2 position id there))
 
 pub all_readable : (db : Database) (was : Stored) → {IsAllowed : Schema → Type 0} → (s : SpellsIn IsAllowed IsSpelledLayoutTwo db was) → HasEightTables s.schema → AreReadable s.contents
 all_readable db was s tables =
@@ -39,12 +39,12 @@ all_readable db was s tables =
     (λ key level there.
     let of_version = version key (has_evidence_version s.schema db s.contents tables s.holds key level there) in
     (of_version.0, of_version.1, utf8_spelt level (rows.levels key level there)))
-    (λ place id there.
-    let owner = the_value (get s.contents.evidence place.0) (rows.owners place id there) in
-    let of_version = version place.0 (has_evidence_version s.schema db s.contents tables s.holds place.0 owner.0 owner.1) in
-    let text = the_value (get s.contents.texts id) (has_against_text s.schema db s.contents tables s.holds place id there) in
-    let order = rows.places place.0 in
-    let high = ((order.each place.1).0 (subst IsSome (sym there) refl)).1 in
+    (λ position id there.
+    let owner = the_value (get s.contents.evidence position.0) (rows.owners position id there) in
+    let of_version = version position.0 (has_evidence_version s.schema db s.contents tables s.holds position.0 owner.0 owner.1) in
+    let text = the_value (get s.contents.texts id) (has_against_text s.schema db s.contents tables s.holds position id there) in
+    let order = rows.positions position.0 in
+    let high = ((order.each position.1).0 (subst IsSome (sym there) refl)).1 in
     let few = order.few in
     (of_version.0, of_version.1, omega (arith, high, few), readable_id s.contents was.registry was.replies s.spelled.base id text.0 text.1))
   where

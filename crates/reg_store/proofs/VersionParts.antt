@@ -29,7 +29,7 @@ use Rattle.reg_tables.proofs.MapLemmas.{same_key, tied_key, same_or_not}
 use Rattle.reg_tables.proofs.Keys.{distinct_positions}
 use Rattle.reg_tables.proofs.VersionIds.{is_of_told}
 use Rattle.reg_rows.specs.Positions.{VersionPosition, IsContiguousFor, AreContiguous}
-use Rattle.reg_store.specs.Inside.TableChecks.{AreDistinct, against_fits, place_at, ArePositionsInOrder, rowids_in, JudgesVersions}
+use Rattle.reg_store.specs.Inside.TableChecks.{AreDistinct, against_fits, position_at, ArePositionsInOrder, rowids_in, JudgesVersions}
 use Rattle.reg_store.proofs.TextParts.{mapped-append}
 
 -- ---- members of lists that are joined
@@ -65,15 +65,15 @@ all_rows_are (x ∷ xs) ys up among few =
 
 -- ---- rows and lines
 
-abbrev pub HasPlace : List Row → VersionPosition → Type 0
-HasPlace rows place = (row : Row) × Has rows row × (against_form.key_of row ≡ position_cells place)
+abbrev pub HasPosition : List Row → VersionPosition → Type 0
+HasPosition rows position = (row : Row) × Has rows row × (against_form.key_of row ≡ position_cells position)
 
 -- the positions of a version in these rows are the numbers from 1 to a count
 pub record Counted (rows : List Row) (version : RowKey) : Type 0 where
   pub count : ℕ
-  pub positions : (position : ℕ) → HasPlace rows (version, position) ↔ ((0 < position) × (position ≤ count))
+  pub positions : (position : ℕ) → HasPosition rows (version, position) ↔ ((0 < position) × (position ≤ count))
 
-pub key_is : (row : Row) (line : RawAgainst) → parts_of against_form row ≡ entry_parts against_form (against_entry line) → against_form.key_of row ≡ position_cells (place_at line)
+pub key_is : (row : Row) (line : RawAgainst) → parts_of against_form row ≡ entry_parts against_form (against_entry line) → against_form.key_of row ≡ position_cells (position_at line)
 key_is row line same = ap (λ (p : RowParts). p.1) same
 
 module _ (rows : List Row) (lines : List RawAgainst) (lists : Lists against_form rows (map against_entry lines)) where
@@ -92,22 +92,22 @@ module _ (rows : List Row) (lines : List RawAgainst) (lists : Lists against_form
       let r = has_mapped (parts_of against_form) rows entry (has_permuted shown (map (parts_of against_form) rows) entry (IsPermutation-sym (map (parts_of against_form) rows) shown lists) (maps_had (entry_parts against_form) (map against_entry lines) (against_entry line) (maps_had against_entry lines line there))) in
       (r.0, r.1, sym r.2)
 
-  pub placed : (place : VersionPosition) → Contains (map place_at lines) place ↔ HasPlace rows place
-  placed place = (
+  pub placed : (position : VersionPosition) → Contains (map position_at lines) position ↔ HasPosition rows position
+  placed position = (
     λ h.
-        (let l = has_mapped place_at lines place (has_contained (map place_at lines) place h) in
+        (let l = has_mapped position_at lines position (has_contained (map position_at lines) position h) in
         let r = line_row l.0 l.1 in
         (r.0, r.1, key_is r.0 l.0 r.2 ∙ ap position_cells (sym l.2))),
     λ h.
         (let l = line_of h.0 h.1 in
-        let same : place_at l.0 ≡ place = distinct_positions (place_at l.0) place (sym (key_is h.0 l.0 l.2) ∙ h.2) in
-        subst (Contains (map place_at lines)) same (contains_had (map place_at lines) (place_at l.0) (maps_had place_at lines l.0 l.1))),
+        let same : position_at l.0 ≡ position = distinct_positions (position_at l.0) position (sym (key_is h.0 l.0 l.2) ∙ h.2) in
+        subst (Contains (map position_at lines)) same (contains_had (map position_at lines) (position_at l.0) (maps_had position_at lines l.0 l.1))),
   )
 
-  pub counted_if : (version : RowKey) → IsContiguousFor (map place_at lines) version → Counted rows version
+  pub counted_if : (version : RowKey) → IsContiguousFor (map position_at lines) version → Counted rows version
   counted_if version it = record { count = it.count; positions = λ position. (λ h. (it.positions position).0 ((placed (version, position)).1 h), λ within. (placed (version, position)).0 ((it.positions position).1 within)) }
 
-  pub if_counted : (version : RowKey) → Counted rows version → IsContiguousFor (map place_at lines) version
+  pub if_counted : (version : RowKey) → Counted rows version → IsContiguousFor (map position_at lines) version
   if_counted version it = record { count = it.count; positions = λ position. (λ h. (it.positions position).0 ((placed (version, position)).0 h), λ within. (placed (version, position)).1 ((it.positions position).1 within)) }
 
   lines_rowids : IsPermutation (map rowid rows) (map Int (rowids_in lines))
@@ -128,20 +128,20 @@ module _ (rows : List Row) (lines : List RawAgainst) (lists : Lists against_form
 
 -- ---- the rows of a version
 
-version_cells_are : (row : Row) (place : VersionPosition) → against_form.key_of row ≡ position_cells place → column row 1 ∷ column row 2 ∷ [] ≡ column (position_cells place) 0 ∷ column (position_cells place) 1 ∷ []
-version_cells_are row place is = ap (λ (r : Row). column r 0 ∷ column r 1 ∷ []) is
+version_cells_are : (row : Row) (position : VersionPosition) → against_form.key_of row ≡ position_cells position → column row 1 ∷ column row 2 ∷ [] ≡ column (position_cells position) 0 ∷ column (position_cells position) 1 ∷ []
+version_cells_are row position is = ap (λ (r : Row). column r 0 ∷ column r 1 ∷ []) is
 
-pub of_itself : (row : Row) (place : VersionPosition) → against_form.key_of row ≡ position_cells place → is_of place.0 row ≡ true
-of_itself row place is = is_of_told place.0 row place.0 (version_cells_are row place is) ∙ tied_key version_cmp version_order place.0 place.0 refl
+pub of_itself : (row : Row) (position : VersionPosition) → against_form.key_of row ≡ position_cells position → is_of position.0 row ≡ true
+of_itself row position is = is_of_told position.0 row position.0 (version_cells_are row position is) ∙ tied_key version_cmp version_order position.0 position.0 refl
 
-pub of_one : (row : Row) (place : VersionPosition) (version : RowKey) → against_form.key_of row ≡ position_cells place → is_of version row ≡ true → place.0 ≡ version
-of_one row place version is passes = same_key version_cmp version_order place.0 version (sym (is_of_told version row place.0 (version_cells_are row place is)) ∙ passes)
+pub of_one : (row : Row) (position : VersionPosition) (version : RowKey) → against_form.key_of row ≡ position_cells position → is_of version row ≡ true → position.0 ≡ version
+of_one row position version is passes = same_key version_cmp version_order position.0 version (sym (is_of_told version row position.0 (version_cells_are row position is)) ∙ passes)
 
 module _ (rows : List Row) (version : RowKey) where
-  narrow : (position : ℕ) → HasPlace rows (version, position) → HasPlace (filter (is_of version) rows) (version, position)
+  narrow : (position : ℕ) → HasPosition rows (version, position) → HasPosition (filter (is_of version) rows) (version, position)
   narrow position h = (h.0, has_kept (is_of version) rows h.0 h.1 (of_itself h.0 (version, position) h.2), h.2)
 
-  widen : (position : ℕ) → HasPlace (filter (is_of version) rows) (version, position) → HasPlace rows (version, position)
+  widen : (position : ℕ) → HasPosition (filter (is_of version) rows) (version, position) → HasPosition rows (version, position)
   widen position h = (h.0, (has_filtered (is_of version) rows h.0 h.1).0, h.2)
 
   pub wide : Counted (filter (is_of version) rows) version → Counted rows version
@@ -150,8 +150,8 @@ module _ (rows : List Row) (version : RowKey) where
   pub close : Counted rows version → Counted (filter (is_of version) rows) version
   close it = record { count = it.count; positions = λ position. (λ h. (it.positions position).0 (widen position h), λ within. narrow position ((it.positions position).1 within)) }
 
-pub uncounted : (places : List VersionPosition) (version : RowKey) → ((position : ℕ) → Contains places (version, position) → ⊥) → IsContiguousFor places version
-uncounted places version none = record { count = 0; positions = λ position. (λ h. absurd (none position h), λ within. absurd (let low = within.0 in let high = within.1 in omega (arith, low, high))) }
+pub uncounted : (positions : List VersionPosition) (version : RowKey) → ((position : ℕ) → Contains positions (version, position) → ⊥) → IsContiguousFor positions version
+uncounted positions version none = record { count = 0; positions = λ position. (λ h. absurd (none position h), λ within. absurd (let low = within.0 in let high = within.1 in omega (arith, low, high))) }
 
 module _ (db : Database) where
   abbrev pub rows : List Row
@@ -178,14 +178,14 @@ module _ (db : Database) where
       (IsPermutation-append (map (parts_of against_form) (filter (is_of version) rows)) (map (entry_parts against_form) (map against_entry lines)) (map (parts_of against_form) (rows_of versions))
       (map (entry_parts against_form) (map against_entry (joined parts))) lists.0 (all_listed versions parts lists.1))
 
-  pub version_read : (versions : List RowKey) (parts : List (List RawAgainst)) → Parts versions parts → (line : RawAgainst) → Has (joined parts) line → Has versions (place_at line).0
+  pub version_read : (versions : List RowKey) (parts : List (List RawAgainst)) → Parts versions parts → (line : RawAgainst) → Has (joined parts) line → Has versions (position_at line).0
   version_read [] [] lists line there = absurd there
   version_read [] (lines ∷ parts) lists line there = absurd lists
   version_read (version ∷ versions) [] lists line there = absurd lists
   version_read (version ∷ versions) (lines ∷ parts) lists line there = elim (has_either lines (joined parts) line there) [
     | inl here ↦
         let r = line_row (filter (is_of version) rows) lines lists.0 line here in
-        inl (of_one r.0 (place_at line) version (key_is r.0 line r.2) (has_filtered (is_of version) rows r.0 r.1).1)
+        inl (of_one r.0 (position_at line) version (key_is r.0 line r.2) (has_filtered (is_of version) rows r.0 r.1).1)
     | inr later ↦ inr (version_read versions parts lists.1 line later)
   ]
 
@@ -224,14 +224,14 @@ module _ (db : Database) where
         let whole = all_rows_are (rows_of versions) rows (rows_apart (rows_of versions) against listed (subst AreDistinct (sym it.have) apart)) (rows_among versions) (omega (arith, many, long, same)) in
         IsPermutation-trans (map (parts_of against_form) rows) (map (parts_of against_form) (rows_of versions)) (map (entry_parts against_form) (map against_entry against)) (IsPermutation-map (parts_of against_form) rows (rows_of versions) whole) listed
 
-    pub positions_if_fit : ListsAgainst db against → IsTrue fit → AreContiguous (map place_at against)
+    pub positions_if_fit : ListsAgainst db against → IsTrue fit → AreContiguous (map position_at against)
     positions_if_fit all sure version = elim (read_or_not versions version) [
       | inl there ↦
           let part = part_of ArePositionsInOrder versions it.parts it.lists (it.judged.0 sure) version there in
           if_counted rows against all version (wide rows version (counted_if (filter (is_of version) rows) part.0 part.1 version (part.2.1 version)))
-      | inr none ↦ uncounted (map place_at against) version (λ position h.
-          let l = has_mapped place_at against (version, position) (has_contained (map place_at against) (version, position) h) in
-          none (subst (λ (place : VersionPosition). Has versions place.0) (sym l.2) (version_read versions it.parts it.lists l.0 l.1)))
+      | inr none ↦ uncounted (map position_at against) version (λ position h.
+          let l = has_mapped position_at against (version, position) (has_contained (map position_at against) (version, position) h) in
+          none (subst (λ (position : VersionPosition). Has versions position.0) (sym l.2) (version_read versions it.parts it.lists l.0 l.1)))
     ]
 
     pub fits_if_fit : IsTrue fit → AllByRecursion against_fits against

@@ -81,7 +81,7 @@ id_at (suc n) one = slice_get one.against n
 -- this project's choice: the level's text, and the ids at the positions from 1 to their count, spell the evidence of a version
 pub record IsSpelledEvidence (contents : Contents) (evidence : EvidenceMap) : Type 0 where
   pub levels : (key : RowKey) → get contents.evidence key ≡ option_map (λ one. level_text one.level) (get evidence key)
-  pub ids : (place : PositionKey) → get contents.against place ≡ option_and_then (id_at place.1) (get evidence place.0)
+  pub ids : (position : PositionKey) → get contents.against position ≡ option_and_then (id_at position.1) (get evidence position.0)
   pub few : (key : RowKey) (one : Evidence) → get evidence key ≡ Some one → length one.against < 2 ^ 32
 
 -- this project's choice: the contents of layout 2 spell the stored state

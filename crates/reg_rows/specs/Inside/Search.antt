@@ -21,11 +21,11 @@ AreSortedPositions = IsSorted (on position_view position_order)
 
 -- the list contains the version of the position
 abbrev pub HasVersion : List (Bor (List ℕ) × ℕ) → Bor (List ℕ) × ℕ × ℕ → Type 0
-HasVersion versions place = Contains (map version_view versions) (place.0.now, place.1)
+HasVersion versions position = Contains (map version_view versions) (position.0.now, position.1)
 
 -- the position is 1, or the list contains its predecessor
 abbrev pub HasPredecessor : List VersionPosition → VersionPosition → Type 0
-HasPredecessor places place = (0 < place.1) × ((place.1 ≡ 1) ⊎ Contains places (place.0, place.1 - 1))
+HasPredecessor positions position = (0 < position.1) × ((position.1 ≡ 1) ⊎ Contains positions (position.0, position.1 - 1))
 
 abbrev pub HasPredecessorIn : List (Bor (List ℕ) × ℕ × ℕ) → Bor (List ℕ) × ℕ × ℕ → Type 0
-HasPredecessorIn places place = HasPredecessor (map position_view places) (position_view place)
+HasPredecessorIn positions position = HasPredecessor (map position_view positions) (position_view position)

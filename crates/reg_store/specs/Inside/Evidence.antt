@@ -14,5 +14,5 @@ pub record AreInOrder (against : FinMap position_cmp ℕ) (key : RowKey) : Type 
 -- the evidence of a version is a level, with ids at consecutive positions
 pub record IsEvidence (contents : Contents) : Type 0 where
   pub levels : (key : RowKey) (level : List ℕ) → get contents.evidence key ≡ Some level → IsTrue (is_some (level_of level))
-  pub owners : (place : PositionKey) (id : ℕ) → get contents.against place ≡ Some id → IsSome (get contents.evidence place.0)
-  pub places : (key : RowKey) → AreInOrder contents.against key
+  pub owners : (position : PositionKey) (id : ℕ) → get contents.against position ≡ Some id → IsSome (get contents.evidence position.0)
+  pub positions : (key : RowKey) → AreInOrder contents.against key

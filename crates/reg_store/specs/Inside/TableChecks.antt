@@ -113,12 +113,12 @@ against_fits line = line.position < 2 ^ 32
 abbrev pub version_at : RawEvidence → RowKey
 version_at line = (string_bytes line.subject, line.version)
 
-abbrev pub place_at : RawAgainst → VersionPosition
-place_at line = ((string_bytes line.subject, line.version), line.position)
+abbrev pub position_at : RawAgainst → VersionPosition
+position_at line = ((string_bytes line.subject, line.version), line.position)
 
 -- each version with ids has evidence, and its ids are at consecutive positions
 abbrev pub AreInSequence : List RawEvidence → List RawAgainst → Type 0
-AreInSequence evidence against = HaveEvidence (map version_at evidence) (map place_at against) × AreContiguous (map place_at against)
+AreInSequence evidence against = HaveEvidence (map version_at evidence) (map position_at against) × AreContiguous (map position_at against)
 
 abbrev pub ModesPass : Database → Type 0
 ModesPass = Passes ListsModes (λ line. line.rowid) mode_fits
@@ -126,8 +126,8 @@ ModesPass = Passes ListsModes (λ line. line.rowid) mode_fits
 pub record EvidenceFits (evidence : List RawEvidence) (against : List RawAgainst) : Type 0 where
   pub apart : AreDistinct (map (λ (line : RawEvidence). line.rowid) evidence)
   pub fit : AllByRecursion evidence_fits evidence
-  pub places_apart : AreDistinct (map (λ (line : RawAgainst). line.rowid) against)
-  pub places_fit : AllByRecursion against_fits against
+  pub positions_apart : AreDistinct (map (λ (line : RawAgainst). line.rowid) against)
+  pub positions_fit : AllByRecursion against_fits against
   pub placed : AreInSequence evidence against
 
 pub record EvidencePasses (db : Database) : Type 0 where
@@ -164,7 +164,7 @@ pub record Judges (Lists : List RawText → Type 0) (fit : Bool) : Type 0 where
 
 -- rows of a version, with consecutive positions
 abbrev pub ArePositionsInOrder : List RawAgainst → Type 0
-ArePositionsInOrder lines = AllByRecursion against_fits lines × AreContiguous (map place_at lines)
+ArePositionsInOrder lines = AllByRecursion against_fits lines × AreContiguous (map position_at lines)
 
 abbrev pub rowids_in : List RawAgainst → List ℤ
 rowids_in = map (λ (line : RawAgainst). line.rowid)

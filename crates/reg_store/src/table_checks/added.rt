@@ -5,7 +5,7 @@ ghost use Rattle.std.specs.List.{AllByRecursion};
 ghost use Rattle.reg_tables.specs.Listings.{ListsEvidence, HasAgainstRows, greatest_integer};
 ghost use Rattle.reg_rows.specs.Positions.{position_view};
 ghost use Rattle.reg_store.specs.Failures.{HasNoLayoutNumber};
-ghost use Rattle.reg_store.specs.Inside.TableChecks.{AreDistinct, mode_fits, evidence_fits, against_fits, version_at, place_at, ArePositionsInOrder, rowids_in, JudgesVersion, JudgesIds, ModesPass, EvidencePasses, AddedTablesPass, ChecksAllTables};
+ghost use Rattle.reg_store.specs.Inside.TableChecks.{AreDistinct, mode_fits, evidence_fits, against_fits, version_at, position_at, ArePositionsInOrder, rowids_in, JudgesVersion, JudgesIds, ModesPass, EvidencePasses, AddedTablesPass, ChecksAllTables};
 
 use crate::conn::Conn;
 use crate::error::StoreError;
@@ -82,17 +82,17 @@ fn read_evidence<S: Alter>(alloc: Global, db: &mut Conn<S>) -> Result<Vec<RawEvi
 }
 
 /// The positions of the rows.
-fn places_in<'a>(
+fn positions_in<'a>(
     alloc: Global,
     lines: &'a [RawAgainst],
 ) -> Result<Vec<(&'a str, u32, u32)>, AllocError>
-    ensures { IfOk result (λ places. map position_view places.items ≡ map place_at lines.now) }
+    ensures { IfOk result (λ positions. map position_view positions.items ≡ map position_at lines.now) }
 {
-    let mut places = Vec::new(alloc);
+    let mut positions = Vec::new(alloc);
     for line in lines {
-        places.push((line.subject.as_str(), line.version, line.position))?;
+        positions.push((line.subject.as_str(), line.version, line.position))?;
     }
-    Ok(places)
+    Ok(positions)
 }
 
 /// Whether the ids of a version are at consecutive positions from 1 on.
@@ -102,8 +102,8 @@ fn are_in_order(alloc: Global, lines: &[RawAgainst]) -> Result<bool, AllocError>
     if !all_fit(lines) {
         return Ok(false);
     }
-    let places = places_in(alloc, lines)?;
-    Ok(are_contiguous(places))
+    let positions = positions_in(alloc, lines)?;
+    Ok(are_contiguous(positions))
 }
 
 fn add_rowids(rowids: &mut Vec<i64>, lines: &[RawAgainst]) -> Result<(), AllocError>

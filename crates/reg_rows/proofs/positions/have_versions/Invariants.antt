@@ -2,5 +2,5 @@ use Rattle.reg_rows.specs.Inside.Search.{HasVersion}
 use Rattle.reg_rows.proofs.EachRow.{Left}
 use Rattle.reg_rows.proofs.positions.have_versions.Given as goal
 
-abbrev pub invariant-loop-place : goal.invariant-loop-place
-invariant-loop-place l = Left (HasVersion l.sorted) l.positions l.place-index
+abbrev pub invariant-loop-position : goal.invariant-loop-position
+invariant-loop-position l = Left (HasVersion l.sorted) l.positions l.position-index

@@ -8,7 +8,7 @@ use Rattle.reg_tables.specs.Contents.{HoldsContents}
 use Rattle.reg_tables.proofs.Transactions.{keeps_then, survives_both}
 use Rattle.reg_tables.proofs.WriteFaults.{erred_with}
 use Rattle.reg_store.specs.Inside.Applying.{IsFaultOfIds, with_ids}
-use Rattle.reg_store.proofs.Places.{next_is_free, next_is_put, has_still}
+use Rattle.reg_store.proofs.Positions.{next_is_free, next_is_put, has_still}
 use Rattle.reg_store.proofs.Writing.{fault_later}
 use Rattle.reg_store.proofs.changes.put_ids.Goals as goal
 

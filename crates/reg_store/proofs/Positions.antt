@@ -22,10 +22,10 @@ module _ (key : RowKey) where
   ids_append n (x ∷ ids) id contents = ids_append (n + 1) ids id (with_against (key, n) x contents) ∙ ap (λ (p : ℕ). with_against (key, p) id (with_ids key (n + 1) ids (with_against (key, n) x contents))) (omega arith)
 
   -- the positions of other versions stay
-  pub ids_elsewhere : (n : ℕ) (ids : List ℕ) (contents : Contents) (place : PositionKey) → place.0 ≢ key → get (with_ids key n ids contents).against place ≡ get contents.against place
-  ids_elsewhere n [] contents place other = refl
-  ids_elsewhere n (id ∷ ids) contents place other =
-      ids_elsewhere (n + 1) ids (with_against (key, n) id contents) place other ∙ get-insert-other position_cmp position_order contents.against (key, n) id place (λ e. other (ap (λ (p : PositionKey). p.0) e))
+  pub ids_elsewhere : (n : ℕ) (ids : List ℕ) (contents : Contents) (position : PositionKey) → position.0 ≢ key → get (with_ids key n ids contents).against position ≡ get contents.against position
+  ids_elsewhere n [] contents position other = refl
+  ids_elsewhere n (id ∷ ids) contents position other =
+      ids_elsewhere (n + 1) ids (with_against (key, n) id contents) position other ∙ get-insert-other position_cmp position_order contents.against (key, n) id position (λ e. other (ap (λ (p : PositionKey). p.0) e))
 
   another : (position n : ℕ) → (position ≡ n → ⊥) → ◌≢◌ {A = PositionKey} (key, position) (key, n)
   another position n apart e = apart (ap (λ (p : PositionKey). p.1) e)

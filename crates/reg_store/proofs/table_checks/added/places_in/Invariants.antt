@@ -1,7 +1,0 @@
-use Rattle.std.proofs.Common.{◌≡◌, map, take}
-use Rattle.reg_rows.specs.Positions.{position_view}
-use Rattle.reg_store.specs.Inside.TableChecks.{place_at}
-use Rattle.reg_store.proofs.table_checks.added.places_in.Given as goal
-
-abbrev pub invariant-loop-line : goal.invariant-loop-line
-invariant-loop-line l = map position_view l.places.items ≡ map place_at (take l.line-index l.lines)
