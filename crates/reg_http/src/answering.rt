@@ -103,7 +103,7 @@ fn answer_front<W: Write, S: Alter>(
 {
     match parse_front(bytes, headers) {
         ParseOutcome::Whole(whole) => {
-            let request = Request::of(bytes, headers, whole);
+            let request = Request::from_spans(bytes, headers, whole);
             let close = request.closes();
             let (reply, allow) = reply_to(alloc, routes, &request, service);
             let sent = send(alloc, writer, &reply, allow, close);

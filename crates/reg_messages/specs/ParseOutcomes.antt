@@ -2,18 +2,18 @@
 use Rattle.std.specs.Prelude.{◌≡◌, ℕ, ◌+◌, ◌<◌, ◌≤◌, List, ◌++◌, map, length, take, drop}
 use Rattle.httparse.specs.declared.spans.HeaderSpan.{HeaderSpan}
 use Rattle.httparse.specs.Spans.{IsRequestWithin, span_bytes, header_bytes}
-use Rattle.reg_messages.specs.declared.message.Whole.{Whole}
+use Rattle.reg_messages.specs.declared.message.MessageSpans.{MessageSpans}
 use Rattle.reg_messages.specs.declared.message.ParseOutcome.{ParseOutcome}
 use Rattle.reg_messages.specs.declared.message.ParseOutcome.TheVariants.{Whole as WholeLook, Nothing, Part as PartLook, Faulty as FaultyLook, TooManyFields}
 use Rattle.reg_messages.specs.Framing.{max_body}
 use Rattle.reg_messages.specs.Messages.{Message, max_head, StartsWithMessage, Follows, End, Part, Faulty, fields_of}
 
 -- the bytes of the head
-abbrev pub head_bytes : List ℕ → Whole → List ℕ
+abbrev pub head_bytes : List ℕ → MessageSpans → List ℕ
 head_bytes bytes whole = take whole.head.len bytes
 
 -- The message is at the front of the bytes, and `whole` has the positions of its parts in `headers` and in the bytes.
-pub record IsWholeMessage (bytes : List ℕ) (headers : List HeaderSpan) (whole : Whole) (message : Message) : Type 0 where
+pub record IsWholeMessage (bytes : List ℕ) (headers : List HeaderSpan) (whole : MessageSpans) (message : Message) : Type 0 where
   pub reads : StartsWithMessage bytes message (drop (whole.head.len + whole.body) bytes)
   pub size : whole.head.len + whole.body ≤ length bytes
   pub some : 0 < whole.head.len

@@ -11,7 +11,7 @@ mod response;
 
 pub use fields::FieldLookup;
 pub use framing::MAX_BODY;
-pub use message::{MAX_HEAD, ParseOutcome, Whole, parse_front, parse_is_unique};
+pub use message::{MAX_HEAD, MessageSpans, ParseOutcome, parse_front, parse_is_unique};
 pub use reg_core::OutOfMemory;
 pub use request::Request;
 pub use response::bytes_of;

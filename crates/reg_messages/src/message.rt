@@ -15,7 +15,7 @@ pub const MAX_HEAD: usize = 16_384;
 /// The spans of a whole message at the front of the bytes: those of its head, and its body's length
 /// in bytes.
 #[derive(Clone, Copy)]
-pub struct Whole {
+pub struct MessageSpans {
     pub head: RequestSpans,
     pub body: usize,
 }
@@ -24,7 +24,7 @@ pub struct Whole {
 #[derive(Clone, Copy)]
 pub enum ParseOutcome {
     /// A whole message.
-    Whole(Whole),
+    Whole(MessageSpans),
     /// There are no bytes.
     Nothing,
     /// Less than a whole message. The message has at least this number of bytes.
@@ -38,7 +38,8 @@ pub enum ParseOutcome {
 }
 
 /// Parses the front of the bytes. `headers` is the room for the spans of the head's fields: 16,384
-/// are enough for every head. After `Whole`, pass the same bytes and `headers` to `Request::of`.
+/// are enough for every head. After `Whole`, pass the same bytes and `headers` to
+/// `Request::from_spans`.
 pub fn parse_front(bytes: &[u8], headers: &mut [HeaderSpan]) -> ParseOutcome
     ensures { ParsesAs (length headers.old) bytes.now headers.new result }
 {
@@ -53,7 +54,7 @@ pub fn parse_front(bytes: &[u8], headers: &mut [HeaderSpan]) -> ParseOutcome
                 if bytes.len() - head.len < body {
                     ParseOutcome::Part(head.len + body)
                 } else {
-                    ParseOutcome::Whole(Whole { head, body })
+                    ParseOutcome::Whole(MessageSpans { head, body })
                 }
             }
         },

@@ -3,7 +3,7 @@
 ghost use Rattle.std.specs.Prelude.{length, All};
 ghost use Rattle.httparse.specs.Spans.{IsHeaderWithin};
 
-use crate::message::Whole;
+use crate::message::MessageSpans;
 use httparse::spans::HeaderSpan;
 
 /// A whole message, borrowed from the input. (RFC 9112, section 2.1.)
@@ -30,7 +30,11 @@ impl<'a> Request<'a> {
     ghost use Rattle.reg_messages.specs.BorrowedRequests.{Borrows};
 
     /// The whole message at the front of the bytes, by the spans that `parse_front` found.
-    pub fn of(bytes: &'a [u8], headers: &'a [HeaderSpan], whole: Whole) -> Request<'a>
+    pub fn from_spans(
+        bytes: &'a [u8],
+        headers: &'a [HeaderSpan],
+        whole: MessageSpans,
+    ) -> Request<'a>
         requires { (message : Message) × IsWholeMessage bytes.now headers.now whole message }
         ensures { (message : Message) → IsWholeMessage bytes.entry.now headers.entry.now whole message
             → Borrows result message }
