@@ -46,7 +46,7 @@ fn put_ids<S: Alter>(
 }
 
 /// Adds the evidence of a version.
-fn put_own<S: Alter>(
+fn put_version_evidence<S: Alter>(
     tx: &mut Transaction<'_, S>,
     subject: &str,
     number: u32,
@@ -72,7 +72,7 @@ fn put_row<S: Alter>(tx: &mut Transaction<'_, S>, row: &Row, own: &Evidence) -> 
 {
     let subject = row.subject().as_str();
     put_version(tx, subject, row.version(), row.id(), row.deleted())?;
-    put_own(tx, subject, row.version(), own)
+    put_version_evidence(tx, subject, row.version(), own)
 }
 
 fn apply_change<S: Alter>(tx: &mut Transaction<'_, S>, change: &Change) -> Result<(), Error>

@@ -26,21 +26,21 @@ pub returns-clause-made : goal.returns-clause-made
 returns-clause-made g c clean =
     let old = state g.S.Store c.args.tx.now.conn.now in
     let mid = state g.S.Store c.put_version.new.tx.conn.now in
-    let early : HasCleanDisk mid = omega (arith, c.put_own.ensures.frame.keeps.survives.clean) in
+    let early : HasCleanDisk mid = omega (arith, c.put_version_evidence.ensures.frame.keeps.survives.clean) in
     let placed = rw (c.as_str-subject.ensures.text, c.subject.ensures, c.version.ensures, c.id.ensures, c.deleted.ensures) at (c.in_ok-put_version.ensures.put early) in
     let within = rw (c.as_str-subject.ensures.text, c.subject.ensures) at c.as_str-subject.ensures.subject in
-    on_ok c.put_own.result (λ given was s fits. spells_row old mid (state g.S.Store c.put_own.new.tx.conn.now) c.args.row.now c.args.own.now placed was s fits within given)
-    (rw (c.as_str-subject.ensures.text, c.subject.ensures, c.version-2.ensures) at (c.put_own.ensures.put clean))
+    on_ok c.put_version_evidence.result (λ given was s fits. spells_row old mid (state g.S.Store c.put_version_evidence.new.tx.conn.now) c.args.row.now c.args.own.now placed was s fits within given)
+    (rw (c.as_str-subject.ensures.text, c.subject.ensures, c.version-2.ensures) at (c.put_version_evidence.ensures.put clean))
 
 pub returns-clause-fault : goal.returns-clause-fault
 returns-clause-fault g c clean =
     let old = state g.S.Store c.args.tx.now.conn.now in
     let mid = state g.S.Store c.put_version.new.tx.conn.now in
-    let new = state g.S.Store c.put_own.new.tx.conn.now in
-    let early : HasCleanDisk mid = omega (arith, c.put_own.ensures.frame.keeps.survives.clean) in
+    let new = state g.S.Store c.put_version_evidence.new.tx.conn.now in
+    let early : HasCleanDisk mid = omega (arith, c.put_version_evidence.ensures.frame.keeps.survives.clean) in
     let first = c.in_ok-put_version.ensures in
     let placed = rw (c.as_str-subject.ensures.text, c.subject.ensures, c.version.ensures, c.id.ensures, c.deleted.ensures) at (first.put early) in
-    if_err c.put_own.result (λ e fails was over fits.
-    insert_fault_later old mid new first.frame.keeps.survives early c.put_own.ensures.frame.keeps.survives.counts (first.frame.inside early) e
+    if_err c.put_version_evidence.result (λ e fails was over fits.
+    insert_fault_later old mid new first.frame.keeps.survives early c.put_version_evidence.ensures.frame.keeps.survives.counts (first.frame.inside early) e
     (row_fails old mid new c.args.row.now c.args.own.now placed was (over (first.frame.was_open early)) fits e fails))
-    (rw (c.as_str-subject.ensures.text, c.subject.ensures, c.version-2.ensures) at (c.put_own.ensures.fault clean))
+    (rw (c.as_str-subject.ensures.text, c.subject.ensures, c.version-2.ensures) at (c.put_version_evidence.ensures.fault clean))

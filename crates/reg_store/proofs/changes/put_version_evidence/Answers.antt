@@ -7,7 +7,7 @@ use Rattle.reg_tables.specs.Changes.{with_evidence}
 use Rattle.reg_tables.proofs.Transactions.{on_ok, if_err}
 use Rattle.reg_tables.proofs.WriteFaults.{erred_with, insert_fault_later}
 use Rattle.reg_store.specs.Inside.Applying.{PutsOwn, IsFaultOfOwn}
-use Rattle.reg_store.proofs.changes.put_own.Goals as goal
+use Rattle.reg_store.proofs.changes.put_version_evidence.Goals as goal
 
 pub returns-in_err-put_evidence-clause-fault : goal.returns-in_err-put_evidence-clause-fault
 returns-in_err-put_evidence-clause-fault g c clean =
