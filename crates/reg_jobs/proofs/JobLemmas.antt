@@ -21,7 +21,7 @@ use Rattle.reg_jobs.specs.declared.listings.ListOutcome.{ListOutcome}
 use Rattle.reg_jobs.specs.declared.listings.ListOutcome.TheVariants.{Whole, Unread, NotWritten, OutOfMemory}
 use Rattle.reg_jobs.specs.declared.auditing.AuditOutcome.{AuditOutcome}
 use Rattle.reg_jobs.specs.Auditing.{AuditsAs}
-use Rattle.reg_jobs.specs.Listings.{IfUnread, ListsAs, table_of}
+use Rattle.reg_jobs.specs.Listings.{IfUnread, ListsAs, listing_of}
 use Rattle.reg_jobs.specs.Databases.{ServesStore}
 use Rattle.reg_jobs.specs.Jobs.{AuditsOver, SessionStartsFrom, HasRegistry, ListsOver, OverDatabase, SessionOver}
 
@@ -82,7 +82,7 @@ OverDatabase-map g (Database old) P Q follows over = follows (state g old) over
 
 -- a listing of the registry of a database
 pub ListsOver-found : (old begun new : State) (kind : ListingKind) (writer writer' : Option (List ℕ)) (listed : ListOutcome)
-    → OpensOver old begun → ((was : Stored) → SpellsWhileOpen begun was → ListsAs (table_of kind) was.registry writer writer' listed)
+    → OpensOver old begun → ((was : Stored) → SpellsWhileOpen begun was → ListsAs (listing_of kind) was.registry writer writer' listed)
     → IfUnread listed (IsFaultOver begun new)
     → StillSpells begun new → ListsOver old kind writer writer' listed new
 ListsOver-found old begun new kind writer writer' listed has lists fault same = record {

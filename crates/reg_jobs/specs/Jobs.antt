@@ -33,7 +33,7 @@ use Rattle.reg_jobs.specs.Auditing.{AuditsAs}
 use Rattle.reg_jobs.specs.declared.auditing.AuditOutcome.{AuditOutcome}
 use Rattle.reg_jobs.specs.Databases.{ReturnsConnection, IsCreatedIn, CreatesNone, OpensNone}
 use Rattle.reg_jobs.specs.Files.{PrintsAs, ChecksAs}
-use Rattle.reg_jobs.specs.Listings.{IfUnread, ListsAs, table_of}
+use Rattle.reg_jobs.specs.Listings.{IfUnread, ListsAs, listing_of}
 use Rattle.reg_jobs.specs.Migration.{MigratesAs}
 use Rattle.reg_jobs.specs.declared.listings.ListOutcome.{ListOutcome}
 use Rattle.reg_jobs.specs.Outcomes.{result_of, status_of, PrintsFault}
@@ -186,7 +186,7 @@ FindsNone g (Database old) back error = LacksRegistry g (Database old) back erro
 pub record ListsOver (old : State) (kind : ListingKind) (writer writer' : Option (List ℕ)) (listed : ListOutcome) (new : State) : Type 0 where
   pub was : Stored
   pub begins : SpellsUnopened old.now was
-  pub lists : ListsAs (table_of kind) was.registry writer writer' listed
+  pub lists : ListsAs (listing_of kind) was.registry writer writer' listed
   pub fault : IfUnread listed (λ error. IsTrue (is_fault error))
   pub spells : SpellsWhileOpen new was
 

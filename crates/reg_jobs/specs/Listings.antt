@@ -15,10 +15,10 @@ use Rattle.reg_jobs.specs.declared.listings.ListOutcome.{ListOutcome}
 use Rattle.reg_jobs.specs.declared.listings.ListOutcome.TheVariants.{Whole, Unread, NotWritten, OutOfMemory}
 
 -- the listing that an argument names
-abbrev pub table_of : Word → Listing
-table_of WordSubjects = Subjects
-table_of WordVersions = Versions
-table_of WordSchemas = Schemas
+abbrev pub listing_of : Word → Listing
+listing_of WordSubjects = Subjects
+listing_of WordVersions = Versions
+listing_of WordSchemas = Schemas
 
 -- the outcome of a listing, by the result of printing it
 abbrev pub listed_as : Result (Unit {0}) ReportError → ListOutcome

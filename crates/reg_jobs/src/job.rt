@@ -11,7 +11,7 @@ use crate::database::{create_in, open_in, run_on_store};
 use crate::errors::Errors;
 use crate::files::{check, print_text};
 use crate::line::report_result;
-use crate::listings::{list_store, table_of};
+use crate::listings::{list_store, listing_of};
 use crate::migration::migrate_in;
 use crate::outcome::{Outcome, result_of};
 use reg_cli::{Job, ListingKind};
@@ -208,7 +208,7 @@ fn list_on<S: Alter + Drop, W: Write>(
 {
     match open_existing_store(alloc, opened) {
         Ok(store) => {
-            let (listed, connection) = list_store(alloc, store, table_of(kind), writer);
+            let (listed, connection) = list_store(alloc, store, listing_of(kind), writer);
             (Outcome::List(listed), Some(connection))
         }
         Err((error, connection)) => (Outcome::Unopened(error), connection),

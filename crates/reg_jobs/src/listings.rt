@@ -8,7 +8,7 @@ ghost use Rattle.reg_core.specs.Stored.{Stored};
 ghost use Rattle.reg_store.specs.Spells.{SpellsWhileOpen};
 ghost use Rattle.reg_store.specs.Failures.{IsFaultOver};
 ghost use Rattle.reg_store.specs.Stores.{has_failed, state_of, StillSpells};
-ghost use Rattle.reg_jobs.specs.Listings.{IfUnread, ListsAs, listed_as, table_of};
+ghost use Rattle.reg_jobs.specs.Listings.{IfUnread, ListsAs, listed_as, listing_of};
 
 use reg_report::{ReportError, list_in_pieces};
 use reg_store::{Listing, Store, StoreError};
@@ -30,8 +30,8 @@ pub enum ListOutcome {
 }
 
 /// The listing of the store that an argument names.
-pub fn table_of(kind: reg_cli::ListingKind) -> Listing
-    ensures { result ≡ table_of kind }
+pub fn listing_of(kind: reg_cli::ListingKind) -> Listing
+    ensures { result ≡ listing_of kind }
 {
     match kind {
         reg_cli::ListingKind::Subjects => Listing::Subjects,

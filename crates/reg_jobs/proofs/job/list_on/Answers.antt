@@ -10,7 +10,7 @@ returns-in-Ok g c =
       given = refl;
       holds = λ clean. ListsOver-found old _ _ c.args.kind _ _ c.list_store-listed.result.0
           (opens (c.list_store-listed.ensures.clean clean))
-          (rw c.table_of.ensures at c.list_store-listed.ensures.lists clean) (c.list_store-listed.ensures.fault clean c.in-Ok.ensures.unfailed)
+          (rw c.listing_of.ensures at c.list_store-listed.ensures.lists clean) (c.list_store-listed.ensures.fault clean c.in-Ok.ensures.unfailed)
           (c.list_store-listed.ensures.same clean);
     })
     c.in-Ok.ensures.over
