@@ -14,8 +14,8 @@ const LINGER: u64 = 1;
 /// The same time, as a number of reads that time out.
 const SILENCE: u64 = LINGER * 1000 / SOCKET_TIMEOUT_MILLIS;
 
-/// The number of bytes that are dropped at once.
-const ROOM: usize = 16_384;
+/// The maximum number of bytes that are dropped at once.
+const MAX_DROP_BYTES: usize = 16_384;
 
 /// Whether unread bytes have arrived. It doesn't block.
 pub fn has_bytes(stream: &TcpStream) -> bool {
@@ -34,7 +34,7 @@ pub fn has_bytes(stream: &TcpStream) -> bool {
 /// Reads and drops bytes until the input ends, or for a second.
 fn drop_rest<C: Clock>(clock: &C, mut stream: &TcpStream) {
     let begun = time(clock);
-    let mut dropped = [0u8; ROOM];
+    let mut dropped = [0u8; MAX_DROP_BYTES];
     let mut silent = 0;
     for _ in 0..u64::MAX {
         if silent >= SILENCE || has_passed(clock, begun, LINGER) {

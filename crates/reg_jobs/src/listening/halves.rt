@@ -6,7 +6,7 @@ ghost use Rattle.std.specs.Io.{ReadsAtMost, WritesAtMost};
 use super::ending::has_bytes;
 use super::pending::{Pending, Progress};
 use super::queue::Queue;
-use super::timing::{PATIENCE, Timing};
+use super::timing::{MAX_TIMEOUTS, Timing};
 use std::io::{self, ErrorKind, Read, Write};
 use std::net::TcpStream;
 use std::time::Clock;
@@ -100,7 +100,7 @@ impl<'a, 'b, C: Clock> Incoming<'a, 'b, C> {
 
 impl<'a, 'b, C: Clock> Read for Incoming<'a, 'b, C> {
     fn read(&mut self, buf: &mut [u8]) -> io::Result<usize> {
-        for slices in 0..PATIENCE {
+        for slices in 0..MAX_TIMEOUTS {
             if self.is_over(slices > 0) {
                 break;
             }
@@ -142,7 +142,7 @@ impl<'a, C: Clock> Outgoing<'a, C> {
 impl<'a, C: Clock> Write for Outgoing<'a, C> {
     fn write(&mut self, buf: &[u8]) -> io::Result<usize> {
         self.timing.begin_response();
-        for _ in 0..PATIENCE {
+        for _ in 0..MAX_TIMEOUTS {
             if self.timing.is_late() {
                 break;
             }

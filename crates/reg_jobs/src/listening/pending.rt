@@ -13,7 +13,7 @@ use std::io::{self, Read};
 use std::marker::Model;
 
 /// The maximum number of bytes that are read at once.
-const ROOM: usize = 16_384;
+const MAX_READ_BYTES: usize = 16_384;
 
 /// The maximum length of an empty line: CR LF, or LF alone.
 const EMPTY_LINE: usize = 2;
@@ -77,7 +77,7 @@ fn next_part(bytes: &[u8], progress: Progress) -> (usize, Progress)
 /// Bytes that were read and not yet passed on. Contracts see these bytes.
 #[derive(Drop)]
 pub struct Pending {
-    bytes: [u8; ROOM],
+    bytes: [u8; MAX_READ_BYTES],
     first: usize,
     last: usize,
 }
@@ -101,7 +101,7 @@ impl Pending {
         ensures { result ≡ [] }
     {
         Pending {
-            bytes: [0; ROOM],
+            bytes: [0; MAX_READ_BYTES],
             first: 0,
             last: 0,
         }

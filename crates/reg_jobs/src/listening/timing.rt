@@ -9,9 +9,9 @@ use std::time::{Clock, Duration, Instant};
 /// connection to end.
 pub const SOCKET_TIMEOUT_MILLIS: u64 = 250;
 
-/// The number of reads or writes in a row that may time out before a connection ends. That is ten
+/// The number of reads or writes that time out in a row before a connection ends. That is ten
 /// seconds, a long time for a client on the same machine. Clients on other machines can't connect.
-pub const PATIENCE: u32 = 40;
+pub const MAX_TIMEOUTS: u32 = 40;
 
 /// The seconds after which a connection has had its turn, and yields to another one that waits. It
 /// serves some thousand requests in that time.
