@@ -1,7 +1,7 @@
 //! The database of a registry in a file: which files are opened as one, and how the program closes it.
 
 ghost use Rattle.std.specs.Prelude.{IfOk};
-ghost use Rattle.reg_jobs.specs.Opening.{OpensToList, OpensToRun};
+ghost use Rattle.reg_jobs.specs.Opening.{OpensExisting, OpensOrCreates};
 
 use crate::log::{has_first_log, has_frames, has_log, is_unfinished, remove_log};
 use avro_nodes::OutOfMemory;
@@ -109,7 +109,7 @@ fn has_no_registry(
 
 /// The result for a database that can't be opened.
 fn failed(error: Error) -> Result<Opened<FileDatabase>, OutOfMemory>
-    ensures { IfOk result OpensToRun }
+    ensures { IfOk result OpensOrCreates }
 {
     match error {
         Error::SqliteFailure(ErrorCode::OutOfMemory) => Err(OutOfMemory),
@@ -119,8 +119,8 @@ fn failed(error: Error) -> Result<Opened<FileDatabase>, OutOfMemory>
 
 /// The result for a file that can't be examined.
 fn unexamined(error: io::Error) -> Result<Opened<FileDatabase>, OutOfMemory>
-    ensures run { IfOk result OpensToRun }
-    ensures list { IfOk result OpensToList }
+    ensures create { IfOk result OpensOrCreates }
+    ensures existing { IfOk result OpensExisting }
 {
     match error.kind() {
         io::ErrorKind::OutOfMemory => Err(OutOfMemory),
@@ -130,12 +130,12 @@ fn unexamined(error: io::Error) -> Result<Opened<FileDatabase>, OutOfMemory>
 
 /// Opens the database in a file. If the file is missing, empty or unfinished, it creates the
 /// database.
-fn open_or_create(
+fn connect(
     rt: &HostRuntime,
     file: &str,
     was_unfinished: bool,
 ) -> Result<Opened<FileDatabase>, OutOfMemory>
-    ensures { IfOk result OpensToRun }
+    ensures { IfOk result OpensOrCreates }
 {
     let mut connection = match Connection::open_from(rt, file, false, Wary) {
         Ok(connection) => connection,
@@ -155,17 +155,15 @@ fn open_or_create(
 /// # Errors
 ///
 /// `OutOfMemory` if an allocation fails. Every other failure is `Opened::Failed`.
-pub fn open_database_to_run(
+pub fn open_or_create_database(
     rt: &HostRuntime,
     file: &str,
 ) -> Result<Opened<FileDatabase>, OutOfMemory>
-    ensures { IfOk result OpensToRun }
+    ensures { IfOk result OpensOrCreates }
 {
     match state_of_file(rt, file) {
-        Ok(FileState::Missing | FileState::Empty | FileState::Database) => open_or_create(
-            rt, file, false,
-        ),
-        Ok(FileState::Unfinished) => open_or_create(rt, file, true),
+        Ok(FileState::Missing | FileState::Empty | FileState::Database) => connect(rt, file, false),
+        Ok(FileState::Unfinished) => connect(rt, file, true),
         Ok(FileState::OrphanedLog) => Ok(Opened::OrphanedLog),
         Ok(FileState::Other) => Ok(Opened::Failed),
         Err(error) => unexamined(error),
@@ -173,10 +171,10 @@ pub fn open_database_to_run(
 }
 
 /// Opens an existing database for a job that creates no registry.
-fn open_to_list(rt: &HostRuntime, file: &str) -> Result<Opened<FileDatabase>, OutOfMemory>
-    ensures { IfOk result OpensToList }
+fn connect_existing(rt: &HostRuntime, file: &str) -> Result<Opened<FileDatabase>, OutOfMemory>
+    ensures { IfOk result OpensExisting }
 {
-    match open_or_create(rt, file, false)? {
+    match connect(rt, file, false)? {
         Opened::Fresh(connection) => Ok(Opened::Database(connection)),
         opened => Ok(opened),
     }
@@ -188,14 +186,14 @@ fn open_to_list(rt: &HostRuntime, file: &str) -> Result<Opened<FileDatabase>, Ou
 /// # Errors
 ///
 /// `OutOfMemory` if an allocation fails. Every other failure is `Opened::Failed`.
-pub fn open_database_to_list(
+pub fn open_existing_database(
     rt: &HostRuntime,
     file: &str,
 ) -> Result<Opened<FileDatabase>, OutOfMemory>
-    ensures { IfOk result OpensToList }
+    ensures { IfOk result OpensExisting }
 {
     match state_of_file(rt, file) {
-        Ok(FileState::Database) => open_to_list(rt, file),
+        Ok(FileState::Database) => connect_existing(rt, file),
         Ok(FileState::Empty | FileState::Unfinished) => Ok(Opened::Empty),
         Ok(FileState::OrphanedLog) => Ok(Opened::OrphanedLog),
         Ok(FileState::Missing | FileState::Other) => Ok(Opened::Failed),

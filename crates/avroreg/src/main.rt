@@ -106,7 +106,7 @@ fn do_task<S: Alter + Drop, O: Opener<S>>(
             ))
         }
         Task::Server(server) => {
-            let opened = opener.open_to_run(server.database.as_str())?;
+            let opened = opener.open_or_create(server.database.as_str())?;
             Ok(serve(rt, server, opened, &mut errors))
         }
     }

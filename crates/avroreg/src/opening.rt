@@ -1,6 +1,6 @@
 //! Opens the files that jobs name.
 
-use crate::database::{FileDatabase, open_database_to_list, open_database_to_run};
+use crate::database::{FileDatabase, open_existing_database, open_or_create_database};
 use avro_nodes::{MAX_TEXT, OutOfMemory};
 use reg_jobs::{Opened, Opener};
 use std::io::Read;
@@ -17,12 +17,12 @@ pub struct HostFiles<'a> {
 }
 
 impl Opener<FileDatabase> for HostFiles<'_> {
-    fn open_to_run(&self, file: &str) -> Result<Opened<FileDatabase>, OutOfMemory> {
-        open_database_to_run(self.rt, file)
+    fn open_or_create(&self, file: &str) -> Result<Opened<FileDatabase>, OutOfMemory> {
+        open_or_create_database(self.rt, file)
     }
 
-    fn open_to_list(&self, file: &str) -> Result<Opened<FileDatabase>, OutOfMemory> {
-        open_database_to_list(self.rt, file)
+    fn open_existing(&self, file: &str) -> Result<Opened<FileDatabase>, OutOfMemory> {
+        open_existing_database(self.rt, file)
     }
 
     /// The bytes of a file, or `None` if it can't be read. A file that is too long is cut after the

@@ -6,25 +6,25 @@ use Rattle.reg_jobs.specs.declared.job.Opened.{Opened}
 use Rattle.reg_jobs.specs.declared.job.Opened.TheVariants.{Nothing, Texts, Failed, Empty, OrphanedLog, Fresh, Database}
 
 -- a database for a job that may create its registry. It is opened, empty or not, or only its log is left, or it can't be opened
-abbrev pub OpensToRun : {S : Type 0} → Opened S → Type 0
-OpensToRun Nothing = ⊥
-OpensToRun (Texts texts) = ⊥
-OpensToRun Failed = ⊤
-OpensToRun Empty = ⊥
-OpensToRun OrphanedLog = ⊤
-OpensToRun (Fresh connection) = ⊤
-OpensToRun (Database connection) = ⊤
+abbrev pub OpensOrCreates : {S : Type 0} → Opened S → Type 0
+OpensOrCreates Nothing = ⊥
+OpensOrCreates (Texts texts) = ⊥
+OpensOrCreates Failed = ⊤
+OpensOrCreates Empty = ⊥
+OpensOrCreates OrphanedLog = ⊤
+OpensOrCreates (Fresh connection) = ⊤
+OpensOrCreates (Database connection) = ⊤
 
 -- a database for a job that creates no registry. It is opened, or its file has no contents yet, or only its log is left, or it can't be
 -- opened
-abbrev pub OpensToList : {S : Type 0} → Opened S → Type 0
-OpensToList Nothing = ⊥
-OpensToList (Texts texts) = ⊥
-OpensToList Failed = ⊤
-OpensToList Empty = ⊤
-OpensToList OrphanedLog = ⊤
-OpensToList (Fresh connection) = ⊥
-OpensToList (Database connection) = ⊤
+abbrev pub OpensExisting : {S : Type 0} → Opened S → Type 0
+OpensExisting Nothing = ⊥
+OpensExisting (Texts texts) = ⊥
+OpensExisting Failed = ⊤
+OpensExisting Empty = ⊤
+OpensExisting OrphanedLog = ⊤
+OpensExisting (Fresh connection) = ⊥
+OpensExisting (Database connection) = ⊤
 
 -- this number of schema files, readable or not
 abbrev pub OpensTexts : {S : Type 0} → ℕ → Opened S → Type 0
@@ -39,9 +39,9 @@ OpensTexts count (Database connection) = ⊥
 -- what is opened for a job, by its kind
 abbrev pub OpensFor : {S : Type 0} → Job → Opened S → Type 0
 OpensFor (Run None) opened = opened ≡ Nothing
-OpensFor (Run (Some file)) opened = OpensToRun opened
+OpensFor (Run (Some file)) opened = OpensOrCreates opened
 OpensFor (TextJob file) opened = OpensTexts 1 opened
 OpensFor (CheckJob reader writer) opened = OpensTexts 2 opened
-OpensFor (ListJob database kind) opened = OpensToList opened
-OpensFor (Migrate database) opened = OpensToList opened
-OpensFor (Audit database) opened = OpensToList opened
+OpensFor (ListJob database kind) opened = OpensExisting opened
+OpensFor (Migrate database) opened = OpensExisting opened
+OpensFor (Audit database) opened = OpensExisting opened

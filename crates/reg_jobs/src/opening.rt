@@ -1,7 +1,7 @@
 //! Opens what a job names.
 
 ghost use Rattle.std.specs.Prelude.{IfOk};
-ghost use Rattle.reg_jobs.specs.Opening.{OpensFor, OpensToList, OpensToRun};
+ghost use Rattle.reg_jobs.specs.Opening.{OpensFor, OpensExisting, OpensOrCreates};
 
 use crate::job::Opened;
 use avro_nodes::OutOfMemory;
@@ -12,23 +12,23 @@ use std::alloc::Global;
 /// Opens the files that a job names.
 pub trait Opener<S: Alter> {
     ghost use Rattle.std.specs.Prelude.{IfOk};
-    ghost use Rattle.reg_jobs.specs.Opening.{OpensToList, OpensToRun};
+    ghost use Rattle.reg_jobs.specs.Opening.{OpensExisting, OpensOrCreates};
 
     /// Opens the database in a file, and creates it if it is missing or empty.
     ///
     /// # Errors
     ///
     /// `OutOfMemory` if an allocation fails. Every other failure is `Opened::Failed`.
-    fn open_to_run(&self, file: &str) -> Result<Opened<S>, OutOfMemory>
-        ensures { IfOk result OpensToRun };
+    fn open_or_create(&self, file: &str) -> Result<Opened<S>, OutOfMemory>
+        ensures { IfOk result OpensOrCreates };
 
     /// Opens the database in a file for a job that creates no registry. It creates no file.
     ///
     /// # Errors
     ///
     /// `OutOfMemory` if an allocation fails. Every other failure is `Opened::Failed`.
-    fn open_to_list(&self, file: &str) -> Result<Opened<S>, OutOfMemory>
-        ensures { IfOk result OpensToList };
+    fn open_existing(&self, file: &str) -> Result<Opened<S>, OutOfMemory>
+        ensures { IfOk result OpensExisting };
 
     /// The bytes of a file, or `None` if it can't be read.
     ///
@@ -54,9 +54,9 @@ pub fn open_for<S: Alter, O: Opener<S>>(
         Job::Run { database: None } => Ok(Opened::Nothing),
         Job::Run {
             database: Some(file),
-        } => opener.open_to_run(file.as_str()),
+        } => opener.open_or_create(file.as_str()),
         Job::List { database, .. } | Job::Migrate { database } | Job::Audit { database } => {
-            opener.open_to_list(database.as_str())
+            opener.open_existing(database.as_str())
         }
         Job::Text { file } => {
             let mut texts = Vec::new(alloc);
