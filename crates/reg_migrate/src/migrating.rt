@@ -75,6 +75,7 @@ pub fn migrate<S: Alter>(
     ensures reason { HasCleanDisk (state S.Store result.1)
         → IfErr result.0 (IsReasonOver (state S.Store connection) (state S.Store result.1)) }
     ensures idle { result.1.in_transaction ≡ false }
+    ensures unlimited { result.1.step_limit ≡ None }
     ensures leaves { KeepsConnection (state S.Store connection) (state S.Store result.1) result.0 }
 
     // After `Ok`, a crash leaves layout 2. After an error it leaves layout 2 or what it could leave

@@ -147,6 +147,11 @@ pub passed : {X : Type 0} (P : StoreError → Type 0) (r : Result X StoreError) 
 passed P (Ok x) first is h = tt
 passed P (Err e) first is h = subst P (sym is) h
 
+-- the same, and the result is an error
+pub failure_passed : {X : Type 0} (P : StoreError → Type 0) (r : Result X StoreError) (first : StoreError) → IsErrAnd r (λ e. e ≡ first) → P first → IsErrAnd r P
+failure_passed P (Ok x) first is h = is
+failure_passed P (Err e) first is h = subst P (sym is) h
+
 pub if_err_each : {X E : Type 0} {P : E → Type 0} (r : Result X E) → ((e : E) → P e) → IfErr r P
 if_err_each (Ok x) f = tt
 if_err_each (Err e) f = f e

@@ -1,6 +1,6 @@
 -- The layout that the rows of `meta` name.
-use Rattle.std.proofs.Common.{◌≡◌, ◌<◌, inl, inr, ℕ, List, map, Bool, true, false, Option, Some, None, Ok, Err, Result, IsTrue, codes, refl, sym, ap, subst, ◌∙◌, arith}
-use Rattle.std.specs.Prelude.{IfErr, IsErrAnd, ◌&&◌, nat_lt, option_and_then, if◌then◌else◌}
+use Rattle.std.proofs.Common.{◌≡◌, ◌<◌, ◌⊎◌, inl, inr, ℕ, List, [], map, Bool, true, false, Option, Some, None, Ok, Err, Result, IsTrue, codes, refl, sym, ap, subst, ◌∙◌, arith}
+use Rattle.std.specs.Prelude.{IfOk, IfErr, IsErrAnd, ◌&&◌, nat_lt, option_and_then, if◌then◌else◌}
 use Rattle.std.specs.FinMap.{get, get-from_entries}
 use Rattle.std.proofs.lemmas.Bool.{and_parts, both_ways}
 use Rattle.std.proofs.lemmas.Bool.Decides.{nat_tests}
@@ -8,6 +8,7 @@ use Rattle.std.specs.List.Sorted.{IsPermutation}
 use Rattle.std.proofs.lemmas.List.Sorted.{IsPermutation-refl}
 use Rattle.sqlite.specs.Order.{Row}
 use Rattle.sqlite.specs.Effect.{Database}
+use Rattle.sqlite.specs.Schema.{Schema}
 use Rattle.sqlite.specs.Held.{Held, state}
 use Rattle.sqlite.specs.State.{State, HasCleanDisk}
 use Rattle.sqlite.specs.declared.error.Error.{Error}
@@ -30,13 +31,13 @@ use Rattle.reg_store.specs.declared.error.StoreError.{StoreError}
 use Rattle.reg_store.specs.declared.error.StoreError.TheVariants.{Memory, Disk, NotARegistry, OldLayout, NewerLayout}
 use Rattle.reg_store.specs.declared.layout.Layout.{Layout}
 use Rattle.reg_store.specs.declared.layout.Layout.TheVariants.{One, Two}
-use Rattle.reg_store.specs.Failures.{failure_of, HasDiskCause}
+use Rattle.reg_store.specs.Failures.{failure_of, IsFaultBy, HasDiskCause}
 use Rattle.reg_store.specs.Opening.{HasMetaRow, RowsNameLayout, NamesLayout, ShowsLayout, HasOtherLayout, layout_error, HasMetaNumberOf, ReportsOther}
 use Rattle.reg_store.specs.Inside.TableChecks.{AreDistinct, pairs_of, number_of, is_meta_of, PassesMeta, Allows, JudgesMeta, MetaPass, SpellsAs, Checks}
 use Rattle.reg_store.proofs.Bases.{some_of_one, some_unopened}
 use Rattle.reg_store.proofs.MetaRows.{value_is, layout_is, meta_found, meta_fit, layout_two_meta_fit}
 use Rattle.reg_store.proofs.LayoutNumbers.{above_zero}
-use Rattle.reg_store.proofs.Failing.{fault_if_by, fault_by, passed}
+use Rattle.reg_store.proofs.Failing.{fault_if_by, fault_by, disk_cause_if_by, number_if_plain, plain_if_by, passed}
 use Rattle.reg_store.proofs.Maps.{same_bytes}
 use Rattle.reg_store.proofs.CheckLemmas.{framed, some_known, some_can_be_read}
 
@@ -109,11 +110,11 @@ module _ (lines : List RawMeta) (db : Database) (lists : ListsMeta db lines) whe
         ∙ ap (λ b. if b then option_and_then number_in (value_at (codes "layout") (pairs_of lines)) else None) (same_bytes (codes "avroreg"))
         ∙ ap (option_and_then number_in) (found (codes "layout") n.text n.layout) ∙ n.is
 
-shows_layout : (lines : List RawMeta) (db : Database) → ReadsMeta db lines → (number : ℕ) → layout_in (pairs_of lines) ≡ Some number → ShowsLayout db number
-shows_layout lines db reads number is =
+shows_layout : (lines : List RawMeta) (db : Database) → db.schema.views ≡ [] → ReadsMeta db lines → (number : ℕ) → layout_in (pairs_of lines) ≡ Some number → ShowsLayout db number
+shows_layout lines db none reads number is =
     let entries = map (entry_parts pair_form) (map meta_entry lines) in
     let lists : Lists pair_form reads.rows (map meta_entry lines) = subst (λ (parts : List RowParts). IsPermutation parts entries) (sym reads.read) (IsPermutation-refl entries) in
-    record { rows = reads.rows; shows = reads.shows; names = names_if_in lines reads.rows lists number is }
+    record { no_views = none; rows = reads.rows; shows = reads.shows; names = names_if_in lines reads.rows lists number is }
 
 pub judged : (layout : Layout) (lines : List RawMeta) (named : Option ℕ) (passes : Bool) (r : Result (Unit {0}) StoreError) → named ≡ layout_in (pairs_of lines) → (IsTrue passes → PassesMeta layout lines) → (PassesMeta layout lines → IsTrue passes)
     → Allows (number_of layout) named passes r → JudgesMeta layout lines r
@@ -185,13 +186,13 @@ module _ {S : Type 0} (g : Ghosts S) (old new : Held S) (layout : Layout) where
     names_first : HasCleanDisk (state g new) → (number : ℕ) → layout_in (pairs_of lines) ≡ Some number → HasFiveTables db.schema → NamesLayout db number
     names_first clean number is first = names_if_in lines (db.trees meta.tree) (listed clean first) number is
 
-    pub meta_number_of : (HasCleanDisk (state g new) → ReadsMeta db lines) → (r : Result (Unit {0}) StoreError) → JudgesMeta layout lines r → HasCleanDisk (state g new) → IfErr r (HasMetaNumberOf (number_of layout) db)
-    meta_number_of reads (Ok y) j clean = tt
-    meta_number_of reads (Err Memory) j clean = tt
-    meta_number_of reads (Err Disk) j clean = tt
-    meta_number_of reads (Err NotARegistry) j clean = tt
-    meta_number_of reads (Err (OldLayout number)) j clean = (above_zero (pairs_of lines) number j.0, j.1, shows_layout lines db (reads clean) number j.0, names_first clean number j.0)
-    meta_number_of reads (Err (NewerLayout number)) j clean = (j.1, shows_layout lines db (reads clean) number j.0, names_first clean number j.0)
+    pub meta_number_of : db.schema.views ≡ [] → (HasCleanDisk (state g new) → ReadsMeta db lines) → (r : Result (Unit {0}) StoreError) → JudgesMeta layout lines r → HasCleanDisk (state g new) → IfErr r (HasMetaNumberOf (number_of layout) db)
+    meta_number_of none reads (Ok y) j clean = tt
+    meta_number_of none reads (Err Memory) j clean = tt
+    meta_number_of none reads (Err Disk) j clean = tt
+    meta_number_of none reads (Err NotARegistry) j clean = tt
+    meta_number_of none reads (Err (OldLayout number)) j clean = (above_zero (pairs_of lines) number j.0, j.1, shows_layout lines db none (reads clean) number j.0, names_first clean number j.0)
+    meta_number_of none reads (Err (NewerLayout number)) j clean = (j.1, shows_layout lines db none (reads clean) number j.0, names_first clean number j.0)
 
     -- the check itself never returns `Disk`
     pub meta_disk_cause : (r : Result (Unit {0}) StoreError) → JudgesMeta layout lines r → IfErr r (HasDiskCause (state g old) (state g new))
@@ -217,3 +218,37 @@ module _ {S : Type 0} (g : Ghosts S) (old new : Held S) (layout : Layout) where
 
 pub not_other : (layout : Layout) (db : Database) (number : ℕ) → MetaPass layout db → HasOtherLayout (number_of layout) db number → ⊥
 not_other layout db number p out = out.other (same_number number (number_of layout) (sym (in_if_names p.lines db p.lists out.holds number out.names) ∙ names_own layout p.lines p.fit))
+
+each_failure : {X : Type 0} {P Q : StoreError → Type 0} (r : Result X StoreError) → IsErrAnd r P → ((e : StoreError) → P e → Q e) → IfErr r Q
+each_failure (Ok x) failed f = tt
+each_failure (Err e) failed f = f e failed
+
+no_answer : {X : Type 0} (P : StoreError → Type 0) (Q : X → Type 0) (r : Result X StoreError) → IsErrAnd r P → IfOk r Q
+no_answer P Q (Ok x) failed = absurd failed
+no_answer P Q (Err e) failed = tt
+
+-- a database with a view is rejected
+module _ {S : Type 0} (g : Ghosts S) (old new : Held S) (layout : Layout) (viewed : (state g old).now.schema.views ≡ [] → ⊥) (r : Result (Unit {0}) StoreError) (f : ReadsInAutocommit g old new r)
+    (fails : IsErrAnd r (λ e. HasCleanDisk (state g new) → IsFaultBy (state g old) (state g new) e ⊎ ((e ≡ NotARegistry) × IsTrue (state g old).is_open))) where
+  has_not_five : HasFiveTables (state g old).now.schema → ⊥
+  has_not_five first = viewed (ap (λ (schema : Schema). schema.views) first.is)
+
+  pub views_tests : Checks HasFiveTables (SpellsAs layout) g old new r (λ _. MetaPass layout)
+  views_tests = record {
+    frame = f;
+    tells = λ clean. no_answer _ _ r fails;
+    fault = λ clean. each_failure r fails (λ e why over. elim (why clean) [ inl fault ↦ fault | inr rejected ↦ absurd (has_not_five (spelled_has_five layout (state g old).now (over rejected.1))) ]);
+    disk_cause = λ clean. each_failure r fails (λ e why known. elim (why clean) [ inl fault ↦ disk_cause_if_by (state g old) (state g new) e fault | inr rejected ↦ absurd (has_not_five (known rejected.1)) ]);
+  }
+
+  pub views_disk_cause : HasCleanDisk (state g new) → IfErr r (HasDiskCause (state g old) (state g new))
+  views_disk_cause clean = each_failure r fails (λ e why. elim (why clean) [ inl fault ↦ disk_cause_if_by (state g old) (state g new) e fault | inr rejected ↦ subst (HasDiskCause (state g old) (state g new)) (sym rejected.0) tt ])
+
+  pub views_number : HasCleanDisk (state g new) → IfErr r (HasMetaNumberOf (number_of layout) (state g old).now)
+  views_number clean = each_failure r fails (λ e why. elim (why clean) [
+    | inl fault ↦ number_if_plain (number_of layout) (state g old).now e (plain_if_by (state g old) (state g new) e fault)
+    | inr rejected ↦ subst (HasMetaNumberOf (number_of layout) (state g old).now) (sym rejected.0) tt
+  ])
+
+  pub views_other : HasCleanDisk (state g new) → IfErr r (ReportsOther (number_of layout) (state g old))
+  views_other clean = each_failure r fails (λ e why number is_open out. absurd (has_not_five out.holds.first))

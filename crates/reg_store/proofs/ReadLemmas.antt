@@ -37,7 +37,7 @@ passed_on P Q (Err failure) e is h = subst Q (sym is) h
 pub by_memory : (a b : State) (e : StoreError) → e ≡ Memory → IsFaultBy a b e
 by_memory a b e is = subst (IsFaultBy a b) (sym is) tt
 
-none_ok : {X : Type 0} (P : Type 0) (r : Result X StoreError) (e : StoreError) → IsErrAnd r (λ failure. failure ≡ e) → OnOk r P
+pub none_ok : {X : Type 0} (P : Type 0) (r : Result X StoreError) (e : StoreError) → IsErrAnd r (λ failure. failure ≡ e) → OnOk r P
 none_ok P (Ok x) e is = absurd is
 none_ok P (Err failure) e is = tt
 

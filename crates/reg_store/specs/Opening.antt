@@ -1,5 +1,5 @@
 -- The databases that `Store::open` accepts and rejects.
-use Rattle.std.specs.Prelude.{◌≡◌, ◌≢◌, ◌⊎◌, ◌<◌, ℕ, List, Bool, IsTrue, length, nat_lt, codes, Some, if◌then◌else◌}
+use Rattle.std.specs.Prelude.{◌≡◌, ◌≢◌, ◌⊎◌, ◌<◌, ℕ, List, [], Bool, IsTrue, length, nat_lt, codes, Some, if◌then◌else◌}
 use Rattle.sqlite.specs.Order.{Row}
 use Rattle.sqlite.specs.Tree.{Trees}
 use Rattle.sqlite.specs.Effect.{Database}
@@ -56,8 +56,9 @@ pub record RowsNameLayout (rows : List Row) (number : ℕ) : Type 0 where
 abbrev pub NamesLayout : Database → ℕ → Type 0
 NamesLayout db number = RowsNameLayout (db.trees meta.tree) number
 
--- in any database, the rows that SQLite returns for `meta`, a table or a view, name this layout
+-- in any database without a view, the rows that SQLite returns for `meta` name this layout
 pub record ShowsLayout (db : Database) (number : ℕ) : Type 0 where
+  pub no_views : db.schema.views ≡ []
   pub rows : List Row
   pub shows : ShowsMeta db rows
   pub names : RowsNameLayout rows number

@@ -1,8 +1,9 @@
 //! The check of `meta`, which names the format and the layout.
 
-ghost use Rattle.std.specs.Prelude.{◌≡◌, ◌↔◌, map, IfOk, IfErr, IsTrue};
+ghost use Rattle.std.specs.Prelude.{◌≡◌, ◌↔◌, ◌⊎◌, [], map, IfOk, IfErr, IsErrAnd, IsTrue};
 ghost use Rattle.sqlite.specs.State.{HasCleanDisk};
-ghost use Rattle.reg_store.specs.Failures.{HasDiskCause};
+ghost use Rattle.reg_tables.specs.Frames.{ReadsInAutocommit};
+ghost use Rattle.reg_store.specs.Failures.{HasDiskCause, IsFaultBy};
 ghost use Rattle.reg_store.specs.Opening.{meta_columns, HasMetaNumberOf, ReportsOther};
 ghost use Rattle.reg_rows.specs.Spelling.{meta_pair};
 ghost use Rattle.reg_store.specs.Inside.TableChecks.{Allows, AreDistinct, number_of, is_meta_of, JudgesMeta, SpellsAs, ChecksBaseTables, MetaPass};
@@ -11,6 +12,7 @@ ghost use Rattle.reg_store.specs.Inside.Reads.{shown};
 use crate::conn::Conn;
 use crate::error::StoreError;
 use crate::layout::Layout;
+use crate::open_connection::require_open;
 use crate::rowids::are_distinct;
 use crate::table_checks::{CheckedRow, allow, rowids_of};
 use reg_rows::{is_layout_one_meta, is_layout_two_meta, layout_of};
@@ -88,7 +90,26 @@ fn judge_meta(alloc: Global, lines: Vec<RawMeta>, layout: Layout) -> Result<(), 
     allow_layout(number_of(layout), layout_of(&rows), passes)
 }
 
-/// Reads and checks `meta`: first the format, then the layout, then the other rows.
+/// Whether the database has no view.
+fn has_no_views<S: Alter>(db: &Conn<S>) -> bool
+    ensures { IsTrue result ↔ ((shown db.now).now.schema.views ≡ []) }
+{
+    db.idle.conn.schema().views.as_slice().is_empty()
+}
+
+/// Fails: with `NotARegistry` over an open connection, else with a fault.
+fn reject<S: Alter>(db: &mut Conn<S>) -> Result<(), StoreError>
+    ensures frame { ReadsInAutocommit S.Store db.old.idle.conn db.new.idle.conn result }
+    ensures fails { IsErrAnd result (λ e. HasCleanDisk (shown db.new)
+        → IsFaultBy (shown db.old) (shown db.new) e ⊎ ((e ≡ StoreError.NotARegistry) × IsTrue (shown db.old).is_open)) }
+{
+    require_open(db)?;
+    Err(StoreError::NotARegistry)
+}
+
+/// Reads and checks `meta`: first the format, then the layout, then the other rows. If the database
+/// has a view, it is rejected without a read: `meta` may be a view that never ends, and no layout
+/// has views.
 pub(crate) fn check_meta<S: Alter>(
     alloc: Global,
     db: &mut Conn<S>,
@@ -101,6 +122,9 @@ pub(crate) fn check_meta<S: Alter>(
     ensures other { HasCleanDisk (shown db.new)
         → IfErr result (ReportsOther (number_of layout) (shown db.old)) }
 {
+    if !has_no_views(db) {
+        return reject(db);
+    }
     let lines = raw_meta(alloc, &mut db.idle)?;
     judge_meta(alloc, lines, layout)
 }
