@@ -144,7 +144,7 @@ check "a new user has no role" as new 403 '' "$tls/subjects"
 sed -i 's/"~^viewer$"  read;/"~^viewer$" none; "~^new$" read;/' "$settings/avroreg-roles.conf"
 check "nginx reads the new roles" reload
 check "the new user may read" eventually 60 as new 200 '["orders"]' "$tls/subjects"
-check "the role none may not" as viewer 403 '' "$tls/subjects"
+check "the role none may not" eventually 60 as viewer 403 '' "$tls/subjects"
 echo '}' >>"$settings/avroreg-roles.conf"
 check "nginx reads wrong roles" reload
 check "its log has the error" eventually 60 logs_error
