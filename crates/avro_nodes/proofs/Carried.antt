@@ -7,7 +7,7 @@ use Rattle.std.specs.Ordering.{nat_cmp, match_ordering}
 use Rattle.std.specs.Cmp.Lexicographic.{slice_cmp}
 use Rattle.serde_json.specs.Data.{Data, null, string, number, unsigned, object, Items, no_items, item, Members, no_members, member, put}
 use Rattle.serde_json.specs.Data as json
-use Rattle.avro_nodes.specs.declared.node.Kind.{Kind}
+use Rattle.avro_nodes.specs.declared.node.PrimitiveKind.{PrimitiveKind}
 use Rattle.avro_nodes.specs.declared.node.Order.{Order}
 use Rattle.avro_nodes.specs.declared.node.Order.TheVariants.{Ascending, Descending, Ignore}
 use Rattle.avro_nodes.specs.Names.{has_dot, namespace_of}
@@ -109,7 +109,7 @@ module _ (E : Data → Type 0) (F : Members → Type 0) (K : ℕ → Data → Ty
   space_in : (n : ℕ) (enclosing name : List ℕ) (ms : Members) → L n ms → L n (with_namespace enclosing name ms)
   space_in n = all_namespace (K n) (L n) (puts n) (of_text n) (of_texts n)
 
-  primitive_is : (n : ℕ) (kind : Kind) (extra : Members) → F extra → K (n + 1) (primitive_value kind extra)
+  primitive_is : (n : ℕ) (kind : PrimitiveKind) (extra : Members) → F extra → K (n + 1) (primitive_value kind extra)
   primitive_is n kind no_members h = of_text (n + 1) (kind_text kind)
   primitive_is n kind (member k d ms) h = of_object n _ (text_in n (codes "type") (kind_text kind) (member k d ms) (extra_is n (member k d ms) h))
 

@@ -7,7 +7,7 @@ use Rattle.serde_json.specs.Data.{Data, string, object, Items, no_items}
 use Rattle.serde_json.specs.View.{members_view}
 use Rattle.serde_json.specs.Written.{WritesValue, WritesItems}
 use Rattle.serde_json.proofs.Views.{Entry}
-use Rattle.avro_nodes.specs.declared.node.Kind.{Kind}
+use Rattle.avro_nodes.specs.declared.node.PrimitiveKind.{PrimitiveKind}
 use Rattle.avro_nodes.specs.declared.node.Field.{Field}
 use Rattle.avro_nodes.specs.Nodes.{field_view}
 use Rattle.avro_nodes.specs.Identity.{with_text, kind_text, primitive_value, field_value, Counted, ValueAt, then_items, branch_items, field_items}
@@ -17,11 +17,11 @@ use Rattle.avro_nodes.proofs.Written.{items_on}
 pub drop_item : {A : Type 0} (xs : List A) (i : ℕ) (x : A) → i < length xs → drop i xs ≡ get_or xs i x ∷ drop (i + 1) xs
 drop_item xs i x h = rw (add-one, drop-cons xs i x)
 
-pub primitive_alone : (kind : Kind) (es : List Entry) → length es ≡ 0 → string (kind_text kind) ≡ primitive_value kind (members_view es)
+pub primitive_alone : (kind : PrimitiveKind) (es : List Entry) → length es ≡ 0 → string (kind_text kind) ≡ primitive_value kind (members_view es)
 primitive_alone kind [] e = refl
 primitive_alone kind (x ∷ es) e = absurd (omega arith)
 
-pub primitive_with : (kind : Kind) (es : List Entry) → (length es ≡ 0 → ⊥) → object (with_text (codes "type") (kind_text kind) (members_view es)) ≡ primitive_value kind (members_view es)
+pub primitive_with : (kind : PrimitiveKind) (es : List Entry) → (length es ≡ 0 → ⊥) → object (with_text (codes "type") (kind_text kind) (members_view es)) ≡ primitive_value kind (members_view es)
 primitive_with kind [] other = absurd (other refl)
 primitive_with kind (x ∷ es) other = refl
 

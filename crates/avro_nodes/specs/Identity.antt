@@ -5,8 +5,8 @@ use Rattle.std.specs.List.{list_all}
 use Rattle.serde_json.specs.Data.{Data, null, string, number, unsigned, object, Items, no_items, item, Members, no_members, member, put}
 use Rattle.serde_json.specs.Data as json
 use Rattle.serde_json.specs.Written.{compact_text}
-use Rattle.avro_nodes.specs.declared.node.Kind.{Kind}
-use Rattle.avro_nodes.specs.declared.node.Kind.TheVariants.{Null, Boolean, Int, Long, Float, Double, Bytes, Text}
+use Rattle.avro_nodes.specs.declared.node.PrimitiveKind.{PrimitiveKind}
+use Rattle.avro_nodes.specs.declared.node.PrimitiveKind.TheVariants.{Null, Boolean, Int, Long, Float, Double, Bytes, Text}
 use Rattle.avro_nodes.specs.declared.node.Order.{Order}
 use Rattle.avro_nodes.specs.declared.node.Order.TheVariants.{Ascending, Descending, Ignore}
 use Rattle.avro_nodes.specs.Limits.{max_nesting}
@@ -14,7 +14,7 @@ use Rattle.avro_nodes.specs.Names.{has_dot, namespace_of}
 use Rattle.avro_nodes.specs.Nodes.{NamedView, FieldView, NodeView, primitive, array, mapping, union, enumeration, fixed, rec}
 
 -- Avro 1.11 specification, Primitive Types
-abbrev pub kind_text : Kind → List ℕ
+abbrev pub kind_text : PrimitiveKind → List ℕ
 kind_text Null = codes "null"
 kind_text Boolean = codes "boolean"
 kind_text Int = codes "int"
@@ -56,26 +56,31 @@ with_namespace (c ∷ enclosing) name others = if has_dot name then others else 
 -- ---- types (Avro 1.11 specification, Primitive Types, Complex Types)
 
 -- a primitive type without other attributes is only its name
-abbrev pub primitive_value : Kind → Members → Data
+abbrev pub primitive_value : PrimitiveKind → Members → Data
 primitive_value kind no_members = string (kind_text kind)
 primitive_value kind (member k d ms) = object (with_text (codes "type") (kind_text kind) (member k d ms))
 
+-- the identity value of an array, given that of its items
 abbrev pub array_value : Data → Members → Data
 array_value items extra = object (put (codes "items") items (with_text (codes "type") (codes "array") extra))
 
+-- the identity value of a map, given that of its values
 abbrev pub map_value : Data → Members → Data
 map_value values extra = object (with_text (codes "type") (codes "map") (put (codes "values") values extra))
 
+-- the identity value of an enum in the enclosing namespace
 abbrev pub enum_value : List ℕ → NamedView → List (List ℕ) → Option (List ℕ) → Members → Data
 enum_value enclosing named symbols fallback extra =
     object (with_aliases named.aliases (with_default (option_map string fallback) (with_text (codes "name") named.name (with_namespace enclosing named.name
     (put (codes "symbols") (json.array (texts symbols)) (with_text (codes "type") (codes "enum") extra))))))
 
+-- the identity value of a fixed type in the enclosing namespace
 abbrev pub fixed_value : List ℕ → NamedView → ℕ → Members → Data
 fixed_value enclosing named size extra =
     object (with_aliases named.aliases (with_text (codes "name") named.name (with_namespace enclosing named.name
     (put (codes "size") (number (unsigned size)) (with_text (codes "type") (codes "fixed") extra)))))
 
+-- the identity value of a record in the enclosing namespace, given those of its fields
 abbrev pub record_value : List ℕ → NamedView → Items → Members → Data
 record_value enclosing named fields extra =
     object (with_aliases named.aliases (put (codes "fields") (json.array fields) (with_text (codes "name") named.name (with_namespace enclosing named.name

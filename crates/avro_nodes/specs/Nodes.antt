@@ -3,7 +3,7 @@ use Rattle.std.specs.Prelude.{ℕ, List, map, Option, option_map, String, string
 use Rattle.std.specs.declared.alloc.Global.{Global}
 use Rattle.serde_json.specs.Data.{Data, Members}
 use Rattle.serde_json.specs.View.{view, members_view}
-use Rattle.avro_nodes.specs.declared.node.Kind.{Kind}
+use Rattle.avro_nodes.specs.declared.node.PrimitiveKind.{PrimitiveKind}
 use Rattle.avro_nodes.specs.declared.node.Order.{Order}
 use Rattle.avro_nodes.specs.declared.node.Named.{Named}
 use Rattle.avro_nodes.specs.declared.node.Field.{Field}
@@ -27,7 +27,7 @@ pub record FieldView : Type 0 where
 -- A schema is a list of these. A place is an index into the list; the root has place 0. The last `Members` of a node are its
 -- other attributes, such as `doc`; a union has none (Avro 1.11 specification, Schema Declaration, Primitive Types, Complex Types).
 pub data NodeView : Type 0 where
-  primitive : Kind → Members → NodeView
+  primitive : PrimitiveKind → Members → NodeView
   array : ℕ → Members → NodeView
   mapping : ℕ → Members → NodeView
   union : List ℕ → NodeView

@@ -47,8 +47,8 @@ fn node_at(nodes: &[Node], place: usize) -> Option<&Node>
 }
 
 /// Writes the type at a place. If `place` is the next place that isn't written yet, it writes the
-/// type in full, else the type's full name. `written` counts the places so far. At depth 0, or past
-/// the last place, it writes `null`; the nodes of a schema reach neither.
+/// type in full, else the type's full name. `written` is the number of places written so far. It
+/// writes `null` at depth 0 and past the last place; the nodes of a schema reach neither.
 #[cycle(spell)]
 fn write_type(
     out: &mut CompactWriter,

@@ -16,5 +16,5 @@ pub use error::OutOfMemory;
 pub use identity::identity_of;
 pub use limits::{MAX_NESTING, MAX_PLACES, MAX_TEXT};
 pub use names::{has_dot, last_part, namespace_of};
-pub use node::{Extra, Field, Kind, Named, Node, Order};
+pub use node::{Field, Members, Named, Node, Order, PrimitiveKind};
 pub use plain::plain_of;

@@ -5,13 +5,13 @@
 
 use serde_json::{Map, Value};
 
-/// The other attributes of a type or a field, such as `doc` and `logicalType`, by name. The
-/// identity text contains them, and resolution ignores them.
-pub type Extra = Map<String, Value>;
+/// The members of a JSON object. Those of a type or a field that have no meaning in Avro, such as
+/// `doc`, are its `extra` members: the identity text contains them, and resolution ignores them.
+pub type Members = Map<String, Value>;
 
 /// A primitive type (Avro 1.11 specification, Primitive Types).
 #[derive(Clone, Copy, Debug, PartialEq, Eq)]
-pub enum Kind {
+pub enum PrimitiveKind {
     /// `null`
     Null,
     /// `boolean`
@@ -66,7 +66,7 @@ pub struct Field {
     /// its default, if any
     pub value: Option<Value>,
     /// its other attributes
-    pub extra: Extra,
+    pub extra: Members,
 }
 
 /// A node of a schema: a type, with the places of the types that it contains.
@@ -74,18 +74,18 @@ pub struct Field {
 pub enum Node {
     /// a primitive type
     Primitive {
-        kind: Kind,
-        extra: Extra,
+        kind: PrimitiveKind,
+        extra: Members,
     },
     /// an array, with the place of its items
     Array {
         items: u32,
-        extra: Extra,
+        extra: Members,
     },
     /// a map, with the place of its values
     Map {
         values: u32,
-        extra: Extra,
+        extra: Members,
     },
     /// a union, with the places of its branches
     Union {
@@ -96,18 +96,18 @@ pub enum Node {
         named: Named,
         symbols: Vec<String>,
         fallback: Option<String>,
-        extra: Extra,
+        extra: Members,
     },
     /// a fixed, with its size in bytes
     Fixed {
         named: Named,
         size: u32,
-        extra: Extra,
+        extra: Members,
     },
     /// a record, with its fields
     Rec {
         named: Named,
         fields: Vec<Field>,
-        extra: Extra,
+        extra: Members,
     },
 }

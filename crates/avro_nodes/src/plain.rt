@@ -126,8 +126,8 @@ fn are_zeros(text: &str) -> bool
     !text.is_empty() && all_zeros(text.as_bytes())
 }
 
-/// The part of a run before its point, or the whole run without a point. It is `None` if anything
-/// but zeros, or nothing, follows the point.
+/// The part of a run before its point, or the whole run without a point. It is `None` unless the
+/// point is followed by one or more zeros and nothing else.
 fn whole_part(run: &str) -> Option<&str>
     ensures { option_map (λ s. s.now) result
         ≡ (if is_whole run.now then Some (whole_part_of run.now) else None) }
@@ -182,7 +182,7 @@ fn begins_number(run: &str) -> bool
     }
 }
 
-/// The text that replaces a run, or `None` if the run breaks the rule.
+/// The text that replaces a run. It is `None` for a number that isn't whole or is out of range.
 fn respell_run(run: &str) -> Option<&str>
     ensures { option_map (λ s. s.now) result ≡ piece_text (run_of run.now) }
 {
@@ -193,7 +193,7 @@ fn respell_run(run: &str) -> Option<&str>
     }
 }
 
-/// Whether a run obeys the rule and stays as it is.
+/// Whether a run stays as it is.
 fn is_unchanged(run: &str) -> bool
     ensures { IsTrue result → piece_text (run_of run.now) ≡ Some run.now }
 {

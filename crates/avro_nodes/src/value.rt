@@ -7,7 +7,7 @@ ghost use Rattle.serde_json.specs.Written.{WritesValue};
 ghost use Rattle.avro_nodes.specs.Inside.Objects.{EndsObject, WritesMember, AreOrdered};
 
 use crate::compact::CompactWriter;
-use crate::node::Extra;
+use crate::node::Members;
 use serde_json::Value;
 use std::alloc::AllocError;
 use std::collections::btree_map::Iter;
@@ -16,7 +16,7 @@ use std::collections::btree_map::Iter;
 pub(crate) type Others<'a> = Iter<'a, String, Value>;
 
 /// All members of an object, in byte order of their names.
-pub(crate) fn others_of(members: &Extra) -> Others<'_>
+pub(crate) fn others_of(members: &Members) -> Others<'_>
     ensures all { result ≡ members.now.entries }
     ensures ordered { AreOrdered (members_view members.now.entries) }
 {
@@ -50,7 +50,7 @@ fn write_array(out: &mut CompactWriter, items: &Vec<Value>) -> Result<(), AllocE
 }
 
 #[cycle(write)]
-fn write_object(out: &mut CompactWriter, members: &Extra) -> Result<(), AllocError>
+fn write_object(out: &mut CompactWriter, members: &Members) -> Result<(), AllocError>
     ensures { OnOk result (WritesValue (object (members_view members.now.entries)) out.old out.new) }
 {
     out.begin_object()?;

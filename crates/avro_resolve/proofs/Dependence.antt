@@ -15,15 +15,15 @@ use Rattle.avro_resolve.specs.declared.links.Links.{Links}
 use Rattle.avro_resolve.specs.declared.links.Link.{Link}
 use Rattle.avro_resolve.specs.declared.links.LinkKind.{LinkKind}
 use Rattle.avro_resolve.specs.declared.links.LinkKind.TheVariants.{ByElement, ByName, ByAlias}
-use Rattle.avro_resolve.specs.declared.sides.Sides.{Sides}
+use Rattle.avro_resolve.specs.declared.schemas.SchemaPair.{SchemaPair}
 use Rattle.avro_resolve.specs.Asking.{source_place}
 use Rattle.avro_resolve.specs.Resolution.{Pairs, Readable, first_named, source, Fits, Supports}
 use Rattle.avro_resolve.specs.Inside.Agreeing.{fields_of}
 use Rattle.avro_resolve.specs.Inside.Referrers.{element_place, AreReferrers, GivenBy, CanMatchLinks, HasBranch, IsOfNode, MayDepend}
 use Rattle.avro_resolve.specs.Inside.Remaining.{DependsOn}
 use Rattle.avro_resolve.specs.Inside.Lists.{IsListedAt}
-use Rattle.avro_resolve.specs.Inside.Sides.{columns, names_of, rows, IsSides}
-use Rattle.avro_resolve.specs.Inside.Sources.{source_code, code_at, field_at}
+use Rattle.avro_resolve.specs.Inside.Schemas.{columns, names_of, rows, IsSchemaPair}
+use Rattle.avro_resolve.specs.Inside.Sources.{source_entry, entry_at, field_at}
 use Rattle.avro_resolve.proofs.LinkLemmas.{zip_got}
 use Rattle.avro_resolve.proofs.RankMaps.{ranks_decide_names}
 use Rattle.avro_resolve.proofs.SupportLemmas.{no_source, read_from}
@@ -131,9 +131,9 @@ own_source fs k g f eg own same =
     let found : source fs f ≡ option_or (find (λ h. bytes_eq h.name g.name) fs) (first_named f.aliases fs) = ap (λ (name : List ℕ). option_or (find (λ h. bytes_eq h.name name) fs) (first_named f.aliases fs)) (sym same) in
     found ∙ own_found (find (λ h. bytes_eq h.name g.name) fs) (first_named g.aliases fs) (first_named f.aliases fs) g own (find_some (λ h. bytes_eq h.name g.name) fs k g eg ((bytes_eq-Decides g.name g.name).1 refl))
 
-code_some : (o : Option ℕ) (p : ℕ) → source_code o ≡ p + 1 → o ≡ Some p
-code_some None p e = absurd (omega (arith, e))
-code_some (Some z) p e = let same : z ≡ p = omega (arith, e) in ap Some same
+entry_some : (o : Option ℕ) (p : ℕ) → source_entry o ≡ p + 1 → o ≡ Some p
+entry_some None p e = absurd (omega (arith, e))
+entry_some (Some z) p e = let same : z ≡ p = omega (arith, e) in ap Some same
 
 -- ---- what a match of two links means
 
@@ -166,17 +166,17 @@ module _ (names : List (List ℕ)) (rank_map : Option (List (Option ℕ))) (numb
         given = subst (GivenBy rank_map numbered index y x) e given;
       }
 
-module _ (sides : Sides) (is : IsSides sides) (writer_links reader_links : Links) (sources : List (Vec ℕ Global)) (are_referrers : AreReferrers sides writer_links reader_links sources) (p q : ℕ) (x y : Link) (R : Pairs) (out : R p q ≡ false)
-    (a b : NodeView) (ea : slice_get (rows sides) x.referrer ≡ Some a) (eb : slice_get (columns sides) y.referrer ≡ Some b) (fits : Fits R x.referrer y.referrer a b) (one : x.label ≡ y.label) where
+module _ (schemas : SchemaPair) (is : IsSchemaPair schemas) (writer_links reader_links : Links) (sources : List (Vec ℕ Global)) (are_referrers : AreReferrers schemas writer_links reader_links sources) (p q : ℕ) (x y : Link) (R : Pairs) (out : R p q ≡ false)
+    (a b : NodeView) (ea : slice_get (rows schemas) x.referrer ≡ Some a) (eb : slice_get (columns schemas) y.referrer ≡ Some b) (fits : Fits R x.referrer y.referrer a b) (one : x.label ≡ y.label) where
   abbrev Mine : LinkKind → Type 0
-  Mine kind = Field (names_of sides.writer) (Some sides.rank_map.ranks.items) writer_links.aliased.items a x p kind
+  Mine kind = Field (names_of schemas.writer) (Some schemas.rank_map.ranks.items) writer_links.aliased.items a x p kind
 
   abbrev Theirs : LinkKind → Type 0
-  Theirs kind = Field (names_of sides.reader) None reader_links.aliased.items b y q kind
+  Theirs kind = Field (names_of schemas.reader) None reader_links.aliased.items b y q kind
 
   by_names : Mine ByName → Theirs ByName → ⊥
   by_names m t =
-      let rank_map = sides.rank_map.ranks.items in let w = names_of sides.writer in let r = names_of sides.reader in
+      let rank_map = schemas.rank_map.ranks.items in let w = names_of schemas.writer in let r = names_of schemas.reader in
       let label : t.ranks.name ≡ x.label = same_Some t.ranks.name y.label t.given ∙ sym one in
       let same : m.field.name ≡ t.field.name =
       (ranks_decide_names w r rank_map is.rank_map is.reader.index.names.rise m.ranks.name x.label m.field.name t.field.name m.ranked.name (subst (λ (rank : ℕ). slice_get r rank ≡ Some t.field.name) label t.ranked.name)).0 m.given in
@@ -184,25 +184,25 @@ module _ (sides : Sides) (is : IsSides sides) (writer_links reader_links : Links
       let from : source_place (fields_of a) t.field ≡ Some p = ap (option_map (λ (g : FieldView). g.place)) (own_source (fields_of a) m.index m.field t.field m.there own same) ∙ ap Some m.at in
       field_needed R x.referrer y.referrer p q t.index a b t.field t.there from t.at out fits
 
-  by_alias : (number : ℕ) → Theirs (ByAlias number) → code_at sources x.referrer number ≡ p + 1 → ⊥
+  by_alias : (number : ℕ) → Theirs (ByAlias number) → entry_at sources x.referrer number ≡ p + 1 → ⊥
   by_alias number t told =
       let field : Aliased = record { place = y.referrer; index = t.index } in
-      let at : field_at (columns sides) field ≡ Some t.field = ap (option_and_then (λ (c : NodeView). slice_get (fields_of c) t.index)) eb ∙ t.there in
-      let entry = entry_told (rows sides) (columns sides) reader_links.aliased.items sources are_referrers.sources x.referrer number a field ea t.given t.field at in
-      let from = code_some (source_place (fields_of a) t.field) p (sym entry ∙ told) in
+      let at : field_at (columns schemas) field ≡ Some t.field = ap (option_and_then (λ (c : NodeView). slice_get (fields_of c) t.index)) eb ∙ t.there in
+      let entry = entry_told (rows schemas) (columns schemas) reader_links.aliased.items sources are_referrers.sources x.referrer number a field ea t.given t.field at in
+      let from = entry_some (source_place (fields_of a) t.field) p (sym entry ∙ told) in
       field_needed R x.referrer y.referrer p q t.index a b t.field t.there from t.at out fits
 
-  by_ways : (wx wy : LinkKind) → x.kind ≡ wx → y.kind ≡ wy → CanMatchLinks sources p x.referrer wx wy → IsOfNode (names_of sides.writer) (Some sides.rank_map.ranks.items) writer_links.aliased.items a x p
-      → IsOfNode (names_of sides.reader) None reader_links.aliased.items b y q → ⊥
-  by_ways ByElement ByElement ex ey asks m t = contents_needed R x.referrer y.referrer p q a b (of_contents (names_of sides.writer) (Some sides.rank_map.ranks.items) writer_links.aliased.items a x p ex m)
-      (of_contents (names_of sides.reader) None reader_links.aliased.items b y q ey t) out fits
-  by_ways ByName ByName ex ey asks m t = by_names (of_field (names_of sides.writer) (Some sides.rank_map.ranks.items) writer_links.aliased.items a x p ByName (λ e. absurd cc) ex m)
-      (of_field (names_of sides.reader) None reader_links.aliased.items b y q ByName (λ e. absurd cc) ey t)
-  by_ways ByName (ByAlias number) ex ey asks m t = by_alias number (of_field (names_of sides.reader) None reader_links.aliased.items b y q (ByAlias number) (λ e. absurd cc) ey t) asks
+  by_ways : (wx wy : LinkKind) → x.kind ≡ wx → y.kind ≡ wy → CanMatchLinks sources p x.referrer wx wy → IsOfNode (names_of schemas.writer) (Some schemas.rank_map.ranks.items) writer_links.aliased.items a x p
+      → IsOfNode (names_of schemas.reader) None reader_links.aliased.items b y q → ⊥
+  by_ways ByElement ByElement ex ey asks m t = contents_needed R x.referrer y.referrer p q a b (of_contents (names_of schemas.writer) (Some schemas.rank_map.ranks.items) writer_links.aliased.items a x p ex m)
+      (of_contents (names_of schemas.reader) None reader_links.aliased.items b y q ey t) out fits
+  by_ways ByName ByName ex ey asks m t = by_names (of_field (names_of schemas.writer) (Some schemas.rank_map.ranks.items) writer_links.aliased.items a x p ByName (λ e. absurd cc) ex m)
+      (of_field (names_of schemas.reader) None reader_links.aliased.items b y q ByName (λ e. absurd cc) ey t)
+  by_ways ByName (ByAlias number) ex ey asks m t = by_alias number (of_field (names_of schemas.reader) None reader_links.aliased.items b y q (ByAlias number) (λ e. absurd cc) ey t) asks
   by_ways _ _ ex ey asks m t = absurd asks
 
-pub rests_by_links : (sides : Sides) → IsSides sides → (writer_links reader_links : Links) (sources : List (Vec ℕ Global)) → AreReferrers sides writer_links reader_links sources → (p q : ℕ) (x y : Link) → IsListedAt writer_links.lists.items x p → IsListedAt reader_links.lists.items y q
-    → x.label ≡ y.label → MayDepend sources p x y → DependsOn (rows sides) (columns sides) x.referrer y.referrer p q
-rests_by_links sides is writer_links reader_links sources are_referrers p q x y hx hy one asks R out s =
-    let h = nodes_of_pair (rows sides) (columns sides) R x.referrer y.referrer s in
-    by_ways sides is writer_links reader_links sources are_referrers p q x y R out h.0 h.1 h.2 h.3 h.4 one x.kind y.kind refl refl asks (are_referrers.writer.links.meant x p hx h.0 h.2) (are_referrers.reader.links.meant y q hy h.1 h.3)
+pub rests_by_links : (schemas : SchemaPair) → IsSchemaPair schemas → (writer_links reader_links : Links) (sources : List (Vec ℕ Global)) → AreReferrers schemas writer_links reader_links sources → (p q : ℕ) (x y : Link) → IsListedAt writer_links.lists.items x p → IsListedAt reader_links.lists.items y q
+    → x.label ≡ y.label → MayDepend sources p x y → DependsOn (rows schemas) (columns schemas) x.referrer y.referrer p q
+rests_by_links schemas is writer_links reader_links sources are_referrers p q x y hx hy one asks R out s =
+    let h = nodes_of_pair (rows schemas) (columns schemas) R x.referrer y.referrer s in
+    by_ways schemas is writer_links reader_links sources are_referrers p q x y R out h.0 h.1 h.2 h.3 h.4 one x.kind y.kind refl refl asks (are_referrers.writer.links.meant x p hx h.0 h.2) (are_referrers.reader.links.meant y q hy h.1 h.3)

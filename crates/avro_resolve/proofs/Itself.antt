@@ -8,8 +8,8 @@ use Rattle.std.proofs.lemmas.Bool.{and_parts, and_from, or_cases, or_left, or_ri
 use Rattle.std.proofs.lemmas.Option.{slice_get-get_or}
 use Rattle.std.proofs.lemmas.List.Folds.{Any-from_list_any, list_any-from_Any}
 use Rattle.serde_json.specs.Data.{no_members}
-use Rattle.avro_nodes.specs.declared.node.Kind.{Kind}
-use Rattle.avro_nodes.specs.declared.node.Kind.TheVariants.{Null, Boolean, Int, Long, Float, Double, Bytes, Text}
+use Rattle.avro_nodes.specs.declared.node.PrimitiveKind.{PrimitiveKind}
+use Rattle.avro_nodes.specs.declared.node.PrimitiveKind.TheVariants.{Null, Boolean, Int, Long, Float, Double, Bytes, Text}
 use Rattle.avro_nodes.specs.Nodes.{FieldView, NodeView, primitive, array, mapping, union, enumeration, fixed, rec}
 use Rattle.avro_schema.specs.Texts.{IsSchema}
 use Rattle.avro_resolve.specs.Resolution.{Pairs, Promotes, source, Fits, Supports, Resolves}
@@ -29,7 +29,7 @@ itself w i j = nat_lt i (length w) && ((i == j) || branch_of (slice_get w j) i)
 some_not_none : (w : List NodeView) (i : ℕ) → i < length w → slice_get w i ≡ None → ⊥
 some_not_none w i l e = absurd (let d : NodeView = array 0 no_members in let g : slice_get w i ≡ Some (get_or w i d) = slice_get-get_or w i d l in cc)
 
-own_kind : (k : Kind) → Promotes k k
+own_kind : (k : PrimitiveKind) → Promotes k k
 own_kind Null = tt
 own_kind Boolean = tt
 own_kind Int = tt

@@ -24,14 +24,14 @@ use Rattle.avro_resolve.proofs.ListLemmas.{adds_none, adds_such, adds_then}
 
 -- ---- more links are added
 
-pub notes_none : (Such : Link → ℕ → Type 0) (links : Links) → OnlyAddsLinks Such links links
-notes_none Such links = record { adds = adds_none Such links.lists.items; kept = λ number field e. e; unions = refl }
+pub only_adds_none : (Such : Link → ℕ → Type 0) (links : Links) → OnlyAddsLinks Such links links
+only_adds_none Such links = record { adds = adds_none Such links.lists.items; kept = λ number field e. e; unions = refl }
 
-pub notes_such : (This Such : Link → ℕ → Type 0) → ((x : Link) (p : ℕ) → This x p → Such x p) → (xs ys : Links) → OnlyAddsLinks This xs ys → OnlyAddsLinks Such xs ys
-notes_such This Such this xs ys h = record { adds = adds_such Such This this xs.lists.items ys.lists.items h.adds; kept = h.kept; unions = h.unions }
+pub only_adds_such : (This Such : Link → ℕ → Type 0) → ((x : Link) (p : ℕ) → This x p → Such x p) → (xs ys : Links) → OnlyAddsLinks This xs ys → OnlyAddsLinks Such xs ys
+only_adds_such This Such this xs ys h = record { adds = adds_such Such This this xs.lists.items ys.lists.items h.adds; kept = h.kept; unions = h.unions }
 
-pub notes_then : (This That Such : Link → ℕ → Type 0) → ((x : Link) (p : ℕ) → This x p → Such x p) → ((x : Link) (p : ℕ) → That x p → Such x p) → (xs ys zs : Links) → OnlyAddsLinks This xs ys → OnlyAddsLinks That ys zs → OnlyAddsLinks Such xs zs
-notes_then This That Such this that xs ys zs g h = record {
+pub only_adds_then : (This That Such : Link → ℕ → Type 0) → ((x : Link) (p : ℕ) → This x p → Such x p) → ((x : Link) (p : ℕ) → That x p → Such x p) → (xs ys zs : Links) → OnlyAddsLinks This xs ys → OnlyAddsLinks That ys zs → OnlyAddsLinks Such xs zs
+only_adds_then This That Such this that xs ys zs g h = record {
   adds = adds_then Such This That this that xs.lists.items ys.lists.items zs.lists.items g.adds h.adds;
   kept = λ number field e. h.kept number field (g.kept number field e);
   unions = h.unions ∙ g.unions;

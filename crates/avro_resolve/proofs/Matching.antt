@@ -12,12 +12,12 @@ use Rattle.avro_schema.specs.declared.index.NamedRanks.{NamedRanks}
 use Rattle.avro_schema.specs.declared.index.Ranks.{Ranks}
 use Rattle.avro_schema.specs.declared.index.Ranks.TheVariants.{Unnamed, Fixed, Enum, Rec}
 use Rattle.avro_schema.specs.Index.{AreSortedRanks, IsIndex, IsNamedRanked, IsRank, IsRanked, IsUnnamed}
-use Rattle.avro_resolve.specs.declared.sides.Side.{Side}
+use Rattle.avro_resolve.specs.declared.schemas.IndexedSchema.{IndexedSchema}
 use Rattle.avro_resolve.specs.Resolution.{NameMatch}
 use Rattle.avro_resolve.specs.Inside.Agreeing.{fields_of, named_of, named_ranks, symbols_of, symbol_ranks, DecidesNameMatch}
 use Rattle.avro_resolve.specs.Inside.RankMaps.{RanksDecideNames, mapped_rank}
 use Rattle.avro_resolve.specs.Inside.Places.{RefersBelow}
-use Rattle.avro_resolve.specs.Inside.Sides.{IsSide, names_of, nodes_of}
+use Rattle.avro_resolve.specs.Inside.Schemas.{IsIndexedSchema, names_of, nodes_of}
 
 -- ---- the ranks at a place
 
@@ -32,13 +32,13 @@ ranked_at nodes index is place a v ea ev =
     subst (λ (o : Option NodeView). MatchOption o (Unit {0}) (λ x. IsSomeAnd (slice_get index.ranks.items place) (IsRanked names x))) ea (AllZip-left (IsRanked names) nodes index.ranks.items is.ranked place) in
     some_and (IsRanked names) (slice_get index.ranks.items place) a v ev at
 
--- the ranks of a side's node
-pub node_ranks : (side : Side) → IsSide side → (place : ℕ) (a : NodeView) → slice_get (nodes_of side) place ≡ Some a → (v : Ranks) × IsRanked (names_of side) a v
-node_ranks side is place a ea =
-    let names = names_of side in
-    let at : IsSomeAnd (slice_get side.index.now.ranks.items place) (IsRanked names a) =
-    subst (λ (o : Option NodeView). MatchOption o (Unit {0}) (λ x. IsSomeAnd (slice_get side.index.now.ranks.items place) (IsRanked names x))) ea (AllZip-left (IsRanked names) (nodes_of side) side.index.now.ranks.items is.index.ranked place) in
-    some_ranks (slice_get side.index.now.ranks.items place) (IsRanked names a) at
+-- the ranks of a schema's node
+pub node_ranks : (indexed : IndexedSchema) → IsIndexedSchema indexed → (place : ℕ) (a : NodeView) → slice_get (nodes_of indexed) place ≡ Some a → (v : Ranks) × IsRanked (names_of indexed) a v
+node_ranks indexed is place a ea =
+    let names = names_of indexed in
+    let at : IsSomeAnd (slice_get indexed.index.now.ranks.items place) (IsRanked names a) =
+    subst (λ (o : Option NodeView). MatchOption o (Unit {0}) (λ x. IsSomeAnd (slice_get indexed.index.now.ranks.items place) (IsRanked names x))) ea (AllZip-left (IsRanked names) (nodes_of indexed) indexed.index.now.ranks.items is.index.ranked place) in
+    some_ranks (slice_get indexed.index.now.ranks.items place) (IsRanked names a) at
   where
     some_ranks : (o : Option Ranks) (P : Ranks → Type 0) → IsSomeAnd o P → (v : Ranks) × P v
     some_ranks None P h = absurd h

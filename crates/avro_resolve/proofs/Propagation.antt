@@ -15,7 +15,7 @@ use Rattle.avro_resolve.specs.declared.links.Links.{Links}
 use Rattle.avro_resolve.specs.declared.links.Link.{Link}
 use Rattle.avro_resolve.specs.declared.links.LinkKind.{LinkKind}
 use Rattle.avro_resolve.specs.declared.links.LinkKind.TheVariants.{ByElement, ByName, ByAlias}
-use Rattle.avro_resolve.specs.declared.sides.Sides.{Sides}
+use Rattle.avro_resolve.specs.declared.schemas.SchemaPair.{SchemaPair}
 use Rattle.avro_resolve.specs.declared.table.Table.{Table}
 use Rattle.avro_resolve.specs.Asking.{source_place, AsksFor}
 use Rattle.avro_resolve.specs.Resolution.{Pairs, first_named, source, Fits}
@@ -26,8 +26,8 @@ use Rattle.avro_resolve.specs.Inside.Remaining.{remains, AreRun, StillSupported,
 use Rattle.avro_resolve.specs.Inside.Lists.{list_at, IsListedAt}
 use Rattle.avro_resolve.proofs.ListLemmas.{get_or_any, list_in, nothing_stands, same_place}
 use Rattle.avro_resolve.proofs.Monotone.{named_in, supports_at}
-use Rattle.avro_resolve.specs.Inside.Sides.{columns, names_of, rows, IsSides}
-use Rattle.avro_resolve.specs.Inside.Sources.{source_code, code_at, field_at, AreSources, IsSourceCode}
+use Rattle.avro_resolve.specs.Inside.Schemas.{columns, names_of, rows, IsSchemaPair}
+use Rattle.avro_resolve.specs.Inside.Sources.{source_entry, entry_at, field_at, AreSources, IsSourceEntry}
 use Rattle.avro_resolve.proofs.LinkLemmas.{met_by, sought_by, zip_got, IsMetBy, IsOf, IsSoughtBy, Seeks}
 use Rattle.avro_resolve.proofs.RankMaps.{ranks_decide_names}
 use Rattle.avro_resolve.proofs.KeptSupport.{settled_gone, settled_ignoring, settled_onto}
@@ -125,16 +125,16 @@ name_found g (name ∷ names) fs e = name_step g name names fs (find (λ f. byte
 
 -- ---- each dependent of a pair is listed
 
--- the source code of a writer's place and an aliased field
+-- the source entry of a writer's place and an aliased field
 pub entry_told : (w r : List NodeView) (aliased : List Aliased) (sources : List (Vec ℕ Global)) → AreSources w r aliased sources → (i number : ℕ) (a : NodeView) (field : Aliased) → slice_get w i ≡ Some a → slice_get aliased number ≡ Some field
-    → IsSourceCode r (fields_of a) field (code_at sources i number)
+    → IsSourceEntry r (fields_of a) field (entry_at sources i number)
 entry_told w r aliased sources are i number a field ea ef =
-    let row = zip_got (λ (a : NodeView) (row : Vec ℕ Global). AllZip (IsSourceCode r (fields_of a)) aliased row.items) w sources are i a ea in
-    let entry = zip_got (IsSourceCode r (fields_of a)) aliased row.0.items row.2 number field ef in
+    let row = zip_got (λ (a : NodeView) (row : Vec ℕ Global). AllZip (IsSourceEntry r (fields_of a)) aliased row.items) w sources are i a ea in
+    let entry = zip_got (IsSourceEntry r (fields_of a)) aliased row.0.items row.2 number field ef in
     let within : i < length sources = slice_get_within sources i row.0 row.1 in
     let list : list_at sources i ≡ row.0.items = list_in sources i row.0 within ∙ ap (λ (v : Vec ℕ Global). v.items) (get_or_from_slice_get sources i row.0 row.0 row.1) in
-    let told : code_at sources i number ≡ entry.0 = ap (λ (xs : List ℕ). get_or xs number 0) list ∙ get_or_from_slice_get row.0.items number entry.0 0 entry.1 in
-    subst (IsSourceCode r (fields_of a) field) (sym told) entry.2
+    let told : entry_at sources i number ≡ entry.0 = ap (λ (xs : List ℕ). get_or xs number 0) list ∙ get_or_from_slice_get row.0.items number entry.0 0 entry.1 in
+    subst (IsSourceEntry r (fields_of a) field) (sym told) entry.2
 
 module _ (sources : List (Vec ℕ Global)) (p : ℕ) where
   may_ask : (x y : Link) → MayDepend sources p x y ⊎ (MayDepend sources p x y → ⊥)
@@ -143,7 +143,7 @@ module _ (sources : List (Vec ℕ Global)) (p : ℕ) where
       by : (v w : LinkKind) → CanMatchLinks sources p x.referrer v w ⊎ (CanMatchLinks sources p x.referrer v w → ⊥)
       by ByElement ByElement = inl tt
       by ByName ByName = inl tt
-      by ByName (ByAlias number) = same_place (code_at sources x.referrer number) (p + 1)
+      by ByName (ByAlias number) = same_place (entry_at sources x.referrer number) (p + 1)
       by _ _ = inr (λ h. h)
 
   -- links of the two places have the same label and can be matched
@@ -163,10 +163,10 @@ module _ (sources : List (Vec ℕ Global)) (p : ℕ) where
   meet xs ys i j = elim (search_list (Above ys i j) (λ x. both (same_place x.referrer i) (is_beside ys j x)) xs) [ inl h ↦ inl h | inr n ↦ inr (λ h. n h.0 h.1 h.2) ]
 
 -- the pairs that may depend on this one are supported without it
-pub record IsSeen (sides : Sides) (writer_links reader_links : Links) (sources : List (Vec ℕ Global)) (p q : ℕ) (v : Table) (qs : List Pair) : Type 0 where
-  pub down : All (λ x. StillSupported (rows sides) (columns sides) v qs x q) (list_at writer_links.unions.items p)
-  pub along : IsNoUnion (rows sides) p → All (StillSupported (rows sides) (columns sides) v qs p) (list_at reader_links.unions.items q)
-  pub joined : Joins sources p (StillSupported (rows sides) (columns sides) v qs) (list_at writer_links.lists.items p) (list_at reader_links.lists.items q)
+pub record IsSeen (schemas : SchemaPair) (writer_links reader_links : Links) (sources : List (Vec ℕ Global)) (p q : ℕ) (v : Table) (qs : List Pair) : Type 0 where
+  pub down : All (λ x. StillSupported (rows schemas) (columns schemas) v qs x q) (list_at writer_links.unions.items p)
+  pub along : IsNoUnion (rows schemas) p → All (StillSupported (rows schemas) (columns schemas) v qs p) (list_at reader_links.unions.items q)
+  pub joined : Joins sources p (StillSupported (rows schemas) (columns schemas) v qs) (list_at writer_links.lists.items p) (list_at reader_links.lists.items q)
 
 union_or : (a : NodeView) → ((branches : List ℕ) × (a ≡ union branches)) ⊎ ((branches : List ℕ) → a ≡ union branches → ⊥)
 union_or (union bs) = inl (bs, refl)
@@ -177,7 +177,7 @@ union_or (enumeration n s f x) = inr (λ bs e. absurd cc)
 union_or (fixed n s x) = inr (λ bs e. absurd cc)
 union_or (rec n fs x) = inr (λ bs e. absurd cc)
 
-module _ (sides : Sides) (is : IsSides sides) (writer_links reader_links : Links) (sources : List (Vec ℕ Global)) (are_referrers : AreReferrers sides writer_links reader_links sources) (i j p q : ℕ) where
+module _ (schemas : SchemaPair) (is : IsSchemaPair schemas) (writer_links reader_links : Links) (sources : List (Vec ℕ Global)) (are_referrers : AreReferrers schemas writer_links reader_links sources) (i j p q : ℕ) where
   abbrev Listed : Type 0
   Listed = ((j ≡ q) × IsListedAt writer_links.unions.items i p) ⊎ (((i ≡ p) × IsListedAt reader_links.unions.items j q) ⊎ Meet sources p (list_at writer_links.lists.items p) (list_at reader_links.lists.items q) i j)
 
@@ -190,10 +190,10 @@ module _ (sides : Sides) (is : IsSides sides) (writer_links reader_links : Links
   contained : (x y : ℕ) → LinkedBy (HasLabel 0 ByElement) writer_links.lists.items i x → LinkedBy (HasLabel 0 ByElement) reader_links.lists.items j y → (p ≡ x) × (q ≡ y) → Listed
   contained x y g h e = joined x y (HasLabel 0 ByElement) (HasLabel 0 ByElement) (λ l m la a b. (a.0 ∙ sym b.0, together l m ByElement ByElement a.1 b.1 tt)) g h (sym e.0) (sym e.1)
 
-  of_branch : (bs : List ℕ) → slice_get (columns sides) j ≡ Some (union bs) → (p ≡ i) × Contains bs q → Listed
+  of_branch : (bs : List ℕ) → slice_get (columns schemas) j ≡ Some (union bs) → (p ≡ i) × Contains bs q → Listed
   of_branch bs e h = inr (inl (sym h.0, All-contains (IsListedAt reader_links.unions.items j) bs q (are_referrers.reader.unions.named j (union bs) e) h.1))
 
-  module _ (a b : NodeView) (ea : slice_get (rows sides) i ≡ Some a) (eb : slice_get (columns sides) j ≡ Some b) where
+  module _ (a b : NodeView) (ea : slice_get (rows schemas) i ≡ Some a) (eb : slice_get (columns schemas) j ≡ Some b) where
     -- a link of one of the aliases by which the field is read
     of_alias : (index : ℕ) (f : FieldView) → slice_get (fields_of b) index ≡ Some f → source_place (fields_of a) f ≡ Some p → (l : Link) → l.referrer ≡ i → (kind : LinkKind) → IsOf reader_links.aliased.items j index kind
         → CanMatchLinks sources p l.referrer ByName kind
@@ -201,31 +201,31 @@ module _ (sides : Sides) (is : IsSides sides) (writer_links reader_links : Links
     of_alias index f ef s l la ByName of = tt
     of_alias index f ef s l la (ByAlias number) of =
         let field : Aliased = record { place = j; index = index } in
-        let at : field_at (columns sides) field ≡ Some f = ap (option_and_then (λ (c : NodeView). slice_get (fields_of c) index)) eb ∙ ef in
-        let told : code_at sources i number ≡ source_code (source_place (fields_of a) f) = entry_told (rows sides) (columns sides) reader_links.aliased.items sources are_referrers.sources i number a field ea of f at in
-        ap (λ (x : ℕ). code_at sources x number) la ∙ told ∙ ap source_code s
+        let at : field_at (columns schemas) field ≡ Some f = ap (option_and_then (λ (c : NodeView). slice_get (fields_of c) index)) eb ∙ ef in
+        let told : entry_at sources i number ≡ source_entry (source_place (fields_of a) f) = entry_told (rows schemas) (columns schemas) reader_links.aliased.items sources are_referrers.sources i number a field ea of f at in
+        ap (λ (x : ℕ). entry_at sources x number) la ∙ told ∙ ap source_entry s
 
     of_field : (index : ℕ) (f : FieldView) → slice_get (fields_of b) index ≡ Some f → (o : Option FieldView) → source (fields_of a) f ≡ o → option_map (λ (g : FieldView). g.place) o ≡ Some p → f.place ≡ q
-        → All (IsMetBy (names_of sides.reader) writer_links i) (fields_of a) → All (IsSoughtBy (names_of sides.reader) reader_links j index f.place) (f.name ∷ f.aliases) → Listed
+        → All (IsMetBy (names_of schemas.reader) writer_links i) (fields_of a) → All (IsSoughtBy (names_of schemas.reader) reader_links j index f.place) (f.name ∷ f.aliases) → Listed
     of_field index f ef None e s at mine theirs = absurd cc
     of_field index f ef (Some g) e s at mine theirs =
         let names = f.name ∷ f.aliases in
-        let own : IsMetBy (names_of sides.reader) writer_links i g = named_in (IsMetBy (names_of sides.reader) writer_links i) g names (fields_of a) mine e in
-        let sought = All-contains (IsSoughtBy (names_of sides.reader) reader_links j index f.place) names g.name theirs (name_found g names (fields_of a) e) in
+        let own : IsMetBy (names_of schemas.reader) writer_links i g = named_in (IsMetBy (names_of schemas.reader) writer_links i) g names (fields_of a) mine e in
+        let sought = All-contains (IsSoughtBy (names_of schemas.reader) reader_links j index f.place) names g.name theirs (name_found g names (fields_of a) e) in
         let from : source_place (fields_of a) f ≡ Some p = ap (option_map (λ (x : FieldView). x.place)) e ∙ s in
         joined g.place f.place (HasLabel sought.0 ByName) (Seeks reader_links.aliased.items j index sought.0) (λ l m la x y. (x.0 ∙ sym y.0, together l m ByName m.kind x.1 refl (of_alias index f ef from l la m.kind y.1)))
         (own sought.0 sought.1) sought.2 (same_Some g.place p s) at
 
-  of_fields : (k l : NamedView) (fs gs : List FieldView) (x y : Members) → slice_get (rows sides) i ≡ Some (rec k fs x) → slice_get (columns sides) j ≡ Some (rec l gs y) → Any (λ f. (source_place fs f ≡ Some p) × (f.place ≡ q)) gs → Listed
+  of_fields : (k l : NamedView) (fs gs : List FieldView) (x y : Members) → slice_get (rows schemas) i ≡ Some (rec k fs x) → slice_get (columns schemas) j ≡ Some (rec l gs y) → Any (λ f. (source_place fs f ≡ Some p) × (f.place ≡ q)) gs → Listed
   of_fields k l fs gs x y ea eb (index, f, within, ef, (s, at)) =
-      let w = names_of sides.writer in let r = names_of sides.reader in let rank_map = sides.rank_map.ranks.items in
+      let w = names_of schemas.writer in let r = names_of schemas.reader in let rank_map = schemas.rank_map.ranks.items in
       let mine = are_referrers.writer.links.named i (rec k fs x) ea in let theirs = are_referrers.reader.links.named j (rec l gs y) eb in
       let got : slice_get gs index ≡ Some f = slice_get-get_or gs index f within ∙ ap (λ (z : FieldView). Some z) ef in
       of_field (rec k fs x) (rec l gs y) ea eb index f got (source fs f) refl s at
       (met_by w r rank_map (ranks_decide_names w r rank_map is.rank_map is.reader.index.names.rise) writer_links i fs mine.0 mine.1.ranked mine.1.fields)
       (sought_by r reader_links j gs theirs.0 theirs.1.ranked theirs.1.fields index f got)
 
-  listed : (a b : NodeView) → slice_get (rows sides) i ≡ Some a → slice_get (columns sides) j ≡ Some b → AsksFor i j a b p q → Listed
+  listed : (a b : NodeView) → slice_get (rows schemas) i ≡ Some a → slice_get (columns schemas) j ≡ Some b → AsksFor i j a b p q → Listed
   listed (union bs) b ea eb h = inl (sym h.1, All-contains (IsListedAt writer_links.unions.items i) bs p (are_referrers.writer.unions.named i (union bs) ea) h.0)
   listed (primitive k x) (union bs) ea eb h = of_branch bs eb h
   listed (array k x) (union bs) ea eb h = of_branch bs eb h
@@ -248,13 +248,13 @@ module _ (sides : Sides) (is : IsSides sides) (writer_links reader_links : Links
 
   -- the pairs of listed dependents are supported
   abbrev Seen : Table → List Pair → Type 0
-  Seen v qs = IsSeen sides writer_links reader_links sources p q v qs
+  Seen v qs = IsSeen schemas writer_links reader_links sources p q v qs
 
-  looked : (v : Table) (qs : List Pair) (a b : NodeView) → slice_get (rows sides) i ≡ Some a → slice_get (columns sides) j ≡ Some b → remains v p q ≡ false → StillSupported (rows sides) (columns sides) v (qs ++ (p, q) ∷ []) i j → Seen v qs → Listed
-      → StillSupported (rows sides) (columns sides) v qs i j
-  looked v qs a b ea eb out before seen (inl (e, s)) = subst (λ (y : ℕ). StillSupported (rows sides) (columns sides) v qs i y) (sym e) (All-contains (λ x. StillSupported (rows sides) (columns sides) v qs x q) (list_at writer_links.unions.items p) i seen.down s)
+  looked : (v : Table) (qs : List Pair) (a b : NodeView) → slice_get (rows schemas) i ≡ Some a → slice_get (columns schemas) j ≡ Some b → remains v p q ≡ false → StillSupported (rows schemas) (columns schemas) v (qs ++ (p, q) ∷ []) i j → Seen v qs → Listed
+      → StillSupported (rows schemas) (columns schemas) v qs i j
+  looked v qs a b ea eb out before seen (inl (e, s)) = subst (λ (y : ℕ). StillSupported (rows schemas) (columns schemas) v qs i y) (sym e) (All-contains (λ x. StillSupported (rows schemas) (columns schemas) v qs x q) (list_at writer_links.unions.items p) i seen.down s)
   looked v qs a b ea eb out before seen (inr (inl (e, s))) =
-      let w = rows sides in let r = columns sides in
+      let w = rows schemas in let r = columns schemas in
       elim (union_or a) [
         | inl u ↦ elim (same_place j q) [
           | inl f ↦ settled_gone w r v qs i j (ap (λ (x : ℕ). remains v x j) e ∙ ap (remains v p) f ∙ out)
@@ -263,11 +263,11 @@ module _ (sides : Sides) (is : IsSides sides) (writer_links reader_links : Links
         | inr n ↦ subst (λ (x : ℕ). StillSupported w r v qs x j) (sym e)
             (All-contains (StillSupported w r v qs p) (list_at reader_links.unions.items q) j (seen.along (λ bs f. n bs (same_Some a (union bs) (sym ea ∙ ap (slice_get w) e ∙ f)))) s)
       ]
-  looked v qs a b ea eb out before seen (inr (inr (x, hx, (ex, (y, hy, (ey, both)))))) = subst (λ (a : ℕ). StillSupported (rows sides) (columns sides) v qs a j) ex (subst (λ (b : ℕ). StillSupported (rows sides) (columns sides) v qs x.referrer b) ey (seen.joined x y hx hy both.0 both.1))
+  looked v qs a b ea eb out before seen (inr (inr (x, hx, (ex, (y, hy, (ey, both)))))) = subst (λ (a : ℕ). StillSupported (rows schemas) (columns schemas) v qs a j) ex (subst (λ (b : ℕ). StillSupported (rows schemas) (columns schemas) v qs x.referrer b) ey (seen.joined x y hx hy both.0 both.1))
 
-  told_one : (v : Table) (qs : List Pair) → i < length (rows sides) → j < length (columns sides) → remains v p q ≡ false → StillSupported (rows sides) (columns sides) v (qs ++ (p, q) ∷ []) i j → Seen v qs → StillSupported (rows sides) (columns sides) v qs i j
+  told_one : (v : Table) (qs : List Pair) → i < length (rows schemas) → j < length (columns schemas) → remains v p q ≡ false → StillSupported (rows schemas) (columns schemas) v (qs ++ (p, q) ∷ []) i j → Seen v qs → StillSupported (rows schemas) (columns schemas) v qs i j
   told_one v qs li lj out before seen =
-      let w = rows sides in let r = columns sides in
+      let w = rows schemas in let r = columns schemas in
       let d : NodeView = union [] in let a = get_or w i d in let b = get_or r j d in
       let ea : slice_get w i ≡ Some a = slice_get-get_or w i d li in let eb : slice_get r j ≡ Some b = slice_get-get_or r j d lj in
       elim is_listed [
@@ -276,10 +276,10 @@ module _ (sides : Sides) (is : IsSides sides) (writer_links reader_links : Links
       ]
 
 -- once all dependents of a run's pairs were examined, all pairs are supported without the run
-module _ (sides : Sides) (is : IsSides sides) (writer_links reader_links : Links) (sources : List (Vec ℕ Global)) (are_referrers : AreReferrers sides writer_links reader_links sources) (v : Table) where
-  seen_onto : (p q : ℕ) (qs more : List Pair) → IsSeen sides writer_links reader_links sources p q v qs → IsSeen sides writer_links reader_links sources p q v (qs ++ more)
+module _ (schemas : SchemaPair) (is : IsSchemaPair schemas) (writer_links reader_links : Links) (sources : List (Vec ℕ Global)) (are_referrers : AreReferrers schemas writer_links reader_links sources) (v : Table) where
+  seen_onto : (p q : ℕ) (qs more : List Pair) → IsSeen schemas writer_links reader_links sources p q v qs → IsSeen schemas writer_links reader_links sources p q v (qs ++ more)
   seen_onto p q qs more h =
-      let w = rows sides in let r = columns sides in
+      let w = rows schemas in let r = columns schemas in
       let on = λ (i j : ℕ). settled_onto w r v qs more i j is.writer.whole is.reader.whole in
       record {
         down = λ k d l. on (get_or (list_at writer_links.unions.items p) k d) q (h.down k d l);
@@ -287,10 +287,10 @@ module _ (sides : Sides) (is : IsSides sides) (writer_links reader_links : Links
         joined = λ x y hx hy e m. on x.referrer y.referrer (h.joined x y hx hy e m);
       }
 
-  pub told : (p : ℕ) (qs run : List Pair) → AreRun v p run → AllStillSupported (rows sides) (columns sides) v (qs ++ run) → All (λ (x : Pair). IsSeen sides writer_links reader_links sources p x.1 v qs) run → AllStillSupported (rows sides) (columns sides) v qs
-  told p qs [] are before seen = subst (AllStillSupported (rows sides) (columns sides) v) (append-nil qs) before
+  pub told : (p : ℕ) (qs run : List Pair) → AreRun v p run → AllStillSupported (rows schemas) (columns schemas) v (qs ++ run) → All (λ (x : Pair). IsSeen schemas writer_links reader_links sources p x.1 v qs) run → AllStillSupported (rows schemas) (columns schemas) v qs
+  told p qs [] are before seen = subst (AllStillSupported (rows schemas) (columns schemas) v) (append-nil qs) before
   told p qs (x ∷ run) are before seen = λ i j li lj.
-      let w = rows sides in let r = columns sides in let first = are 0 x (omega arith) in
+      let w = rows schemas in let r = columns schemas in let first = are 0 x (omega arith) in
       let rest : AllStillSupported w r v (qs ++ x ∷ []) = told p (qs ++ x ∷ []) run (λ k d l. are (suc k) d (omega arith)) (subst (AllStillSupported w r v) (sym (append_assoc qs (x ∷ []) run)) before)
       (λ k d l. seen_onto p (get_or run k d).1 qs (x ∷ []) (seen (suc k) d (omega arith))) in
-      told_one sides is writer_links reader_links sources are_referrers i j p x.1 v qs li lj (subst (λ (z : ℕ). remains v z x.1 ≡ false) first.0 first.1) (subst (λ (z : ℕ). StillSupported w r v (qs ++ (z, x.1) ∷ []) i j) first.0 (rest i j li lj)) (seen 0 x (omega arith))
+      told_one schemas is writer_links reader_links sources are_referrers i j p x.1 v qs li lj (subst (λ (z : ℕ). remains v z x.1 ≡ false) first.0 first.1) (subst (λ (z : ℕ). StillSupported w r v (qs ++ (z, x.1) ∷ []) i j) first.0 (rest i j li lj)) (seen 0 x (omega arith))

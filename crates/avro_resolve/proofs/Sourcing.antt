@@ -14,12 +14,12 @@ use Rattle.avro_schema.specs.declared.index.FieldRanks.{FieldRanks}
 use Rattle.avro_schema.specs.Index.{AreFieldsRanked, AreRanks, IsFieldRanked}
 use Rattle.avro_resolve.specs.Resolution.{first_named}
 use Rattle.avro_resolve.specs.Asking.{source_place}
-use Rattle.avro_resolve.specs.declared.sides.Fields.{Fields}
-use Rattle.avro_resolve.specs.declared.sides.Sides.{Sides}
+use Rattle.avro_resolve.specs.declared.schemas.Fields.{Fields}
+use Rattle.avro_resolve.specs.declared.schemas.SchemaPair.{SchemaPair}
 use Rattle.avro_resolve.specs.Inside.Agreeing.{fields_of}
 use Rattle.avro_resolve.specs.Inside.FieldSlots.{HasName, IsFirst, NoField, IsSource, names_in}
 use Rattle.avro_resolve.specs.Inside.RankMaps.{RanksDecideNames}
-use Rattle.avro_resolve.specs.Inside.Sides.{columns, names_of}
+use Rattle.avro_resolve.specs.Inside.Schemas.{columns, names_of}
 use Rattle.avro_resolve.specs.Inside.Sources.{field_at as wanted_at}
 use Rattle.avro_resolve.proofs.ViewLemmas.{view_got}
 
@@ -152,11 +152,11 @@ module _ (names : List (List ℕ)) where
       All-cons (λ rank. rank < length names) x xs (slice_get_within names x t here) (ranks_below ts xs rest)
 
 -- a field of the reader's record at a place, with the ranks of its names
-pub field_named : (sides : Sides) (j n : ℕ) (wanted : Fields) (b : NodeView) → slice_get (columns sides) j ≡ Some b → map field_view wanted.fields.now ≡ fields_of b → AreFieldsRanked (names_of sides.reader) (map field_view wanted.fields.now) wanted.ranks.now
+pub field_named : (schemas : SchemaPair) (j n : ℕ) (wanted : Fields) (b : NodeView) → slice_get (columns schemas) j ≡ Some b → map field_view wanted.fields.now ≡ fields_of b → AreFieldsRanked (names_of schemas.reader) (map field_view wanted.fields.now) wanted.ranks.now
     → (f : Field) (x : FieldRanks) → slice_get wanted.fields.now n ≡ Some f → slice_get wanted.ranks.now n ≡ Some x
-    → (wanted_at (columns sides) (record { place = j; index = n }) ≡ Some (field_view f)) × IsFieldRanked (names_of sides.reader) (field_view f) x
-field_named sides j n wanted b eb are ranked f x ef ex =
+    → (wanted_at (columns schemas) (record { place = j; index = n }) ≡ Some (field_view f)) × IsFieldRanked (names_of schemas.reader) (field_view f) x
+field_named schemas j n wanted b eb are ranked f x ef ex =
     let there : slice_get (map field_view wanted.fields.now) n ≡ Some (field_view f) = view_got field_view wanted.fields.now n f ef in (
       ap (option_and_then (λ (c : NodeView). slice_get (fields_of c) n)) eb ∙ ap (λ (fs : List FieldView). slice_get fs n) (sym are) ∙ there,
-      ranked_field (names_of sides.reader) (map field_view wanted.fields.now) wanted.ranks.now n (field_view f) x ranked there ex,
+      ranked_field (names_of schemas.reader) (map field_view wanted.fields.now) wanted.ranks.now n (field_view f) x ranked there ex,
     )

@@ -10,8 +10,8 @@ use Rattle.std.proofs.lemmas.List.Folds.{Any-from_list_any, list_any-from_Any}
 use Rattle.std.proofs.lemmas.List.Sums.{AllPass-from_list_all, list_all-from_AllPass}
 use Rattle.std.proofs.lemmas.Map.Made.{is_member-Decides}
 use Rattle.std.proofs.lemmas.Slice.Eq.{bytes_eq-Decides}
-use Rattle.avro_nodes.specs.declared.node.Kind.{Kind}
-use Rattle.avro_nodes.specs.declared.node.Kind.TheVariants.{Null, Boolean, Int, Long, Float, Double, Bytes, Text}
+use Rattle.avro_nodes.specs.declared.node.PrimitiveKind.{PrimitiveKind}
+use Rattle.avro_nodes.specs.declared.node.PrimitiveKind.TheVariants.{Null, Boolean, Int, Long, Float, Double, Bytes, Text}
 use Rattle.avro_nodes.specs.Nodes.{NamedView, FieldView, NodeView, primitive, array, mapping, union, enumeration, fixed, rec}
 use Rattle.avro_nodes.specs.Names.{last_part}
 use Rattle.avro_resolve.specs.Resolution.{Pairs, NameMatch, Promotes, source, Readable, Fits, Supports, Resolves}
@@ -40,7 +40,7 @@ has_decides texts text = is_member-Decides bytes_eq-Decides texts text
 match_decides : (w r : NamedView) → Decides (is_name_match w r) (NameMatch w r)
 match_decides w r = Decides-or (bytes_eq (last_part w.name) (last_part r.name)) (is_member bytes_eq r.aliases w.name) (bytes_eq-Decides (last_part w.name) (last_part r.name)) (has_decides r.aliases w.name)
 
-promote_decides : (k l : Kind) → Decides (may_promote k l) (Promotes k l)
+promote_decides : (k l : PrimitiveKind) → Decides (may_promote k l) (Promotes k l)
 promote_decides Null Null = allowed
 promote_decides Boolean Boolean = allowed
 promote_decides Int Int = allowed

@@ -8,6 +8,6 @@ pub mod RankMaps
 pub mod PairSets
 pub mod Places
 pub mod Rows
-pub mod Sides
+pub mod Schemas
 pub mod Sources
 pub mod Walking

@@ -2,8 +2,8 @@
 use Rattle.std.specs.Prelude.{◌≡◌, ℕ, ◌⊎◌, Bool, Option, None, IsSome, MatchOption, List, [], ◌∷◌, All, Any, Contains, find, slice_get, IsTrue}
 use Rattle.std.specs.Option.{option_or}
 use Rattle.std.specs.Str.{bytes_eq}
-use Rattle.avro_nodes.specs.declared.node.Kind.{Kind}
-use Rattle.avro_nodes.specs.declared.node.Kind.TheVariants.{Null, Boolean, Int, Long, Float, Double, Bytes, Text}
+use Rattle.avro_nodes.specs.declared.node.PrimitiveKind.{PrimitiveKind}
+use Rattle.avro_nodes.specs.declared.node.PrimitiveKind.TheVariants.{Null, Boolean, Int, Long, Float, Double, Bytes, Text}
 use Rattle.avro_nodes.specs.Names.{last_part}
 use Rattle.avro_nodes.specs.Nodes.{NamedView, FieldView, NodeView, primitive, array, mapping, union, enumeration, fixed, rec}
 
@@ -17,7 +17,7 @@ abbrev pub NameMatch : NamedView → NamedView → Type 0
 NameMatch w r = (last_part w.name ≡ last_part r.name) ⊎ Contains r.aliases w.name
 
 -- a primitive type is read as itself, or is promoted (Schema Resolution)
-abbrev pub Promotes : Kind → Kind → Type 0
+abbrev pub Promotes : PrimitiveKind → PrimitiveKind → Type 0
 Promotes Null Null = Unit {0}
 Promotes Boolean Boolean = Unit {0}
 Promotes Int Int = Unit {0}

@@ -2,8 +2,8 @@
 use Rattle.std.specs.Prelude.{ℕ, zero, suc, ◌==◌, Bool, true, false, ◌&&◌, ◌||◌, Option, Some, None, is_some, List, [], ◌∷◌, ◌++◌, length, slice_get, bytes_eq}
 use Rattle.std.specs.List.{list_any, list_all}
 use Rattle.std.specs.Set.{is_member}
-use Rattle.avro_nodes.specs.declared.node.Kind.{Kind}
-use Rattle.avro_nodes.specs.declared.node.Kind.TheVariants.{Null, Boolean, Int, Long, Float, Double, Bytes, Text}
+use Rattle.avro_nodes.specs.declared.node.PrimitiveKind.{PrimitiveKind}
+use Rattle.avro_nodes.specs.declared.node.PrimitiveKind.TheVariants.{Null, Boolean, Int, Long, Float, Double, Bytes, Text}
 use Rattle.avro_nodes.specs.Nodes.{NamedView, FieldView, NodeView, primitive, array, mapping, union, enumeration, fixed, rec}
 use Rattle.avro_nodes.specs.Names.{last_part}
 use Rattle.avro_resolve.specs.Resolution.{Pairs, source}
@@ -14,7 +14,7 @@ abbrev pub is_name_match : NamedView → NamedView → Bool
 is_name_match w r = bytes_eq (last_part w.name) (last_part r.name) || is_member bytes_eq r.aliases w.name
 
 -- whether a primitive is read as another (Promotes)
-abbrev pub may_promote : Kind → Kind → Bool
+abbrev pub may_promote : PrimitiveKind → PrimitiveKind → Bool
 may_promote Null Null = true
 may_promote Boolean Boolean = true
 may_promote Int Int = true

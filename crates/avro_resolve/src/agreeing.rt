@@ -5,26 +5,35 @@ ghost use Rattle.std.specs.List.Sorted.{IsStrictlyIncreasing};
 ghost use Rattle.avro_nodes.specs.Nodes.{node_view, NodeView};
 ghost use Rattle.avro_resolve.specs.Inside.Agreeing.{named_ranks, symbol_ranks, symbols_of, Agree, AreCleared, AreNumbered, AreSymbolsMapped, DecidesNameMatch};
 ghost use Rattle.avro_resolve.specs.Inside.Remaining.{Agreed};
-ghost use Rattle.avro_resolve.specs.Inside.Sides.{columns, names_of, rows, IsSides};
+ghost use Rattle.avro_resolve.specs.Inside.Schemas.{columns, names_of, rows, IsSchemaPair};
 ghost use Rattle.avro_resolve.specs.Resolution.{Promotes};
 
 use crate::AllocResult;
-use crate::sides::Sides;
-use avro_nodes::{Kind, Node};
+use crate::schemas::SchemaPair;
+use avro_nodes::{Node, PrimitiveKind};
 use avro_schema::{NamedRanks, Ranks};
 use std::alloc::Global;
 
 /// Whether a reader's primitive type reads a writer's: if it is the same, or by promotion (Schema
 /// Resolution).
-fn promotes(writer: Kind, reader: Kind) -> bool
+fn promotes(writer: PrimitiveKind, reader: PrimitiveKind) -> bool
     ensures { IsTrue result ↔ Promotes writer reader }
 {
     match writer {
-        Kind::Int => matches!(reader, Kind::Int | Kind::Long | Kind::Float | Kind::Double),
-        Kind::Long => matches!(reader, Kind::Long | Kind::Float | Kind::Double),
-        Kind::Float => matches!(reader, Kind::Float | Kind::Double),
-        Kind::Bytes | Kind::Text => matches!(reader, Kind::Bytes | Kind::Text),
-        Kind::Null | Kind::Boolean | Kind::Double => reader == writer,
+        PrimitiveKind::Int => matches!(
+            reader,
+            PrimitiveKind::Int | PrimitiveKind::Long | PrimitiveKind::Float | PrimitiveKind::Double
+        ),
+        PrimitiveKind::Long => matches!(
+            reader,
+            PrimitiveKind::Long | PrimitiveKind::Float | PrimitiveKind::Double
+        ),
+        PrimitiveKind::Float => matches!(reader, PrimitiveKind::Float | PrimitiveKind::Double),
+        PrimitiveKind::Bytes | PrimitiveKind::Text => matches!(
+            reader,
+            PrimitiveKind::Bytes | PrimitiveKind::Text
+        ),
+        PrimitiveKind::Null | PrimitiveKind::Boolean | PrimitiveKind::Double => reader == writer,
     }
 }
 
@@ -75,23 +84,23 @@ fn symbols_of(ranks: &Ranks) -> &[u32]
 
 /// Whether two named types match: by the last parts of their names (Avro 1.11 specification, Schema
 /// Resolution), or by an alias of the reader's (Aliases).
-fn names_match(sides: &Sides, i: u32, j: u32) -> bool
-    requires sides { IsSides sides.now }
-    requires i_in { i < length (rows sides.now) }
-    requires j_in { j < length (columns sides.now) }
-    ensures { (a b : NodeView) → slice_get (rows sides.now) i ≡ Some a
-        → slice_get (columns sides.now) j ≡ Some b → DecidesNameMatch result a b }
+fn names_match(schemas: &SchemaPair, i: u32, j: u32) -> bool
+    requires schemas { IsSchemaPair schemas.now }
+    requires i_in { i < length (rows schemas.now) }
+    requires j_in { j < length (columns schemas.now) }
+    ensures { (a b : NodeView) → slice_get (rows schemas.now) i ≡ Some a
+        → slice_get (columns schemas.now) j ≡ Some b → DecidesNameMatch result a b }
 {
     let (Some(named), Some(wanted)) = (
-        named_of(sides.writer.ranks(i)),
-        named_of(sides.reader.ranks(j)),
+        named_of(schemas.writer.ranks(i)),
+        named_of(schemas.reader.ranks(j)),
     ) else {
         return false;
     };
-    if sides.rank_map.rank(named.last) == Some(wanted.last) {
+    if schemas.rank_map.rank(named.last) == Some(wanted.last) {
         return true;
     }
-    match sides.rank_map.rank(named.full) {
+    match schemas.rank_map.rank(named.full) {
         Some(rank) => wanted.aliases.binary_search(&rank).is_ok(),
         None => false,
     }
@@ -122,16 +131,16 @@ fn alike(a: &Node, b: &Node, matched: bool) -> Option<bool>
 }
 
 /// The reader's ranks of the symbols at a writer's place, or `None` if the reader lacks a symbol.
-pub fn mapped_symbols(alloc: Global, sides: &Sides, i: u32) -> AllocResult<Option<Vec<u32>>>
-    requires sides { IsSides sides.now }
-    requires i_in { i < length (rows sides.now) }
-    ensures { IfOk result (λ o. (a : NodeView) → slice_get (rows sides.now) i ≡ Some a
-        → AreSymbolsMapped (names_of sides.now.reader) (symbols_of a) o) }
+pub fn mapped_symbols(alloc: Global, schemas: &SchemaPair, i: u32) -> AllocResult<Option<Vec<u32>>>
+    requires schemas { IsSchemaPair schemas.now }
+    requires i_in { i < length (rows schemas.now) }
+    ensures { IfOk result (λ o. (a : NodeView) → slice_get (rows schemas.now) i ≡ Some a
+        → AreSymbolsMapped (names_of schemas.now.reader) (symbols_of a) o) }
 {
-    let symbols = symbols_of(sides.writer.ranks(i));
+    let symbols = symbols_of(schemas.writer.ranks(i));
     let mut found = Vec::with_capacity(alloc, symbols.len())?;
     for symbol in symbols {
-        let Some(rank) = sides.rank_map.rank(*symbol) else {
+        let Some(rank) = schemas.rank_map.rank(*symbol) else {
             return Ok(None);
         };
         found.push(rank)?;
@@ -194,38 +203,50 @@ fn has_numbered(list: &[u32], symbols: &[u32], slots: &[usize]) -> bool
 }
 
 /// Whether the nodes at these places agree by themselves.
-pub fn agree(alloc: Global, sides: &Sides, a: &Node, b: &Node, at: (u32, u32)) -> AllocResult<bool>
-    requires sides { IsSides sides.now }
-    requires a_at { slice_get (rows sides.now) at.0 ≡ Some (node_view a.now) }
-    requires b_at { slice_get (columns sides.now) at.1 ≡ Some (node_view b.now) }
+pub fn agree(
+    alloc: Global,
+    schemas: &SchemaPair,
+    a: &Node,
+    b: &Node,
+    at: (u32, u32),
+) -> AllocResult<bool>
+    requires schemas { IsSchemaPair schemas.now }
+    requires a_at { slice_get (rows schemas.now) at.0 ≡ Some (node_view a.now) }
+    requires b_at { slice_get (columns schemas.now) at.1 ≡ Some (node_view b.now) }
     ensures { IfOk result (λ yes. IsTrue yes ↔ Agree (node_view a.now) (node_view b.now)) }
 {
-    if let Some(decided) = alike(a, b, names_match(sides, at.0, at.1)) {
+    if let Some(decided) = alike(a, b, names_match(schemas, at.0, at.1)) {
         return Ok(decided);
     }
-    match mapped_symbols(alloc, sides, at.0)? {
-        Some(symbols) => Ok(has_all(symbols_of(sides.reader.ranks(at.1)), &symbols)),
+    match mapped_symbols(alloc, schemas, at.0)? {
+        Some(symbols) => Ok(has_all(symbols_of(schemas.reader.ranks(at.1)), &symbols)),
         None => Ok(false),
     }
 }
 
 /// The same, given the ranks of the symbols at the writer's place, numbered in the slots.
-pub fn agree_at(sides: &Sides, symbols: &Option<Vec<u32>>, slots: &[usize], i: u32, j: u32) -> bool
-    requires sides { IsSides sides.now }
+pub fn agree_at(
+    schemas: &SchemaPair,
+    symbols: &Option<Vec<u32>>,
+    slots: &[usize],
+    i: u32,
+    j: u32,
+) -> bool
+    requires schemas { IsSchemaPair schemas.now }
     requires numbered { MatchOption symbols.now (Unit {0}) (λ v. AreNumbered slots.now v.items 0 (length v.items)) }
-    requires room { length (names_of sides.now.reader) ≤ length slots.now }
-    requires symbols { (a : NodeView) → slice_get (rows sides.now) i ≡ Some a
-        → AreSymbolsMapped (names_of sides.now.reader) (symbols_of a) symbols.now }
-    requires i_in { i < length sides.now.writer.schema.now }
-    requires j_in { j < length sides.now.reader.schema.now }
-    ensures { IsTrue result ↔ Agreed (rows sides.now) (columns sides.now) i j }
+    requires room { length (names_of schemas.now.reader) ≤ length slots.now }
+    requires symbols { (a : NodeView) → slice_get (rows schemas.now) i ≡ Some a
+        → AreSymbolsMapped (names_of schemas.now.reader) (symbols_of a) symbols.now }
+    requires i_in { i < length schemas.now.writer.schema.now }
+    requires j_in { j < length schemas.now.reader.schema.now }
+    ensures { IsTrue result ↔ Agreed (rows schemas.now) (columns schemas.now) i j }
 {
-    let (a, b) = (sides.writer.node(i), sides.reader.node(j));
-    if let Some(decided) = alike(a, b, names_match(sides, i, j)) {
+    let (a, b) = (schemas.writer.node(i), schemas.reader.node(j));
+    if let Some(decided) = alike(a, b, names_match(schemas, i, j)) {
         return decided;
     }
     match symbols {
-        Some(symbols) => has_numbered(symbols_of(sides.reader.ranks(j)), symbols, slots),
+        Some(symbols) => has_numbered(symbols_of(schemas.reader.ranks(j)), symbols, slots),
         None => false,
     }
 }

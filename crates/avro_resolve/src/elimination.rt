@@ -7,7 +7,7 @@ ghost use Rattle.avro_schema.specs.Texts.{IsSchema};
 ghost use Rattle.avro_resolve.specs.Inside.Referrers.{AreReferrers, AreUnions, HasBranch, IsNoUnion, Joins, MayDepend};
 ghost use Rattle.avro_resolve.specs.Inside.Remaining.{remains, AreRun, AreStillSupported, AreStillSupportedBut, IsRemainder, HasAgreedRemainder, IsStillSupported, IsPopped, DependsOn, Eliminates};
 ghost use Rattle.avro_resolve.specs.Inside.Lists.{list_at};
-ghost use Rattle.avro_resolve.specs.Inside.Sides.{columns, rows};
+ghost use Rattle.avro_resolve.specs.Inside.Schemas.{columns, rows};
 ghost use Rattle.avro_resolve.specs.Resolution.{Closed};
 ghost use Rattle.avro_resolve.specs.Witnesses.{Pair};
 
@@ -17,7 +17,7 @@ use crate::lists::{list_of, unions_in};
 use crate::rows::{
     Progress, eliminate_by_branch, eliminate_disagreeing, eliminate_pair, examine_all,
 };
-use crate::sides::Sides;
+use crate::schemas::SchemaPair;
 use crate::support::any_remaining;
 use crate::table::Table;
 use avro_nodes::Node;
@@ -44,22 +44,22 @@ fn first_at_label(links: &[Link], from: usize, label: u32) -> usize
 /// alias counts only if the field's source has its type at the popped pair's writer's place. Skips
 /// labels that no writer's link has.
 pub fn eliminate_joined(
-    sides: &Sides,
+    schemas: &SchemaPair,
     sources: &[Vec<u16>],
     writer_links: &[Link],
     reader_links: &[Link],
     popped: (u32, u32),
     progress: &mut Progress,
 ) -> AllocResult<()>
-    requires popped { IsPopped sides.now progress.old popped }
+    requires popped { IsPopped schemas.now progress.old popped }
     requires rests { (x y : Link) → Contains writer_links.now x → Contains reader_links.now y → x.label ≡ y.label
-        → MayDepend sources.now popped.0 x y → DependsOn (rows sides.now) (columns sides.now) x.referrer y.referrer popped.0 popped.1 }
-    requires writer_links_in { All (λ x. x.referrer < length sides.now.writer.schema.now) writer_links.now }
-    requires reader_links_in { All (λ y. y.referrer < length sides.now.reader.schema.now) reader_links.now }
+        → MayDepend sources.now popped.0 x y → DependsOn (rows schemas.now) (columns schemas.now) x.referrer y.referrer popped.0 popped.1 }
+    requires writer_links_in { All (λ x. x.referrer < length schemas.now.writer.schema.now) writer_links.now }
+    requires reader_links_in { All (λ y. y.referrer < length schemas.now.reader.schema.now) reader_links.now }
     requires writer_links_sorted { IsNonDecreasingBy (λ (x : Link). x.label) writer_links.now }
     requires reader_links_sorted { IsNonDecreasingBy (λ (y : Link). y.label) reader_links.now }
-    ensures eliminates { OnOk result (Eliminates sides.now progress.old progress.new) }
-    ensures still_supported { OnOk result (Joins sources.now popped.0 (IsStillSupported sides.now progress.new) writer_links.now reader_links.now) }
+    ensures eliminates { OnOk result (Eliminates schemas.now progress.old progress.new) }
+    ensures still_supported { OnOk result (Joins sources.now popped.0 (IsStillSupported schemas.now progress.new) writer_links.now reader_links.now) }
 {
     let mut from = 0;
     for link in writer_links {
@@ -75,23 +75,24 @@ pub fn eliminate_joined(
                 (LinkKind::ByElement, LinkKind::ByElement) | (LinkKind::ByName, LinkKind::ByName) =>
                     true,
                 (LinkKind::ByName, LinkKind::ByAlias(number)) => {
-                    let code = list_of(sources, link.referrer as usize)
+                    let entry = list_of(sources, link.referrer as usize)
                         .get(number)
                         .copied();
-                    u64::from(code.unwrap_or(0)) == u64::from(popped.0) + 1
+                    u64::from(entry.unwrap_or(0)) == u64::from(popped.0) + 1
                 }
                 _ => false,
             };
             if !asks {
                 continue;
             }
-            eliminate_pair(sides, link.referrer, other.referrer, progress)?;
+            eliminate_pair(schemas, link.referrer, other.referrer, progress)?;
         }
     }
     Ok(())
 }
 
-/// The nodes that refer to each place of both sides, and what decides which pairs depend on a pair.
+/// The nodes that refer to each place of both schemas, and what decides which pairs depend on a
+/// pair.
 #[derive(Drop)]
 struct Dependents {
     /// the references to the writer's places
@@ -100,7 +101,7 @@ struct Dependents {
     columns: Links,
     /// the reader's unions
     unions: Vec<u32>,
-    /// for each of the writer's places, the source codes of the reader's fields with aliases
+    /// for each of the writer's places, the source entries of the reader's fields with aliases
     sources: Vec<Vec<u16>>,
 }
 
@@ -135,73 +136,78 @@ fn pop_run(
 
 /// Eliminates the pair of a place, which isn't a union, with each listed union if no branch of it
 /// remains with the place.
-fn examine_unions(sides: &Sides, i: u32, unions: &[u32], progress: &mut Progress) -> AllocResult<()>
-    requires rest { HasAgreedRemainder sides.now progress.old }
-    requires i_in { i < length sides.now.writer.schema.now }
-    requires apart { IsNoUnion (rows sides.now) i }
-    requires within { All (λ j. j < length sides.now.reader.schema.now) unions.now }
-    ensures eliminates { OnOk result (Eliminates sides.now progress.old progress.new) }
-    ensures still_supported { OnOk result (All (λ j. (branches : List ℕ) → slice_get (columns sides.now) j ≡ Some (union branches)
-        → IsStillSupported sides.now progress.new i j) unions.now) }
+fn examine_unions(
+    schemas: &SchemaPair,
+    i: u32,
+    unions: &[u32],
+    progress: &mut Progress,
+) -> AllocResult<()>
+    requires rest { HasAgreedRemainder schemas.now progress.old }
+    requires i_in { i < length schemas.now.writer.schema.now }
+    requires apart { IsNoUnion (rows schemas.now) i }
+    requires within { All (λ j. j < length schemas.now.reader.schema.now) unions.now }
+    ensures eliminates { OnOk result (Eliminates schemas.now progress.old progress.new) }
+    ensures still_supported { OnOk result (All (λ j. (branches : List ℕ) → slice_get (columns schemas.now) j ≡ Some (union branches)
+        → IsStillSupported schemas.now progress.new i j) unions.now) }
 {
     for j in unions {
         if !progress.table.has(i, *j) {
             continue;
         }
-        let Node::Union { branches } = sides.reader.node(*j) else {
+        let Node::Union { branches } = schemas.reader.node(*j) else {
             continue;
         };
         if any_remaining(i, *j, branches, &progress.table) {
             continue;
         }
-        eliminate_pair(sides, i, *j, progress)?;
+        eliminate_pair(schemas, i, *j, progress)?;
     }
     Ok(())
 }
 
-/// Propagates a run to the unions of both sides. If the run is at least as long as the list of the
-/// reader's unions, checks all of them, else those that have one of its places as a branch.
+/// Propagates a run to the unions of both schemas. If the run is at least as long as the list of
+/// the reader's unions, checks all of them, else those that have one of its places as a branch.
 fn propagate_to_unions(
-    sides: &Sides,
+    schemas: &SchemaPair,
     dependents: &Dependents,
     row: u32,
     run: Run,
     progress: &mut Progress,
 ) -> AllocResult<()>
-    requires rest { HasAgreedRemainder sides.now progress.old }
-    requires referrers { AreReferrers sides.now dependents.now.rows dependents.now.columns dependents.now.sources.items }
-    requires unions { AreUnions (columns sides.now) dependents.now.unions.items }
+    requires rest { HasAgreedRemainder schemas.now progress.old }
+    requires referrers { AreReferrers schemas.now dependents.now.rows dependents.now.columns dependents.now.sources.items }
+    requires unions { AreUnions (columns schemas.now) dependents.now.unions.items }
     requires run { AreRun progress.old.table row run.now }
-    ensures eliminates { OnOk result (Eliminates sides.now progress.old progress.new) }
+    ensures eliminates { OnOk result (Eliminates schemas.now progress.old progress.new) }
     ensures down { OnOk result (All (λ u. All (λ (p : Pair). remains progress.new.table u p.1 ≡ false) run.now) (list_at dependents.now.rows.unions.items row)) }
-    ensures along { OnOk result (IsNoUnion (rows sides.now) row
-        → All (λ (p : Pair). All (IsStillSupported sides.now progress.new row) (list_at dependents.now.columns.unions.items p.1)) run.now) }
+    ensures along { OnOk result (IsNoUnion (rows schemas.now) row
+        → All (λ (p : Pair). All (IsStillSupported schemas.now progress.new row) (list_at dependents.now.columns.unions.items p.1)) run.now) }
 {
-    if row >= sides.writer.places() {
+    if row >= schemas.writer.places() {
         return Ok(());
     }
     for union in list_of(&dependents.rows.unions, row as usize) {
         if run.len() >= LONG_RUN {
-            eliminate_by_branch(sides, *union, row, progress)?;
+            eliminate_by_branch(schemas, *union, row, progress)?;
             continue;
         }
         for (_, to) in run {
             let to = u32::from(*to);
-            if to < sides.reader.places() {
-                eliminate_pair(sides, *union, to, progress)?;
+            if to < schemas.reader.places() {
+                eliminate_pair(schemas, *union, to, progress)?;
             }
         }
     }
-    if let Node::Union { .. } = sides.writer.node(row) {
+    if let Node::Union { .. } = schemas.writer.node(row) {
         return Ok(());
     }
     if run.len() >= dependents.unions.len() {
-        examine_unions(sides, row, &dependents.unions, progress)?;
+        examine_unions(schemas, row, &dependents.unions, progress)?;
         return Ok(());
     }
     for (_, j) in run {
         let unions = list_of(&dependents.columns.unions, usize::from(*j));
-        examine_unions(sides, row, unions, progress)?;
+        examine_unions(schemas, row, unions, progress)?;
     }
     Ok(())
 }
@@ -209,27 +215,27 @@ fn propagate_to_unions(
 /// Propagates a run to unions, and to pairs of nodes that refer to both places of one of its pairs
 /// by the same label.
 fn propagate(
-    sides: &Sides,
+    schemas: &SchemaPair,
     dependents: &Dependents,
     row: u32,
     run: Run,
     progress: &mut Progress,
 ) -> AllocResult<()>
-    requires rest { HasAgreedRemainder sides.now progress.old }
-    requires referrers { AreReferrers sides.now dependents.now.rows dependents.now.columns dependents.now.sources.items }
-    requires unions { AreUnions (columns sides.now) dependents.now.unions.items }
+    requires rest { HasAgreedRemainder schemas.now progress.old }
+    requires referrers { AreReferrers schemas.now dependents.now.rows dependents.now.columns dependents.now.sources.items }
+    requires unions { AreUnions (columns schemas.now) dependents.now.unions.items }
     requires run { AreRun progress.old.table row run.now }
-    requires before { AreStillSupportedBut sides.now progress.old run.now }
-    ensures eliminates { OnOk result (Eliminates sides.now progress.old progress.new) }
-    ensures still_supported { OnOk result (AreStillSupported sides.now progress.new) }
+    requires before { AreStillSupportedBut schemas.now progress.old run.now }
+    ensures eliminates { OnOk result (Eliminates schemas.now progress.old progress.new) }
+    ensures still_supported { OnOk result (AreStillSupported schemas.now progress.new) }
 {
-    propagate_to_unions(sides, dependents, row, run, progress)?;
+    propagate_to_unions(schemas, dependents, row, run, progress)?;
     let writer_links = list_of(&dependents.rows.lists, row as usize);
     for (_, j) in run {
         let reader_links = list_of(&dependents.columns.lists, usize::from(*j));
         let popped = (row, u32::from(*j));
         eliminate_joined(
-            sides,
+            schemas,
             &dependents.sources,
             writer_links,
             reader_links,
@@ -252,15 +258,15 @@ pub fn largest_closed(alloc: Global, writer: &Schema, reader: &Schema) -> AllocR
     let (places, others) = (writer.places() as usize, reader.places() as usize);
     let unions = unions_in(alloc, reader)?;
     let mut table = Table::all(alloc, places, others, !unions.is_empty())?;
-    let sides = Sides::of(alloc, writer, reader)?;
-    eliminate_disagreeing(alloc, &sides, &mut table)?;
+    let schemas = SchemaPair::of(alloc, writer, reader)?;
+    eliminate_disagreeing(alloc, &schemas, &mut table)?;
     let mut progress = Progress {
         table,
         eliminated: Vec::new(alloc),
     };
-    let rows = links_of(alloc, &sides.writer, Some(&sides.rank_map))?;
-    let columns = links_of(alloc, &sides.reader, None)?;
-    let sources = examine_all(alloc, &sides, &columns.aliased, &mut progress)?;
+    let rows = links_of(alloc, &schemas.writer, Some(&schemas.rank_map))?;
+    let columns = links_of(alloc, &schemas.reader, None)?;
+    let sources = examine_all(alloc, &schemas, &columns.aliased, &mut progress)?;
     let dependents = Dependents {
         rows,
         columns,
@@ -270,7 +276,13 @@ pub fn largest_closed(alloc: Global, writer: &Schema, reader: &Schema) -> AllocR
     let mut run = Vec::new(alloc);
     while let Some(last) = progress.eliminated.pop() {
         pop_run(&mut progress.eliminated, last, &mut run)?;
-        propagate(&sides, &dependents, u32::from(last.0), &run, &mut progress)?;
+        propagate(
+            &schemas,
+            &dependents,
+            u32::from(last.0),
+            &run,
+            &mut progress,
+        )?;
     }
     Ok(progress.table)
 }

@@ -5,10 +5,10 @@ ghost use Rattle.avro_nodes.specs.Nodes.{field_view, FieldView};
 ghost use Rattle.avro_schema.specs.Index.{AreFieldsRanked, IsFieldRanked};
 ghost use Rattle.avro_resolve.specs.Asking.{source_place};
 ghost use Rattle.avro_resolve.specs.Inside.FieldSlots.{names_in, AreInSlots, AreFieldsInSlots, AreFieldSources, HasSlots, IsClear};
-ghost use Rattle.avro_resolve.specs.Inside.Sides.{names_of};
+ghost use Rattle.avro_resolve.specs.Inside.Schemas.{names_of};
 
 use crate::AllocResult;
-use crate::sides::{Fields, RankMap, Sides};
+use crate::schemas::{Fields, RankMap, SchemaPair};
 use avro_schema::FieldRanks;
 use std::alloc::Global;
 
@@ -46,20 +46,20 @@ pub fn clear_slots(slots: &mut [Option<usize>], rank_map: &RankMap, fields: &[Fi
 /// writer lacks needs no lookup.
 pub fn find_source(
     slots: &[Option<usize>],
-    sides: &Sides,
+    schemas: &SchemaPair,
     fields: Fields,
     names: &FieldRanks,
 ) -> Option<u32>
-    requires in_slots { AreFieldsInSlots sides.now fields slots.now }
-    requires named { (f : FieldView) × IsFieldRanked (names_of sides.now.reader) f names.now }
-    ensures { (f : FieldView) → IsFieldRanked (names_of sides.now.reader) f names.now
+    requires in_slots { AreFieldsInSlots schemas.now fields slots.now }
+    requires named { (f : FieldView) × IsFieldRanked (names_of schemas.now.reader) f names.now }
+    ensures { (f : FieldView) → IsFieldRanked (names_of schemas.now.reader) f names.now
         → result ≡ source_place (map field_view fields.entry.fields.now) f }
 {
     if let Some(own) = slots[names.name as usize] {
         return Some(fields.fields[own].place);
     }
     for alias in &names.aliases {
-        if !sides.rank_map.knows(*alias) {
+        if !schemas.rank_map.knows(*alias) {
             continue;
         }
         if let Some(field) = slots[*alias as usize] {
@@ -73,18 +73,18 @@ pub fn find_source(
 pub fn field_sources(
     alloc: Global,
     slots: &[Option<usize>],
-    sides: &Sides,
+    schemas: &SchemaPair,
     fields: Fields,
     wanted: Fields,
 ) -> AllocResult<Vec<Option<u16>>>
-    requires in_slots { AreFieldsInSlots sides.now fields slots.now }
+    requires in_slots { AreFieldsInSlots schemas.now fields slots.now }
     requires fields_in { All (λ g. g.place < 65535) fields.fields.now }
-    requires named { AreFieldsRanked (names_of sides.now.reader) (map field_view wanted.fields.now) wanted.ranks.now }
+    requires named { AreFieldsRanked (names_of schemas.now.reader) (map field_view wanted.fields.now) wanted.ranks.now }
     ensures { IfOk result (λ v. AreFieldSources (map field_view fields.entry.fields.now) (map field_view wanted.entry.fields.now) v.items) }
 {
     let mut places = Vec::with_capacity(alloc, wanted.ranks.len())?;
     for names in wanted.ranks {
-        let place = find_source(slots, sides, fields, names);
+        let place = find_source(slots, schemas, fields, names);
         places.push(place.map(|place| place as u16))?;
     }
     Ok(places)

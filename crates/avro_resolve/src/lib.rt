@@ -12,7 +12,7 @@ mod readable;
 mod recursion;
 mod resolving;
 mod rows;
-mod sides;
+mod schemas;
 mod support;
 mod table;
 mod work_meter;

@@ -4,12 +4,12 @@
 ghost use Rattle.std.specs.Prelude.{◌<◌, ◌≡◌, length, slice_get, All, Contains, IfOk, OnOk, Some};
 ghost use Rattle.avro_nodes.specs.Nodes.{NodeView};
 ghost use Rattle.avro_resolve.specs.Inside.Referrers.{ranks_of, HasReferrers, HasLabel, IsOfNode, IsPlaceLinked, LinkedBy, OnlyAddsLinks};
-ghost use Rattle.avro_resolve.specs.Inside.Sides.{names_of, nodes_of, IsSide};
+ghost use Rattle.avro_resolve.specs.Inside.Schemas.{names_of, nodes_of, IsIndexedSchema};
 
 use crate::AllocResult;
 use crate::lists::{add_at, empty_lists, unions_of};
 use crate::readable::Aliased;
-use crate::sides::{RankMap, Side};
+use crate::schemas::{IndexedSchema, RankMap};
 use avro_nodes::Node;
 use std::alloc::Global;
 
@@ -34,7 +34,7 @@ pub struct Link {
     pub kind: LinkKind,
 }
 
-/// The references to each place of a side.
+/// The references to each place of a schema.
 #[derive(Drop)]
 pub struct Links {
     /// for each place, the unions that have it as a branch
@@ -48,10 +48,11 @@ pub struct Links {
 /// The label of items and values. A name may have this rank too; the link's kind shows which it is.
 const ELEMENT_LABEL: u32 = 0;
 
-/// Adds a link from the place `at` to the place `to` for each label. Skips adjacent duplicates.
+/// For each label, adds to the links of the place `to` one whose referrer is the place `at`. Skips
+/// adjacent duplicates.
 fn add_links(links: &mut Links, labels: &[u32], kind: LinkKind, to: u32, at: u32) -> AllocResult<()>
     requires { to < length links.old.lists.items }
-    ensures notes { OnOk result (OnlyAddsLinks (λ x p. Contains labels.now x.label × (x.kind ≡ kind) × (x.referrer ≡ at) × (p ≡ to)) links.old links.new) }
+    ensures only_adds { OnOk result (OnlyAddsLinks (λ x p. Contains labels.now x.label × (x.kind ≡ kind) × (x.referrer ≡ at) × (p ≡ to)) links.old links.new) }
     ensures there { OnOk result (All (λ label. LinkedBy (HasLabel label kind) links.new.lists.items at to) labels.now) }
 {
     for index in 0..labels.len() {
@@ -73,19 +74,19 @@ fn add_links(links: &mut Links, labels: &[u32], kind: LinkKind, to: u32, at: u32
 fn add_node_links(
     links: &mut Links,
     rank_map: Option<&RankMap>,
-    side: &Side,
+    indexed: &IndexedSchema,
     referrer: u32,
 ) -> AllocResult<()>
-    requires side { IsSide side.now }
-    requires asker_in { referrer < length side.now.schema.now }
-    requires long { length links.old.lists.items ≡ length side.now.schema.now }
-    ensures notes { OnOk result (OnlyAddsLinks (λ x p. (x.referrer ≡ referrer) × ((a : NodeView)
-        → slice_get (nodes_of side.now) referrer ≡ Some a
-        → IsOfNode (names_of side.now) (ranks_of rank_map.entry) links.new.aliased.items a x p)) links.old links.new) }
-    ensures there { OnOk result ((a : NodeView) → slice_get (nodes_of side.now) referrer ≡ Some a
-        → IsPlaceLinked (names_of side.now) (ranks_of rank_map.entry) links.new referrer a) }
+    requires indexed { IsIndexedSchema indexed.now }
+    requires asker_in { referrer < length indexed.now.schema.now }
+    requires long { length links.old.lists.items ≡ length indexed.now.schema.now }
+    ensures only_adds { OnOk result (OnlyAddsLinks (λ x p. (x.referrer ≡ referrer) × ((a : NodeView)
+        → slice_get (nodes_of indexed.now) referrer ≡ Some a
+        → IsOfNode (names_of indexed.now) (ranks_of rank_map.entry) links.new.aliased.items a x p)) links.old links.new) }
+    ensures there { OnOk result ((a : NodeView) → slice_get (nodes_of indexed.now) referrer ≡ Some a
+        → IsPlaceLinked (names_of indexed.now) (ranks_of rank_map.entry) links.new referrer a) }
 {
-    if let Node::Array { items: place, .. } | Node::Map { values: place, .. } = side.node(
+    if let Node::Array { items: place, .. } | Node::Map { values: place, .. } = indexed.node(
         referrer,
     ) {
         add_links(
@@ -97,7 +98,7 @@ fn add_node_links(
         )?;
         return Ok(());
     }
-    let fields = side.fields(referrer);
+    let fields = indexed.fields(referrer);
     for index in 0..fields.fields.len() {
         let (place, ranks) = (fields.fields[index].place, &fields.ranks[index]);
         let own = rank_map.map_or(Some(ranks.name), |rank_map| rank_map.rank(ranks.name));
@@ -117,19 +118,23 @@ fn add_node_links(
     Ok(())
 }
 
-/// For each place of a side the unions that have it as a branch, and its links, sorted by label.
-/// `rank_map` is `None` for the reader's side. Only that side has links by aliases.
-pub fn links_of(alloc: Global, side: &Side, rank_map: Option<&RankMap>) -> AllocResult<Links>
-    requires { IsSide side.now }
-    ensures { IfOk result (λ a. HasReferrers (names_of side.now) (ranks_of rank_map.entry) (nodes_of side.now) a) }
+/// For each place of a schema the unions that have it as a branch, and its links, sorted by label.
+/// `rank_map` is `None` for the reader's schema. Only that schema has links by aliases.
+pub fn links_of(
+    alloc: Global,
+    indexed: &IndexedSchema,
+    rank_map: Option<&RankMap>,
+) -> AllocResult<Links>
+    requires { IsIndexedSchema indexed.now }
+    ensures { IfOk result (λ a. HasReferrers (names_of indexed.now) (ranks_of rank_map.entry) (nodes_of indexed.now) a) }
 {
     let mut links = Links {
-        unions: unions_of(alloc, side.schema)?,
-        lists: empty_lists(alloc, side.places())?,
+        unions: unions_of(alloc, indexed.schema)?,
+        lists: empty_lists(alloc, indexed.places())?,
         aliased: Vec::new(alloc),
     };
-    for i in 0..side.places() {
-        add_node_links(&mut links, rank_map, side, i)?;
+    for i in 0..indexed.places() {
+        add_node_links(&mut links, rank_map, indexed, i)?;
     }
     for place in 0..links.lists.len() {
         links.lists[place].sort_unstable_by_key(|link| link.label);

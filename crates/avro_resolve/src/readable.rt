@@ -1,5 +1,5 @@
 //! Whether a reader's fields can be read from a writer's place whose fields are in the slots. For
-//! fields with aliases, a table of source codes by writer's place finds the source in one lookup.
+//! fields with aliases, a table of source entries by writer's place finds the source in one lookup.
 
 ghost use Rattle.std.specs.Prelude.{◌<◌, ◌↔◌, ◌≡◌, map, slice_get, All, IfOk, IfSome, IsTrue, List, Some, ℕ};
 ghost use Rattle.std.specs.List.{AllZip};
@@ -9,14 +9,14 @@ ghost use Rattle.avro_resolve.specs.Inside.Agreeing.{fields_of};
 ghost use Rattle.avro_resolve.specs.Inside.FieldSlots.{AreFieldsInSlots};
 ghost use Rattle.avro_resolve.specs.Inside.Remaining.{remains};
 ghost use Rattle.avro_resolve.specs.Inside.Rows.{row_fields, IsFieldSource, IsPairInTable, IsWriterPlace};
-ghost use Rattle.avro_resolve.specs.Inside.Sides.{columns, IsSide};
-ghost use Rattle.avro_resolve.specs.Inside.Sources.{field_at, Describes, IsSourceCode, IsReaderField};
+ghost use Rattle.avro_resolve.specs.Inside.Schemas.{columns, IsIndexedSchema};
+ghost use Rattle.avro_resolve.specs.Inside.Sources.{field_at, Describes, IsSourceEntry, IsReaderField};
 ghost use Rattle.avro_resolve.specs.Resolution.{Readable};
-ghost use Rattle.avro_resolve.specs.declared.sides.Sides.{Sides};
+ghost use Rattle.avro_resolve.specs.declared.schemas.SchemaPair.{SchemaPair};
 
 use crate::AllocResult;
 use crate::field_slots::find_source;
-use crate::sides::{Fields, Side, Sides};
+use crate::schemas::{Fields, IndexedSchema, SchemaPair};
 use crate::table::Table;
 use avro_nodes::Field;
 use avro_schema::FieldRanks;
@@ -63,14 +63,14 @@ fn reader_field<'a>(field: &Field, names: &'a FieldRanks) -> ReaderField<'a>
 }
 
 /// Looks up a field that has aliases. `None`: the schema has no such field.
-fn reader_field_of<'a>(side: &'a Side, aliased: Aliased) -> Option<ReaderField<'a>>
-    requires { IsSide side.now }
-    ensures { IsReaderField side.now aliased result }
+fn reader_field_of<'a>(indexed: &'a IndexedSchema, aliased: Aliased) -> Option<ReaderField<'a>>
+    requires { IsIndexedSchema indexed.now }
+    ensures { IsReaderField indexed.now aliased result }
 {
-    if aliased.place >= side.places() {
+    if aliased.place >= indexed.places() {
         return None;
     }
-    let found = side.fields(aliased.place);
+    let found = indexed.fields(aliased.place);
     let field = found.fields.get(aliased.index)?;
     Some(reader_field(field, found.ranks.get(aliased.index)?))
 }
@@ -78,15 +78,15 @@ fn reader_field_of<'a>(side: &'a Side, aliased: Aliased) -> Option<ReaderField<'
 /// Looks up each of these fields.
 pub fn reader_fields_of<'a>(
     alloc: Global,
-    side: &'a Side,
+    indexed: &'a IndexedSchema,
     aliased: &[Aliased],
 ) -> AllocResult<Vec<Option<ReaderField<'a>>>>
-    requires { IsSide side.now }
-    ensures { IfOk result (λ v. AllZip (IsReaderField side.now) aliased.now v.items) }
+    requires { IsIndexedSchema indexed.now }
+    ensures { IfOk result (λ v. AllZip (IsReaderField indexed.now) aliased.now v.items) }
 {
     let mut wanted = Vec::with_capacity(alloc, aliased.len())?;
     for field in aliased {
-        wanted.push(reader_field_of(side, *field))?;
+        wanted.push(reader_field_of(indexed, *field))?;
     }
     Ok(wanted)
 }
@@ -102,19 +102,19 @@ pub fn firsts_of(alloc: Global, places: u32, fields: &[Aliased]) -> AllocResult<
     Ok(firsts)
 }
 
-/// The source code of each of the reader's fields with aliases, for the writer's fields in the
+/// The source entry of each of the reader's fields with aliases, for the writer's fields in the
 /// slots: the place of the source's type plus 1, or 0 without a source.
-pub fn source_codes(
+pub fn source_entries(
     alloc: Global,
     slots: &[Option<usize>],
-    sides: &Sides,
+    schemas: &SchemaPair,
     fields: Fields,
     aliased_fields: AliasedFields,
 ) -> AllocResult<Vec<u16>>
-    requires in_slots { AreFieldsInSlots sides.now fields slots.now }
+    requires in_slots { AreFieldsInSlots schemas.now fields slots.now }
     requires fields_in { All (λ g. g.place < 65535) fields.fields.now }
-    requires wanted { AllZip (IsReaderField sides.now.reader) aliased_fields.aliased.now aliased_fields.wanted.now }
-    ensures { IfOk result (λ v. AllZip (IsSourceCode (columns sides.now) (map field_view fields.entry.fields.now))
+    requires wanted { AllZip (IsReaderField schemas.now.reader) aliased_fields.aliased.now aliased_fields.wanted.now }
+    ensures { IfOk result (λ v. AllZip (IsSourceEntry (columns schemas.now) (map field_view fields.entry.fields.now))
         aliased_fields.entry.aliased.now v.items) }
 {
     if fields.fields.is_empty() {
@@ -123,7 +123,7 @@ pub fn source_codes(
     let mut row = Vec::with_capacity(alloc, aliased_fields.wanted.len())?;
     for wanted in aliased_fields.wanted {
         let place = match wanted {
-            Some(wanted) => find_source(slots, sides, fields, wanted.names),
+            Some(wanted) => find_source(slots, schemas, fields, wanted.names),
             None => None,
         };
         row.push(place.map_or(0, |place| place as u16 + 1))?;
@@ -140,7 +140,7 @@ pub struct WriterPlace<'a> {
     pub slots: &'a [Option<usize>],
     /// the reader's fields that have aliases
     pub aliased_fields: AliasedFields<'a>,
-    /// the source codes of these fields at this place
+    /// the source entries of these fields at this place
     pub entries: &'a [u16],
 }
 
@@ -151,8 +151,8 @@ fn known_source<'a>(
     number: usize,
     field: Aliased,
 ) -> Option<(Option<u32>, ReaderField<'a>)>
-    ensures { IfSome result (λ known. (sides : Sides) (f : FieldView) → IsWriterPlace sides row.now
-        → field_at (columns sides) field ≡ Some f → IsFieldSource sides row.now known.0 known.1 f) }
+    ensures { IfSome result (λ known. (schemas : SchemaPair) (f : FieldView) → IsWriterPlace schemas row.now
+        → field_at (columns schemas) field ≡ Some f → IsFieldSource schemas row.now known.0 known.1 f) }
 {
     if *row.aliased_fields.aliased.get(number)? != field {
         return None;
@@ -165,12 +165,12 @@ fn known_source<'a>(
 }
 
 /// Whether each field of a reader's record can be read from the writer's place.
-pub fn all_readable(sides: &Sides, row: &WriterPlace, j: u32, table: &Table) -> bool
-    requires { IsPairInTable sides.now row.now table.now j }
-    ensures { (b : NodeView) → slice_get (columns sides.now) j ≡ Some b
+pub fn all_readable(schemas: &SchemaPair, row: &WriterPlace, j: u32, table: &Table) -> bool
+    requires { IsPairInTable schemas.now row.now table.now j }
+    ensures { (b : NodeView) → slice_get (columns schemas.now) j ≡ Some b
         → IsTrue result ↔ All (Readable (remains table.now) (row_fields row.now)) (fields_of b) }
 {
-    let wanted = sides.reader.fields(j);
+    let wanted = schemas.reader.fields(j);
     let mut number = row
         .aliased_fields
         .firsts
@@ -185,7 +185,7 @@ pub fn all_readable(sides: &Sides, row: &WriterPlace, j: u32, table: &Table) -> 
             }
             None => {
                 let (field, names) = (&wanted.fields[index], &wanted.ranks[index]);
-                let source = find_source(row.slots, sides, row.fields, names);
+                let source = find_source(row.slots, schemas, row.fields, names);
                 (source, reader_field(field, names))
             }
         };

@@ -5,7 +5,7 @@ ghost use Rattle.avro_nodes.specs.Nodes.{field_view, node_view};
 ghost use Rattle.avro_resolve.specs.Inside.Agreeing.{Agree};
 ghost use Rattle.avro_resolve.specs.Inside.Reachable.{AreReachable, IsReachablePair, IsSourceReachable};
 ghost use Rattle.avro_resolve.specs.Inside.FieldSlots.{AreFieldSources};
-ghost use Rattle.avro_resolve.specs.Inside.Sides.{columns, rows};
+ghost use Rattle.avro_resolve.specs.Inside.Schemas.{columns, rows};
 ghost use Rattle.avro_resolve.specs.Inside.Walking.{MayContinue, WalkAnswerHolds};
 ghost use Rattle.avro_resolve.specs.Resolution.{Fits, Readable, Supports};
 ghost use Rattle.avro_resolve.specs.Witnesses.{member, without};
@@ -13,7 +13,7 @@ ghost use Rattle.avro_resolve.specs.Witnesses.{member, without};
 use crate::AllocResult;
 use crate::agreeing::agree;
 use crate::pair_set::PairSet;
-use crate::sides::Sides;
+use crate::schemas::SchemaPair;
 use crate::work_meter::WorkMeter;
 use avro_nodes::{Field, Node};
 use std::alloc::Global;
@@ -59,10 +59,16 @@ const MAX_OPEN: usize = 1000;
 /// The answer for a pair: `Yes` if it is assumed, `No` if it failed. Any other pair is opened and
 /// assumed. If it then isn't supported, it fails, and the assumptions made since are withdrawn.
 #[cycle(walk)]
-pub fn ask(sides: &Sides, i: u32, j: u32, depth: usize, walk: &mut Walk) -> AnswerResult
-    requires ready { MayContinue sides.now depth walk.old }
-    requires reachable { IsReachablePair (rows sides.now) (columns sides.now) i j }
-    ensures { IfOk result (λ answer. WalkAnswerHolds sides.now depth walk.old walk.new
+pub fn check_pair(
+    schemas: &SchemaPair,
+    i: u32,
+    j: u32,
+    depth: usize,
+    walk: &mut Walk,
+) -> AnswerResult
+    requires ready { MayContinue schemas.now depth walk.old }
+    requires reachable { IsReachablePair (rows schemas.now) (columns schemas.now) i j }
+    ensures { IfOk result (λ answer. WalkAnswerHolds schemas.now depth walk.old walk.new
         (IsTrue (member walk.new.assumed.items i j))
         ((walk.new.assumed.items ≡ walk.old.assumed.items) × IsTrue (member walk.new.failed.items i j)) answer) }
 {
@@ -80,7 +86,7 @@ pub fn ask(sides: &Sides, i: u32, j: u32, depth: usize, walk: &mut Walk) -> Answ
     walk.visits += 1;
     walk.assumed_set.insert(i, j)?;
     walk.assumed.push((i as u16, j as u16))?;
-    match is_supported(sides, (i, j), depth + 1, walk)? {
+    match is_supported(schemas, (i, j), depth + 1, walk)? {
         Answer::No => {}
         outcome => return Ok(outcome),
     }
@@ -96,44 +102,44 @@ pub fn ask(sides: &Sides, i: u32, j: u32, depth: usize, walk: &mut Walk) -> Answ
 
 /// Whether the pair is supported, if it is assumed.
 #[cycle(walk)]
-fn is_supported(sides: &Sides, at: (u32, u32), depth: usize, walk: &mut Walk) -> AnswerResult
-    requires ready { MayContinue sides.now depth walk.old }
-    requires reachable { IsReachablePair (rows sides.now) (columns sides.now) at.0 at.1 }
-    ensures { IfOk result (λ answer. WalkAnswerHolds sides.now depth walk.old walk.new
-        (Supports (rows sides.now) (columns sides.now) (member walk.new.assumed.items) at.0 at.1)
-        (Supports (rows sides.now) (columns sides.now) (without walk.new.failed.items) at.0 at.1 → ⊥) answer) }
+fn is_supported(schemas: &SchemaPair, at: (u32, u32), depth: usize, walk: &mut Walk) -> AnswerResult
+    requires ready { MayContinue schemas.now depth walk.old }
+    requires reachable { IsReachablePair (rows schemas.now) (columns schemas.now) at.0 at.1 }
+    ensures { IfOk result (λ answer. WalkAnswerHolds schemas.now depth walk.old walk.new
+        (Supports (rows schemas.now) (columns schemas.now) (member walk.new.assumed.items) at.0 at.1)
+        (Supports (rows schemas.now) (columns schemas.now) (without walk.new.failed.items) at.0 at.1 → ⊥) answer) }
 {
-    let (a, b) = (sides.writer.node(at.0), sides.reader.node(at.1));
+    let (a, b) = (schemas.writer.node(at.0), schemas.reader.node(at.1));
     walk.meter.compare(a, b);
-    let agreed = agree(walk.alloc, sides, a, b, at)?;
+    let agreed = agree(walk.alloc, schemas, a, b, at)?;
     if !agreed {
         return Ok(Answer::No);
     }
-    fits(sides, a, b, at, depth, walk)
+    fits(schemas, a, b, at, depth, walk)
 }
 
 /// Whether a pair of nodes that agree is supported, by the first case that fits.
 #[cycle(walk)]
 fn fits(
-    sides: &Sides,
+    schemas: &SchemaPair,
     a: &Node,
     b: &Node,
     at: (u32, u32),
     depth: usize,
     walk: &mut Walk,
 ) -> AnswerResult
-    requires ready { MayContinue sides.now depth walk.old }
-    requires a_at { slice_get (rows sides.now) at.0 ≡ Some (node_view a.now) }
-    requires b_at { slice_get (columns sides.now) at.1 ≡ Some (node_view b.now) }
-    requires reachable { AreReachable (rows sides.now) (columns sides.now) at.0 at.1 (node_view a.now) (node_view b.now) }
+    requires ready { MayContinue schemas.now depth walk.old }
+    requires a_at { slice_get (rows schemas.now) at.0 ≡ Some (node_view a.now) }
+    requires b_at { slice_get (columns schemas.now) at.1 ≡ Some (node_view b.now) }
+    requires reachable { AreReachable (rows schemas.now) (columns schemas.now) at.0 at.1 (node_view a.now) (node_view b.now) }
     requires agreed { Agree (node_view a.now) (node_view b.now) }
-    ensures { IfOk result (λ answer. WalkAnswerHolds sides.now depth walk.old walk.new
+    ensures { IfOk result (λ answer. WalkAnswerHolds schemas.now depth walk.old walk.new
         (Fits (member walk.new.assumed.items) at.0 at.1 (node_view a.now) (node_view b.now))
         (Fits (without walk.new.failed.items) at.0 at.1 (node_view a.now) (node_view b.now) → ⊥) answer) }
 {
     if let Node::Union { branches } = a {
         for p in branches {
-            match ask(sides, *p, at.1, depth, walk)? {
+            match check_pair(schemas, *p, at.1, depth, walk)? {
                 Answer::Yes => {}
                 outcome => return Ok(outcome),
             }
@@ -142,7 +148,7 @@ fn fits(
     }
     if let Node::Union { branches } = b {
         for q in branches {
-            match ask(sides, at.0, *q, depth, walk)? {
+            match check_pair(schemas, at.0, *q, depth, walk)? {
                 Answer::No => {}
                 outcome => return Ok(outcome),
             }
@@ -151,14 +157,14 @@ fn fits(
     }
     match (a, b) {
         (Node::Array { items: p, .. }, Node::Array { items: q, .. }) => {
-            ask(sides, *p, *q, depth, walk)
+            check_pair(schemas, *p, *q, depth, walk)
         }
         (Node::Map { values: p, .. }, Node::Map { values: q, .. }) => {
-            ask(sides, *p, *q, depth, walk)
+            check_pair(schemas, *p, *q, depth, walk)
         }
         (Node::Rec { fields, .. }, Node::Rec { fields: wanted, .. }) => {
-            let sources = walk.meter.sources(walk.alloc, sides, at.0, at.1)?;
-            all_readable(sides, fields, &sources, wanted, depth, walk)
+            let sources = walk.meter.sources(walk.alloc, schemas, at.0, at.1)?;
+            all_readable(schemas, fields, &sources, wanted, depth, walk)
         }
         _ => Ok(Answer::Yes),
     }
@@ -167,17 +173,17 @@ fn fits(
 /// Whether each of the reader's fields can be read, in their order.
 #[cycle(walk)]
 fn all_readable(
-    sides: &Sides,
+    schemas: &SchemaPair,
     fields: &[Field],
     sources: &[Option<u16>],
     wanted: &[Field],
     depth: usize,
     walk: &mut Walk,
 ) -> AnswerResult
-    requires ready { MayContinue sides.now depth walk.old }
+    requires ready { MayContinue schemas.now depth walk.old }
     requires sources { AreFieldSources (map field_view fields.now) (map field_view wanted.now) sources.now }
-    requires reachable { All (λ f. IsSourceReachable (rows sides.now) (columns sides.now) (map field_view fields.now) (field_view f)) wanted.now }
-    ensures { IfOk result (λ answer. WalkAnswerHolds sides.now depth walk.old walk.new
+    requires reachable { All (λ f. IsSourceReachable (rows schemas.now) (columns schemas.now) (map field_view fields.now) (field_view f)) wanted.now }
+    ensures { IfOk result (λ answer. WalkAnswerHolds schemas.now depth walk.old walk.new
         (All (λ f. Readable (member walk.new.assumed.items) (map field_view fields.now) (field_view f)) wanted.now)
         (Any (λ f. Readable (without walk.new.failed.items) (map field_view fields.now) (field_view f) → ⊥) wanted.now) answer) }
 {
@@ -185,7 +191,7 @@ fn all_readable(
     for index in 0..wanted.len() {
         let f = &wanted[index];
         match sources[index] {
-            Some(p) => match ask(sides, u32::from(p), f.place, depth, walk)? {
+            Some(p) => match check_pair(schemas, u32::from(p), f.place, depth, walk)? {
                 Answer::Yes => {}
                 outcome => return Ok(outcome),
             },

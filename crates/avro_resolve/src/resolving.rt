@@ -9,8 +9,8 @@ ghost use Rattle.avro_resolve.specs.Witnesses.{HasClosedSet, HasRefutation, Pair
 
 use crate::elimination::largest_closed;
 use crate::pair_set::PairSet;
-use crate::recursion::{Answer, Walk, ask};
-use crate::sides::Sides;
+use crate::recursion::{Answer, Walk, check_pair};
+use crate::schemas::SchemaPair;
 use crate::work_meter::WorkMeter;
 use avro_nodes::OutOfMemory;
 use avro_schema::Schema;
@@ -59,12 +59,12 @@ pub fn resolves(alloc: Global, writer: &Schema, reader: &Schema) -> Result<Verdi
         → HasRefutation (nodes_view writer.now) (nodes_view reader.now) v.visits) }
     ensures reached { IfOk result (λ v. (ps : List Pair) → AreReached (nodes_view writer.now) (nodes_view reader.now) ps
         → v.visits ≤ length ps * length ps) }
-    // each such list contains all pairs that the roots reach
+    // the same for any list that contains at least the pairs that the roots reach
     ensures at_most { IfOk result (λ v. (ps : List Pair) → ContainsAsked (nodes_view writer.now) (nodes_view reader.now) ps
         → v.visits ≤ length ps * length ps) }
 {
     let (_rows, columns) = (writer.places(), reader.places());
-    let sides = Sides::of(alloc, writer, reader)?;
+    let schemas = SchemaPair::of(alloc, writer, reader)?;
     let mut walk = Walk {
         alloc,
         assumed: Vec::new(alloc),
@@ -74,7 +74,7 @@ pub fn resolves(alloc: Global, writer: &Schema, reader: &Schema) -> Result<Verdi
         visits: 0,
         meter: WorkMeter::none(alloc),
     };
-    let answer = ask(&sides, 0, 0, 0, &mut walk)?;
+    let answer = check_pair(&schemas, 0, 0, 0, &mut walk)?;
     let visits = walk.visits;
     drop(walk);
     let yes = match answer {

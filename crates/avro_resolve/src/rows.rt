@@ -6,7 +6,7 @@ ghost use Rattle.avro_nodes.specs.Nodes.{NodeView};
 ghost use Rattle.avro_resolve.specs.Inside.Referrers.{HasBranch};
 ghost use Rattle.avro_resolve.specs.Inside.Remaining.{remains, AreStillSupported, IsRemainder, IsAgreedRemainder, HasAgreedRemainder, IsRowStillSupported, IsStillSupported, Eliminates};
 ghost use Rattle.avro_resolve.specs.Inside.Rows.{IsWriterPlace};
-ghost use Rattle.avro_resolve.specs.Inside.Sides.{columns, rows, IsSides};
+ghost use Rattle.avro_resolve.specs.Inside.Schemas.{columns, rows, IsSchemaPair};
 ghost use Rattle.avro_resolve.specs.Inside.Sources.{AreSources};
 ghost use Rattle.avro_resolve.specs.Resolution.{Supports};
 
@@ -14,9 +14,9 @@ use crate::AllocResult;
 use crate::agreeing::{agree_at, clear_numbers, mapped_symbols, number_symbols, ranks_or_empty};
 use crate::field_slots::{clear_slots, fill_slots};
 use crate::readable::{
-    Aliased, AliasedFields, WriterPlace, firsts_of, reader_fields_of, source_codes,
+    Aliased, AliasedFields, WriterPlace, firsts_of, reader_fields_of, source_entries,
 };
-use crate::sides::Sides;
+use crate::schemas::SchemaPair;
 use crate::support::supports;
 use crate::table::Table;
 use avro_nodes::Node;
@@ -33,13 +33,18 @@ pub struct Progress {
 
 /// If the pair remains, eliminates it and puts it on the worklist. The remaining pairs must not
 /// support it.
-pub fn eliminate_pair(sides: &Sides, i: u32, j: u32, progress: &mut Progress) -> AllocResult<()>
-    requires rest { HasAgreedRemainder sides.now progress.old }
-    requires i_in { i < length sides.now.writer.schema.now }
-    requires j_in { j < length sides.now.reader.schema.now }
-    requires unsupported { Supports (rows sides.now) (columns sides.now) (remains progress.old.table) i j → ⊥ }
-    ensures eliminates { OnOk result (Eliminates sides.now progress.old progress.new) }
-    ensures still_supported { OnOk result (IsStillSupported sides.now progress.new i j) }
+pub fn eliminate_pair(
+    schemas: &SchemaPair,
+    i: u32,
+    j: u32,
+    progress: &mut Progress,
+) -> AllocResult<()>
+    requires rest { HasAgreedRemainder schemas.now progress.old }
+    requires i_in { i < length schemas.now.writer.schema.now }
+    requires j_in { j < length schemas.now.reader.schema.now }
+    requires unsupported { Supports (rows schemas.now) (columns schemas.now) (remains progress.old.table) i j → ⊥ }
+    ensures eliminates { OnOk result (Eliminates schemas.now progress.old progress.new) }
+    ensures still_supported { OnOk result (IsStillSupported schemas.now progress.new i j) }
     ensures gone { OnOk result (remains progress.new.table i j ≡ false) }
 {
     if !progress.table.has(i, j) {
@@ -51,19 +56,23 @@ pub fn eliminate_pair(sides: &Sides, i: u32, j: u32, progress: &mut Progress) ->
 }
 
 /// Eliminates all pairs whose nodes disagree.
-pub fn eliminate_disagreeing(alloc: Global, sides: &Sides, table: &mut Table) -> AllocResult<()>
-    requires sides { IsSides sides.now }
-    requires rest { IsRemainder (rows sides.now) (columns sides.now) table.old }
-    ensures { OnOk result (IsAgreedRemainder (rows sides.now) (columns sides.now) table.new) }
+pub fn eliminate_disagreeing(
+    alloc: Global,
+    schemas: &SchemaPair,
+    table: &mut Table,
+) -> AllocResult<()>
+    requires schemas { IsSchemaPair schemas.now }
+    requires rest { IsRemainder (rows schemas.now) (columns schemas.now) table.old }
+    ensures { OnOk result (IsAgreedRemainder (rows schemas.now) (columns schemas.now) table.new) }
 {
-    let mut made = vec![in alloc; 0usize; sides.reader.index.names.len()]?;
+    let mut made = vec![in alloc; 0usize; schemas.reader.index.names.len()]?;
     let slots = made.as_mut_slice();
-    for i in 0..sides.writer.places() {
-        let symbols = mapped_symbols(alloc, sides, i)?;
+    for i in 0..schemas.writer.places() {
+        let symbols = mapped_symbols(alloc, schemas, i)?;
         let ranks = ranks_or_empty(&symbols);
         number_symbols(slots, ranks);
-        for j in 0..sides.reader.places() {
-            if !table.has(i, j) || agree_at(sides, &symbols, slots, i, j) {
+        for j in 0..schemas.reader.places() {
+            if !table.has(i, j) || agree_at(schemas, &symbols, slots, i, j) {
                 continue;
             }
             table.eliminate(i, j);
@@ -76,76 +85,76 @@ pub fn eliminate_disagreeing(alloc: Global, sides: &Sides, table: &mut Table) ->
 /// Eliminates the pair of a writer's union with each of the reader's places with which this branch
 /// was eliminated.
 pub fn eliminate_by_branch(
-    sides: &Sides,
+    schemas: &SchemaPair,
     union: u32,
     branch: u32,
     progress: &mut Progress,
 ) -> AllocResult<()>
-    requires rest { HasAgreedRemainder sides.now progress.old }
-    requires union_in { union < length sides.now.writer.schema.now }
-    requires branch_in { branch < length sides.now.writer.schema.now }
-    requires meant { (a : NodeView) → slice_get (rows sides.now) union ≡ Some a → HasBranch a branch }
-    ensures eliminates { OnOk result (Eliminates sides.now progress.old progress.new) }
+    requires rest { HasAgreedRemainder schemas.now progress.old }
+    requires union_in { union < length schemas.now.writer.schema.now }
+    requires branch_in { branch < length schemas.now.writer.schema.now }
+    requires meant { (a : NodeView) → slice_get (rows schemas.now) union ≡ Some a → HasBranch a branch }
+    ensures eliminates { OnOk result (Eliminates schemas.now progress.old progress.new) }
     ensures gone { OnOk result ((j : ℕ) → remains progress.old.table branch j ≡ false → remains progress.new.table union j ≡ false) }
 {
-    let places = sides.reader.places() as usize;
+    let places = schemas.reader.places() as usize;
     let mut at = progress.table.next_difference(union, branch, 0);
     while at < places {
-        eliminate_pair(sides, union, at as u32, progress)?;
+        eliminate_pair(schemas, union, at as u32, progress)?;
         at = progress.table.next_difference(union, branch, at + 1);
     }
     Ok(())
 }
 
 /// Examines all pairs of a row, and eliminates those that the remaining pairs don't support.
-fn examine_row(sides: &Sides, row: &WriterPlace, progress: &mut Progress) -> AllocResult<()>
-    requires row { IsWriterPlace sides.now row.now }
-    requires rest { HasAgreedRemainder sides.now progress.old }
-    ensures eliminates { OnOk result (Eliminates sides.now progress.old progress.new) }
-    ensures still_supported { OnOk result (IsRowStillSupported sides.now progress.new row.now.place) }
+fn examine_row(schemas: &SchemaPair, row: &WriterPlace, progress: &mut Progress) -> AllocResult<()>
+    requires row { IsWriterPlace schemas.now row.now }
+    requires rest { HasAgreedRemainder schemas.now progress.old }
+    ensures eliminates { OnOk result (Eliminates schemas.now progress.old progress.new) }
+    ensures still_supported { OnOk result (IsRowStillSupported schemas.now progress.new row.now.place) }
 {
-    if let Node::Union { branches } = sides.writer.node(row.place) {
+    if let Node::Union { branches } = schemas.writer.node(row.place) {
         for branch in branches {
-            eliminate_by_branch(sides, row.place, *branch, progress)?;
+            eliminate_by_branch(schemas, row.place, *branch, progress)?;
         }
         return Ok(());
     }
-    for j in 0..sides.reader.places() {
-        if !progress.table.has(row.place, j) || supports(sides, row, j, &progress.table) {
+    for j in 0..schemas.reader.places() {
+        if !progress.table.has(row.place, j) || supports(schemas, row, j, &progress.table) {
             continue;
         }
-        eliminate_pair(sides, row.place, j, progress)?;
+        eliminate_pair(schemas, row.place, j, progress)?;
     }
     Ok(())
 }
 
 /// Examines all rows, from the first on, since most references are to earlier definitions. Returns
-/// the source codes of the reader's fields with aliases, for each of the writer's places.
+/// the source entries of the reader's fields with aliases, for each of the writer's places.
 pub fn examine_all(
     alloc: Global,
-    sides: &Sides,
+    schemas: &SchemaPair,
     aliased: &[Aliased],
     progress: &mut Progress,
 ) -> AllocResult<Vec<Vec<u16>>>
-    requires rest { HasAgreedRemainder sides.now progress.old }
-    ensures sources { IfOk result (λ v. AreSources (rows sides.now) (columns sides.now) aliased.now v.items) }
-    ensures eliminates { OnOk result (Eliminates sides.now progress.old progress.new) }
-    ensures still_supported { OnOk result (AreStillSupported sides.now progress.new) }
+    requires rest { HasAgreedRemainder schemas.now progress.old }
+    ensures sources { IfOk result (λ v. AreSources (rows schemas.now) (columns schemas.now) aliased.now v.items) }
+    ensures eliminates { OnOk result (Eliminates schemas.now progress.old progress.new) }
+    ensures still_supported { OnOk result (AreStillSupported schemas.now progress.new) }
 {
-    let mut made = vec![in alloc; None; sides.reader.index.names.len()]?;
+    let mut made = vec![in alloc; None; schemas.reader.index.names.len()]?;
     let slots = made.as_mut_slice();
-    let firsts = firsts_of(alloc, sides.reader.places(), aliased)?;
-    let wanted = reader_fields_of(alloc, &sides.reader, aliased)?;
+    let firsts = firsts_of(alloc, schemas.reader.places(), aliased)?;
+    let wanted = reader_fields_of(alloc, &schemas.reader, aliased)?;
     let aliased_fields = AliasedFields {
         aliased,
         firsts: &firsts,
         wanted: &wanted,
     };
     let mut sources = Vec::new(alloc);
-    for place in 0..sides.writer.places() {
-        let fields = sides.writer.fields(place);
-        fill_slots(slots, &sides.rank_map, fields.ranks);
-        let entries = source_codes(alloc, slots, sides, fields, aliased_fields)?;
+    for place in 0..schemas.writer.places() {
+        let fields = schemas.writer.fields(place);
+        fill_slots(slots, &schemas.rank_map, fields.ranks);
+        let entries = source_entries(alloc, slots, schemas, fields, aliased_fields)?;
         let row = WriterPlace {
             place,
             fields,
@@ -153,8 +162,8 @@ pub fn examine_all(
             aliased_fields,
             entries: &entries,
         };
-        examine_row(sides, &row, progress)?;
-        clear_slots(slots, &sides.rank_map, fields.ranks);
+        examine_row(schemas, &row, progress)?;
+        clear_slots(slots, &schemas.rank_map, fields.ranks);
         sources.push(entries)?;
     }
     Ok(sources)

@@ -3,11 +3,11 @@
 ghost use Rattle.std.specs.Prelude.{◌<◌, ◌↔◌, All, Any, IsTrue};
 ghost use Rattle.avro_resolve.specs.Inside.Remaining.{remains, Agreed};
 ghost use Rattle.avro_resolve.specs.Inside.Rows.{IsPairInTable};
-ghost use Rattle.avro_resolve.specs.Inside.Sides.{columns, rows};
+ghost use Rattle.avro_resolve.specs.Inside.Schemas.{columns, rows};
 ghost use Rattle.avro_resolve.specs.Resolution.{Supports};
 
 use crate::readable::{WriterPlace, all_readable};
-use crate::sides::Sides;
+use crate::schemas::SchemaPair;
 use crate::table::Table;
 use avro_nodes::Node;
 
@@ -35,17 +35,17 @@ pub fn any_remaining(i: u32, j: u32, places: &[u32], table: &Table) -> bool
 
 /// Whether the remaining pairs support a pair whose nodes agree, by the first case that fits (Avro
 /// 1.11 specification, Schema Resolution).
-pub fn supports(sides: &Sides, row: &WriterPlace, j: u32, table: &Table) -> bool
-    requires over { IsPairInTable sides.now row.now table.now j }
-    requires agreed { Agreed (rows sides.now) (columns sides.now) row.now.place j }
-    ensures { IsTrue result ↔ Supports (rows sides.now) (columns sides.now) (remains table.now) row.now.place j }
+pub fn supports(schemas: &SchemaPair, row: &WriterPlace, j: u32, table: &Table) -> bool
+    requires over { IsPairInTable schemas.now row.now table.now j }
+    requires agreed { Agreed (rows schemas.now) (columns schemas.now) row.now.place j }
+    ensures { IsTrue result ↔ Supports (rows schemas.now) (columns schemas.now) (remains table.now) row.now.place j }
 {
-    match (sides.writer.node(row.place), sides.reader.node(j)) {
+    match (schemas.writer.node(row.place), schemas.reader.node(j)) {
         (Node::Union { branches }, _) => branches.iter().all(|p| table.has(*p, j)),
         (_, Node::Union { branches }) => any_remaining(row.place, j, branches, table),
         (Node::Array { items: p, .. }, Node::Array { items: q, .. }) => table.has(*p, *q),
         (Node::Map { values: p, .. }, Node::Map { values: q, .. }) => table.has(*p, *q),
-        (Node::Rec { .. }, Node::Rec { .. }) => all_readable(sides, row, j, table),
+        (Node::Rec { .. }, Node::Rec { .. }) => all_readable(schemas, row, j, table),
         _ => true,
     }
 }

@@ -2,7 +2,7 @@
 
 use crate::AllocResult;
 use crate::field_slots::{clear_slots, field_sources, fill_slots};
-use crate::sides::Sides;
+use crate::schemas::SchemaPair;
 use avro_nodes::Node;
 use std::alloc::Global;
 use std::marker::Model;
@@ -34,7 +34,7 @@ impl WorkMeter {
     ghost use Rattle.avro_nodes.specs.Nodes.{NodeView};
     ghost use Rattle.avro_resolve.specs.Inside.Agreeing.{fields_of};
     ghost use Rattle.avro_resolve.specs.Inside.FieldSlots.{AreFieldSources};
-    ghost use Rattle.avro_resolve.specs.Inside.Sides.{columns, rows, IsSides};
+    ghost use Rattle.avro_resolve.specs.Inside.Schemas.{columns, rows, IsSchemaPair};
 
     /// No work; the slots are allocated at the first record.
     pub fn none(alloc: Global) -> WorkMeter {
@@ -68,29 +68,29 @@ impl WorkMeter {
     pub fn sources(
         &mut self,
         alloc: Global,
-        sides: &Sides,
+        schemas: &SchemaPair,
         i: u32,
         j: u32,
     ) -> AllocResult<Vec<Option<u16>>>
-        requires sides { IsSides sides.now }
-        requires i_in { i < length sides.now.writer.schema.now }
-        requires j_in { j < length sides.now.reader.schema.now }
-        ensures { IfOk result (λ v. (a b : NodeView) → slice_get (rows sides.now) i ≡ Some a
-            → slice_get (columns sides.now) j ≡ Some b → AreFieldSources (fields_of a) (fields_of b) v.items) }
+        requires schemas { IsSchemaPair schemas.now }
+        requires i_in { i < length schemas.now.writer.schema.now }
+        requires j_in { j < length schemas.now.reader.schema.now }
+        ensures { IfOk result (λ v. (a b : NodeView) → slice_get (rows schemas.now) i ≡ Some a
+            → slice_get (columns schemas.now) j ≡ Some b → AreFieldSources (fields_of a) (fields_of b) v.items) }
     {
-        let (fields, wanted) = (sides.writer.fields(i), sides.reader.fields(j));
+        let (fields, wanted) = (schemas.writer.fields(i), schemas.reader.fields(j));
         self.work = self.work.saturating_add(fields.ranks.len() as u64);
         for sought in wanted.ranks {
             self.work = self.work.saturating_add(sought.aliases.len() as u64 + 1);
         }
-        let names = sides.reader.index.names.len();
+        let names = schemas.reader.index.names.len();
         if self.slots.len() < names {
             self.slots.resize(names, None)?;
         }
         let slots = self.slots.as_mut_slice();
-        fill_slots(slots, &sides.rank_map, fields.ranks);
-        let places = field_sources(alloc, slots, sides, fields, wanted);
-        clear_slots(slots, &sides.rank_map, fields.ranks);
+        fill_slots(slots, &schemas.rank_map, fields.ranks);
+        let places = field_sources(alloc, slots, schemas, fields, wanted);
+        clear_slots(slots, &schemas.rank_map, fields.ranks);
         places
     }
 }

@@ -127,22 +127,22 @@ self_equal n = grind (arith, nat_tests)
 same_hash : (t u : List ℕ) → bytes_eq t u ≡ true → (text_hash t == text_hash u) ≡ true
 same_hash t u e = rw ((bytes_eq-Decides t u).0 e) (self_equal (text_hash u))
 
-module _ {A : Type 0} (title : A → List ℕ) where
-  apart_by_hash : (x : A) (xs : List A) → AllByRecursion (λ n. (text_hash (title x) == n) ≡ false) (map (λ y. text_hash (title y)) xs) → AllByRecursion (λ t. bytes_eq (title x) t ≡ false) (map title xs)
+module _ {A : Type 0} (text_of : A → List ℕ) where
+  apart_by_hash : (x : A) (xs : List A) → AllByRecursion (λ n. (text_hash (text_of x) == n) ≡ false) (map (λ y. text_hash (text_of y)) xs) → AllByRecursion (λ t. bytes_eq (text_of x) t ≡ false) (map text_of xs)
   apart_by_hash x [] h = tt
-  apart_by_hash x (y ∷ ys) h = (other (bytes_eq (title x) (title y)) refl, apart_by_hash x ys h.1)
+  apart_by_hash x (y ∷ ys) h = (other (bytes_eq (text_of x) (text_of y)) refl, apart_by_hash x ys h.1)
     where
-      other : (b : Bool) → bytes_eq (title x) (title y) ≡ b → b ≡ false
-      other true e = absurd (false≢true (sym h.0 ∙ same_hash (title x) (title y) e))
+      other : (b : Bool) → bytes_eq (text_of x) (text_of y) ≡ b → b ≡ false
+      other true e = absurd (false≢true (sym h.0 ∙ same_hash (text_of x) (text_of y) e))
       other false e = refl
 
-  distinct_by_hash : (xs : List A) → IsDistinct (λ a b. a == b) (map (λ y. text_hash (title y)) xs) → IsDistinct bytes_eq (map title xs)
+  distinct_by_hash : (xs : List A) → IsDistinct (λ a b. a == b) (map (λ y. text_hash (text_of y)) xs) → IsDistinct bytes_eq (map text_of xs)
   unfolding IsDistinct
   distinct_by_hash [] d = tt
   distinct_by_hash (x ∷ xs) d = (apart_by_hash x xs d.0, distinct_by_hash xs d.1)
 
-  pub differ_by_hash : (xs : List A) → all_differ (λ a b. a == b) (map (λ y. text_hash (title y)) xs) ≡ true → all_differ bytes_eq (map title xs) ≡ true
-  differ_by_hash xs e = differ_if_distinct bytes_eq (map title xs) (distinct_by_hash xs (distinct_if_differ (λ a b. a == b) (map (λ y. text_hash (title y)) xs) e))
+  pub differ_by_hash : (xs : List A) → all_differ (λ a b. a == b) (map (λ y. text_hash (text_of y)) xs) ≡ true → all_differ bytes_eq (map text_of xs) ≡ true
+  differ_by_hash xs e = differ_if_distinct bytes_eq (map text_of xs) (distinct_by_hash xs (distinct_if_differ (λ a b. a == b) (map (λ y. text_hash (text_of y)) xs) e))
 
 pub texts_level : eq_by_cmp (slice_cmp nat_cmp) ≡ bytes_eq
 texts_level = fun_ext (λ x. fun_ext (λ y. is_eq-slice_cmp x y))

@@ -11,8 +11,8 @@ use Rattle.serde_json.specs.Data.{Data, null, boolean, number, string, Items, no
 use Rattle.serde_json.specs.Data as json
 use Rattle.serde_json.specs.Find.{get_member, as_i64}
 use Rattle.avro_nodes.specs.Limits.{max_nesting}
-use Rattle.avro_nodes.specs.declared.node.Kind.{Kind}
-use Rattle.avro_nodes.specs.declared.node.Kind.TheVariants.{Null, Boolean, Int, Long, Float, Double, Bytes, Text}
+use Rattle.avro_nodes.specs.declared.node.PrimitiveKind.{PrimitiveKind}
+use Rattle.avro_nodes.specs.declared.node.PrimitiveKind.TheVariants.{Null, Boolean, Int, Long, Float, Double, Bytes, Text}
 use Rattle.avro_nodes.specs.Nodes.{FieldView, NodeView, primitive, array, mapping, union, enumeration, fixed, rec}
 use Rattle.avro_nodes.proofs.Carried.{OfField}
 use Rattle.avro_nodes.proofs.Shallow.{IsShallow, AreShallow, ShallowNodes}
@@ -81,7 +81,7 @@ module _ (nodes : List NodeView) where
   number_there n None e h = absurd (true≢false (sym h))
   number_there n (Some z) e h = (z, e)
 
-  primitive_says : (v : Data) (kind : Kind) (extra : Members) → primitive_fits v kind ≡ true → FitsNode nodes v (primitive kind extra)
+  primitive_says : (v : Data) (kind : PrimitiveKind) (extra : Members) → primitive_fits v kind ≡ true → FitsNode nodes v (primitive kind extra)
   primitive_says null Null extra h = fits_null
   primitive_says (boolean b) Boolean extra h = fits_boolean
   primitive_says (number n) Int extra h = int_says n (as_i64 n) extra refl h

@@ -1,8 +1,8 @@
 -- Two branches have the same kind exactly if their kinds have the same number.
 use Rattle.std.proofs.Common.{◌≡◌, ℕ, ◌<◌, List, [], ◌∷◌, get_or, map, Option, Some, None, refl, sym, ap, ◌∙◌, arith}
 use Rattle.std.specs.Prelude.{option_map}
-use Rattle.avro_nodes.specs.declared.node.Kind.{Kind}
-use Rattle.avro_nodes.specs.declared.node.Kind.TheVariants.{Null, Boolean, Int, Long, Float, Double, Bytes, Text}
+use Rattle.avro_nodes.specs.declared.node.PrimitiveKind.{PrimitiveKind}
+use Rattle.avro_nodes.specs.declared.node.PrimitiveKind.TheVariants.{Null, Boolean, Int, Long, Float, Double, Bytes, Text}
 use Rattle.avro_nodes.specs.Nodes.{NodeView}
 use Rattle.avro_schema.specs.Kinds.{BranchKind, primitive_kind, array_kind, map_kind, named_kind, branch_kind}
 use Rattle.avro_schema.specs.Inside.KindNumbers.{primitive_number, kind_number, branch_number}
@@ -10,10 +10,10 @@ use Rattle.avro_schema.specs.Denotes.{Lacks, AllDiffer}
 
 -- ---- the number determines the kind
 
-abbrev kinds : List Kind
+abbrev kinds : List PrimitiveKind
 kinds = Null ∷ Boolean ∷ Int ∷ Long ∷ Float ∷ Double ∷ Bytes ∷ Text ∷ []
 
-found : (kind : Kind) → get_or kinds (primitive_number kind) Null ≡ kind
+found : (kind : PrimitiveKind) → get_or kinds (primitive_number kind) Null ≡ kind
 found Null = refl
 found Boolean = refl
 found Int = refl
@@ -23,7 +23,7 @@ found Double = refl
 found Bytes = refl
 found Text = refl
 
-below : (kind : Kind) → primitive_number kind < 8
+below : (kind : PrimitiveKind) → primitive_number kind < 8
 below Null = omega arith
 below Boolean = omega arith
 below Int = omega arith

@@ -12,7 +12,7 @@ use Rattle.std.proofs.lemmas.Slice.Eq.{bytes_eq-Decides}
 use Rattle.avro_nodes.specs.Names.{has_dot, namespace_of}
 use Rattle.avro_schema.specs.declared.name_table.NameTable.{NameTable}
 use Rattle.avro_schema.specs.Names.{or_else, qualified, defined, resolved}
-use Rattle.avro_schema.specs.Inside.NameTables.{without_namespace, in_table, place_at, number_in, place_in, known_in, KeepsNumbers}
+use Rattle.avro_schema.specs.Inside.NameTables.{without_namespace, in_table, place_at, namespace_number, place_in, known_in, KeepsNumbers}
 use Rattle.avro_schema.proofs.FullNames.{same_full, joined_space, joined_name}
 
 abbrev pub Table : Type 0
@@ -32,7 +32,7 @@ pub keeps_then : (t u v : NameTable) → KeepsNumbers t u → KeepsNumbers u v �
 unfolding KeepsNumbers
 keeps_then t u v g h space n e = h space n (g space n e)
 
-pub still_numbered : (t u : NameTable) (space : List ℕ) (n : ℕ) → KeepsNumbers t u → number_in t space ≡ Some n → number_in u space ≡ Some n
+pub still_numbered : (t u : NameTable) (space : List ℕ) (n : ℕ) → KeepsNumbers t u → namespace_number t space ≡ Some n → namespace_number u space ≡ Some n
 unfolding KeepsNumbers
 still_numbered t u space n keeps e = keeps space n e
 
@@ -201,7 +201,7 @@ known_simple : (known : NameTable) (space name : List ℕ) → has_dot name ≡ 
 known_simple known space name plain =
     ap (place_in known (namespace_of (qualified space name))) (joined_name space name plain) ∙ ap (λ (s : List ℕ). place_in known s name) (joined_space space name plain)
 
-module _ (known : NameTable) (space name : List ℕ) (n : ℕ) (plain : has_dot name ≡ false) (is : number_in known space ≡ Some n) where
+module _ (known : NameTable) (space name : List ℕ) (n : ℕ) (plain : has_dot name ≡ false) (is : namespace_number known space ≡ Some n) where
   simple : resolved (known_in known) space name ≡ or_else (in_table (slice_get known.tables.items n) name) (known_in known name)
   unfolding resolved
   simple =

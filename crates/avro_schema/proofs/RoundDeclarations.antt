@@ -7,7 +7,7 @@ use Rattle.serde_json.specs.Data.{Data, string, number, unsigned, Items, no_item
 use Rattle.serde_json.specs.Data as json
 use Rattle.serde_json.specs.Find.{get_member, as_str, as_array, as_number, as_u64}
 use Rattle.serde_json.proofs.Views.{get_member-put, get_member-put_other}
-use Rattle.avro_nodes.specs.declared.node.Kind.{Kind}
+use Rattle.avro_nodes.specs.declared.node.PrimitiveKind.{PrimitiveKind}
 use Rattle.avro_nodes.specs.declared.node.Order.{Order}
 use Rattle.avro_nodes.specs.declared.node.Order.TheVariants.{Ascending, Descending, Ignore}
 use Rattle.avro_nodes.specs.Names.{has_dot, namespace_of}
@@ -186,7 +186,7 @@ named_again space ms written known named good n name namespace aliases =
 
 -- ---- the values of `type`
 
-pub word_is_kind : (kind : Kind) → type_name_of (kind_text kind) ≡ type_name.Primitive kind
+pub word_is_kind : (kind : PrimitiveKind) → type_name_of (kind_text kind) ≡ type_name.Primitive kind
 unfolding type_name_of
 word_is_kind kind = rw (kind_again kind) refl
 
@@ -262,13 +262,13 @@ less_type ks name extra among = without-put ks (codes "type") (string name) extr
 past_type : (q name : List ℕ) (extra : Members) → bytes_eq q (codes "type") ≡ false → get_member q (Typed name extra) ≡ get_member q extra
 past_type q name extra other = past_put q (codes "type") (string name) extra other
 
-abbrev pub primitive_members : Kind → Members → Members
+abbrev pub primitive_members : PrimitiveKind → Members → Members
 primitive_members kind extra = Typed (kind_text kind) extra
 
-pub primitive_says : (kind : Kind) (extra : Members) → HasTypeName (primitive_members kind extra) (type_name.Primitive kind)
+pub primitive_says : (kind : PrimitiveKind) (extra : Members) → HasTypeName (primitive_members kind extra) (type_name.Primitive kind)
 primitive_says kind extra = typed (type_name.Primitive kind) (kind_text kind) (primitive_members kind extra) (word_is_kind kind) (type_found (kind_text kind) extra)
 
-pub primitive_others : (kind : Kind) (ms extra : Members) → IsExtra (codes "type" ∷ []) ms extra → IsExtra (codes "type" ∷ []) (primitive_members kind extra) extra
+pub primitive_others : (kind : PrimitiveKind) (ms extra : Members) → IsExtra (codes "type" ∷ []) ms extra → IsExtra (codes "type" ∷ []) (primitive_members kind extra) extra
 primitive_others kind ms extra o = others_again (codes "type" ∷ []) ms extra (primitive_members kind extra) o (less_type (codes "type" ∷ []) (kind_text kind) extra refl)
 
 abbrev pub array_members : Data → Members → Members

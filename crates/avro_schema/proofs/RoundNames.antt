@@ -4,8 +4,8 @@ use Rattle.std.proofs.lemmas.Bool.{and_parts, or_parts, or_right}
 use Rattle.std.specs.List.{list_any}
 use Rattle.std.proofs.lemmas.List.Folds.{list_any-append}
 use Rattle.std.proofs.lemmas.Option.{same_Some}
-use Rattle.avro_nodes.specs.declared.node.Kind.{Kind}
-use Rattle.avro_nodes.specs.declared.node.Kind.TheVariants.{Null, Boolean, Int, Long, Float, Double, Bytes, Text}
+use Rattle.avro_nodes.specs.declared.node.PrimitiveKind.{PrimitiveKind}
+use Rattle.avro_nodes.specs.declared.node.PrimitiveKind.TheVariants.{Null, Boolean, Int, Long, Float, Double, Bytes, Text}
 use Rattle.avro_nodes.specs.Identity.{kind_text}
 use Rattle.avro_nodes.specs.Names.{is_dot, has_dot, namespace_of}
 use Rattle.avro_schema.specs.Names.{Known, is_name_start, is_name_part, is_name_sequence, is_namespace, qualified, name_in, full_name, alias_in, allowed, or_else, resolved}
@@ -146,7 +146,7 @@ allowed_says test text name e =
 
 -- ---- keywords
 
-pub kind_again : (k : Kind) → kind_of (kind_text k) ≡ Some k
+pub kind_again : (k : PrimitiveKind) → kind_of (kind_text k) ≡ Some k
 unfolding kind_of
 kind_again Null = refl
 kind_again Boolean = refl

@@ -7,7 +7,7 @@ use Rattle.serde_json.specs.Data.{Data, string, Items, no_items, item, Members, 
 use Rattle.serde_json.specs.Data as json
 use Rattle.serde_json.specs.Find.{get_member}
 use Rattle.avro_nodes.specs.Limits.{max_nesting, max_places}
-use Rattle.avro_nodes.specs.declared.node.Kind.{Kind}
+use Rattle.avro_nodes.specs.declared.node.PrimitiveKind.{PrimitiveKind}
 use Rattle.avro_nodes.specs.Names.{namespace_of}
 use Rattle.avro_nodes.specs.Nodes.{NamedView, FieldView, NodeView, primitive, array, mapping, union, enumeration, fixed, rec}
 use Rattle.avro_nodes.specs.Identity.{primitive_value, array_value, map_value, enum_value, fixed_value, record_value, field_value, kind_text, Counted, then_items, branch_items, field_items, name_of, node_value, identity_at, identity, identity_value}
@@ -104,7 +104,7 @@ module _ (m : ℕ) (all before after : List NodeView) (space : List ℕ) (known 
   named_at : (node : NodeView) (rest : List NodeView) → all ≡ before ++ node ∷ rest → mention all first ≡ length (name_of (Some node))
   named_at node rest all_is = mention_is all first ∙ ap (λ (o : Option NodeView). length (name_of o)) (at_first all before rest node first all_is first_is)
 
-  plain_trip : (kind : Kind) → first < max_places → all ≡ before ++ primitive kind no_members ∷ after → Trip (suc m) all space known first first (primitive kind no_members ∷ []) known
+  plain_trip : (kind : PrimitiveKind) → first < max_places → all ≡ before ++ primitive kind no_members ∷ after → Trip (suc m) all space known first first (primitive kind no_members ∷ []) known
   plain_trip kind room all_is = record {
     value = string (kind_text kind);
     spelt = first_time (primitive kind no_members) after all_is;
@@ -115,7 +115,7 @@ module _ (m : ℕ) (all before after : List NodeView) (space : List ℕ) (known 
     mentioned = omega (arith, named_at (primitive kind no_members) after all_is);
   }
 
-  primitive_trip : (kind : Kind) (ms extra : Members) → IsExtra (codes "type" ∷ []) ms extra → first < max_places → all ≡ before ++ primitive kind extra ∷ after → Trip (suc m) all space known first first (primitive kind extra ∷ []) known
+  primitive_trip : (kind : PrimitiveKind) (ms extra : Members) → IsExtra (codes "type" ∷ []) ms extra → first < max_places → all ≡ before ++ primitive kind extra ∷ after → Trip (suc m) all space known first first (primitive kind extra ∷ []) known
   primitive_trip kind ms no_members o room all_is = plain_trip kind room all_is
   primitive_trip kind ms (member l d extra) o room all_is = record {
     value = primitive_value kind (member l d extra);
@@ -235,7 +235,7 @@ module _ (m : ℕ) (all before after : List NodeView) (space : List ℕ) (known 
 
 -- ---- names that aren't those of primitive types
 
-not_primitive : (o : Option Kind) (name : List ℕ) → kind_or_other o name ≡ type_name.Reference → o ≡ None
+not_primitive : (o : Option PrimitiveKind) (name : List ℕ) → kind_or_other o name ≡ type_name.Reference → o ≡ None
 not_primitive (Some kind) name e = absurd cc
 not_primitive None name e = refl
 

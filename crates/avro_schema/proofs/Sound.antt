@@ -7,7 +7,7 @@ use Rattle.serde_json.specs.Data.{Data, string, Items, no_items, item, Members, 
 use Rattle.serde_json.specs.Data as json
 use Rattle.serde_json.specs.Find.{get_member, as_object}
 use Rattle.avro_nodes.specs.Limits.{max_nesting}
-use Rattle.avro_nodes.specs.declared.node.Kind.{Kind}
+use Rattle.avro_nodes.specs.declared.node.PrimitiveKind.{PrimitiveKind}
 use Rattle.avro_nodes.specs.Nodes.{NamedView, FieldView, primitive, array, mapping, union, enumeration, fixed, rec}
 use Rattle.avro_schema.specs.declared.keywords.TypeName.{TypeName}
 use Rattle.avro_schema.specs.declared.keywords.TypeName.TheVariants as type_name
@@ -130,7 +130,7 @@ fixed_says n space ms known first p s e =
 
 -- ---- primitives and references
 
-primitive_says : (n : ℕ) (space : List ℕ) (ms : Members) (known : Known) (first : ℕ) (kind : Kind) (p : Part ℕ) → HasTypeName ms (type_name.Primitive kind) → primitive_at kind (inside ms) known first ≡ Some p → Says_ (suc n) space (json.object ms) known first p
+primitive_says : (n : ℕ) (space : List ℕ) (ms : Members) (known : Known) (first : ℕ) (kind : PrimitiveKind) (p : Part ℕ) → HasTypeName ms (type_name.Primitive kind) → primitive_at kind (inside ms) known first ≡ Some p → Says_ (suc n) space (json.object ms) known first p
 unfolding primitive_at
 primitive_says n space ms known first kind p s e =
     let q = bind2 (room_at first) (λ _. bounded (inside ms)) (λ place extra. Some (record { it = place; nodes = primitive kind extra ∷ []; known = known })) p e in
@@ -139,7 +139,7 @@ primitive_says n space ms known first kind p s e =
     (ap (λ (place : ℕ). record { it = place; nodes = primitive kind q.1 ∷ []; known = known }) room.1 ∙ same_Some _ _ q.4)
     (primitive_type s (others_are (codes "type" ∷ []) ms q.1 q.3) room.0)
 
-name_says : (o : Option Kind) (n : ℕ) (space s : List ℕ) (known : Known) (first : ℕ) (p : Part ℕ) → kind_of s ≡ o → kind_or_reference o space s known first ≡ Some p → Says_ (suc n) space (string s) known first p
+name_says : (o : Option PrimitiveKind) (n : ℕ) (space s : List ℕ) (known : Known) (first : ℕ) (p : Part ℕ) → kind_of s ≡ o → kind_or_reference o space s known first ≡ Some p → Says_ (suc n) space (string s) known first p
 unfolding primitive_at reference_to
 name_says (Some kind) n space s known first p named e =
     let q = bind2 (room_at first) (λ _. bounded no_members) (λ place extra. Some (record { it = place; nodes = primitive kind extra ∷ []; known = known })) p e in

@@ -4,7 +4,7 @@ use Rattle.serde_json.specs.Data.{Data, string, Items, no_items, item, Members, 
 use Rattle.serde_json.specs.Data as json
 use Rattle.serde_json.specs.Find.{get_member}
 use Rattle.avro_nodes.specs.Limits.{max_nesting, max_places}
-use Rattle.avro_nodes.specs.declared.node.Kind.{Kind}
+use Rattle.avro_nodes.specs.declared.node.PrimitiveKind.{PrimitiveKind}
 use Rattle.avro_nodes.specs.Nodes.{NamedView, FieldView, NodeView, primitive, array, mapping, union, enumeration, fixed, rec}
 use Rattle.avro_schema.specs.declared.keywords.TypeName.{TypeName}
 use Rattle.avro_schema.specs.declared.keywords.TypeName.TheVariants as type_name
@@ -85,13 +85,13 @@ HasTypeName ms w = (name : List ℕ) × (text_in (codes "type") ms ≡ Some name
 mutual
   pub data Denotes : ℕ → List ℕ → Data → Known → ℕ → ℕ → List NodeView → Known → Type 0 where
     -- a string that names a primitive type (Primitive Types)
-    a_primitive : {n : ℕ} {space name : List ℕ} {known : Known} {first : ℕ} {kind : Kind} → kind_of name ≡ Some kind → first < max_places
+    a_primitive : {n : ℕ} {space name : List ℕ} {known : Known} {first : ℕ} {kind : PrimitiveKind} → kind_of name ≡ Some kind → first < max_places
         → Denotes (suc n) space (string name) known first first (primitive kind json.no_members ∷ []) known
     -- any other string is a reference, which adds no node (Names)
     a_reference : {n : ℕ} {space name : List ℕ} {known : Known} {first place : ℕ} → kind_of name ≡ None → resolved known space name ≡ Some place
         → Denotes (suc n) space (string name) known first place [] known
     -- an object whose `type` names a primitive type, with other attributes (Primitive Types)
-    primitive_type : {n : ℕ} {space : List ℕ} {ms extra : Members} {known : Known} {first : ℕ} {kind : Kind} → HasTypeName ms (type_name.Primitive kind) → IsExtra (codes "type" ∷ []) ms extra → first < max_places
+    primitive_type : {n : ℕ} {space : List ℕ} {ms extra : Members} {known : Known} {first : ℕ} {kind : PrimitiveKind} → HasTypeName ms (type_name.Primitive kind) → IsExtra (codes "type" ∷ []) ms extra → first < max_places
         → Denotes (suc n) space (json.object ms) known first first (primitive kind extra ∷ []) known
     -- an object whose `type` is a reference; its other attributes are dropped (this project's choice)
     reference_type : {n : ℕ} {space name : List ℕ} {ms extra : Members} {known : Known} {first place : ℕ} → text_in (codes "type") ms ≡ Some name → type_name_of name ≡ type_name.Reference

@@ -1,15 +1,15 @@
 -- The keywords of declarations (Avro 1.11 specification, Schema Declaration; Primitive Types; Complex Types).
 use Rattle.std.specs.Prelude.{ℕ, List, if◌then◌else◌, Option, Some, None, codes}
 use Rattle.std.specs.Str.{bytes_eq}
-use Rattle.avro_nodes.specs.declared.node.Kind.{Kind}
-use Rattle.avro_nodes.specs.declared.node.Kind.TheVariants.{Null, Boolean, Int, Long, Float, Double, Bytes, Text}
+use Rattle.avro_nodes.specs.declared.node.PrimitiveKind.{PrimitiveKind}
+use Rattle.avro_nodes.specs.declared.node.PrimitiveKind.TheVariants.{Null, Boolean, Int, Long, Float, Double, Bytes, Text}
 use Rattle.avro_nodes.specs.declared.node.Order.{Order}
 use Rattle.avro_nodes.specs.declared.node.Order.TheVariants.{Ascending, Descending, Ignore}
 use Rattle.avro_schema.specs.declared.keywords.TypeName.{TypeName}
 use Rattle.avro_schema.specs.declared.keywords.TypeName.TheVariants.{Primitive, Array, Map, Fixed, Enum, Record, Reference}
 
 -- the primitive type with this name
-unfoldable pub kind_of : List ℕ → Option Kind
+unfoldable pub kind_of : List ℕ → Option PrimitiveKind
 kind_of s =
     if bytes_eq s (codes "null") then Some Null else
     (if bytes_eq s (codes "boolean") then Some Boolean else
@@ -29,7 +29,7 @@ other_word s =
     (if bytes_eq s (codes "map") then Map else
     (if bytes_eq s (codes "fixed") then Fixed else Reference))))
 
-abbrev pub kind_or_other : Option Kind → List ℕ → TypeName
+abbrev pub kind_or_other : Option PrimitiveKind → List ℕ → TypeName
 kind_or_other (Some kind) s = Primitive kind
 kind_or_other None s = other_word s
 

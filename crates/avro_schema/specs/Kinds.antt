@@ -1,12 +1,12 @@
 -- The kinds of a union's branches, which must be distinct (Avro 1.11 specification, Complex Types, Unions).
 use Rattle.std.specs.Prelude.{ℕ, List, [], ◌∷◌, Option, Some, None}
-use Rattle.avro_nodes.specs.declared.node.Kind.{Kind}
+use Rattle.avro_nodes.specs.declared.node.PrimitiveKind.{PrimitiveKind}
 use Rattle.avro_nodes.specs.Nodes.{NodeView, primitive, array, mapping, union, enumeration, fixed, rec}
 
 -- Each primitive type is a kind, all arrays are one kind, and all maps are another. Each named type is its own kind, identified by its
 -- place.
 pub data BranchKind : Type 0 where
-  primitive_kind : Kind → BranchKind
+  primitive_kind : PrimitiveKind → BranchKind
   array_kind : BranchKind
   map_kind : BranchKind
   named_kind : ℕ → BranchKind

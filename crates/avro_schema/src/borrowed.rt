@@ -14,7 +14,7 @@ use serde_json::Number;
 use std::alloc::{AllocError, Global};
 
 /// A JSON value whose strings borrow from the text.
-#[derive(Debug, Drop)]
+#[derive(Drop)]
 pub enum Json<'a> {
     Null,
     Bool(bool),
@@ -25,7 +25,7 @@ pub enum Json<'a> {
 }
 
 /// A JSON object. Its reserved members have the type `M`.
-#[derive(Debug, Drop)]
+#[derive(Drop)]
 pub struct Object<M> {
     /// at most one for each name
     pub reserved: Vec<M>,

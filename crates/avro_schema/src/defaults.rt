@@ -12,7 +12,7 @@ use crate::defaults::fields::node_default_fits;
 use crate::defaults::lookups::{default_type, table_at};
 use crate::defaults::primitives::{is_bytes_of, primitive_fits};
 use crate::tables::{FieldTable, tables_of};
-use avro_nodes::{Extra, Field, Node};
+use avro_nodes::{Field, Members, Node};
 use serde_json::Value;
 use std::alloc::{AllocError, Global};
 
@@ -21,7 +21,7 @@ mod lookups;
 mod primitives;
 
 /// The member with this name.
-fn member_of<'a>(members: &'a Extra, key: &str) -> Option<&'a Value>
+fn member_of<'a>(members: &'a Members, key: &str) -> Option<&'a Value>
     ensures { option_map (λ v. view v.now) result
         ≡ get_member key.now (members_view members.now.entries) }
 {
@@ -54,7 +54,8 @@ pub fn fits(
     }
 }
 
-/// Whether the value fits the node. If the node is a record, `table` may have its fields.
+/// Whether the value fits the node. For a record, `table` is the table of its fields, if it was
+/// made. A union's branch is chosen by the caller.
 #[cycle(fit)]
 fn node_fits(
     value: &Value,
@@ -115,7 +116,7 @@ fn items_fit(
 
 #[cycle(fit)]
 fn members_fit(
-    members: &Extra,
+    members: &Members,
     place: u32,
     nodes: &[Node],
     tables: &[Option<FieldTable>],
@@ -134,7 +135,7 @@ fn members_fit(
 
 #[cycle(fit)]
 fn fields_fit(
-    members: &Extra,
+    members: &Members,
     fields: &Vec<Field>,
     nodes: &[Node],
     tables: &[Option<FieldTable>],
@@ -154,7 +155,7 @@ fn fields_fit(
 /// The same by the table: checks the required fields, and those that the members name.
 #[cycle(fit)]
 fn table_fits(
-    members: &Extra,
+    members: &Members,
     fields: &Vec<Field>,
     table: &FieldTable,
     nodes: &[Node],
@@ -171,7 +172,7 @@ fn table_fits(
 
 #[cycle(fit)]
 fn required_fit(
-    members: &Extra,
+    members: &Members,
     fields: &Vec<Field>,
     required: &Vec<usize>,
     nodes: &[Node],
@@ -191,7 +192,7 @@ fn required_fit(
 
 #[cycle(fit)]
 fn named_fit(
-    members: &Extra,
+    members: &Members,
     fields: &Vec<Field>,
     table: &FieldTable,
     nodes: &[Node],
@@ -216,10 +217,11 @@ fn named_fit(
     true
 }
 
-/// Whether the field at the index fits. `true` if there is no index, or it is out of range.
+/// Whether an object with these members fits the field at the index. `true` if there is no index,
+/// or it is out of range.
 #[cycle(fit)]
 fn index_fits(
-    members: &Extra,
+    members: &Members,
     fields: &Vec<Field>,
     at: Option<usize>,
     nodes: &[Node],
@@ -240,7 +242,7 @@ fn index_fits(
 
 #[cycle(fit)]
 fn field_fits(
-    members: &Extra,
+    members: &Members,
     field: &Field,
     nodes: &[Node],
     tables: &[Option<FieldTable>],

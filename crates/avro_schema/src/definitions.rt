@@ -23,7 +23,7 @@ use crate::name_table::NameTable;
 use crate::names::full_name;
 use crate::nesting::members_within;
 use crate::owning::{owned_members, take_default};
-use avro_nodes::{Extra, MAX_NESTING, MAX_PLACES, Named, Node, last_part, namespace_of};
+use avro_nodes::{MAX_NESTING, MAX_PLACES, Members, Named, Node, last_part, namespace_of};
 use serde_json::Value;
 use std::alloc::Global;
 
@@ -50,7 +50,7 @@ pub fn next_place(nodes: &Vec<Node>) -> Result<u32, SchemaError>
 ///
 /// `TooLarge` if one of them nests too deep, and `OutOfMemory` if allocation fails.
 #[tactic(auto, unfolding(crate::specs::Inside::Declarations::bounded))]
-pub fn other_attributes(alloc: Global, attributes: Attributes<'_>) -> Result<Extra, SchemaError>
+pub fn other_attributes(alloc: Global, attributes: Attributes<'_>) -> Result<Members, SchemaError>
     ensures { Gives (λ m. members_view m.entries) result
         (bounded (members_data attributes.entry)) }
 {

@@ -14,38 +14,38 @@ use std::alloc::{AllocError, Global};
 const FACTOR: u64 = 1099511628211;
 
 /// An item that has a name, by which lists are checked for duplicates.
-pub trait Titled {
-    ghost title_of: { Self → List ℕ };
+pub trait HasName {
+    ghost name_bytes: { Self → List ℕ };
 
-    fn title(&self) -> &str
-        ensures { result.now ≡ title_of self.now };
+    fn name_text(&self) -> &str
+        ensures { result.now ≡ name_bytes self.now };
 }
 
-impl Titled for String {
-    ghost title_of = { string_bytes };
+impl HasName for String {
+    ghost name_bytes = { string_bytes };
 
-    fn title(&self) -> &str {
+    fn name_text(&self) -> &str {
         self.as_str()
     }
 }
 
-impl Titled for Field {
-    ghost title_of = { λ f. string_bytes f.name };
+impl HasName for Field {
+    ghost name_bytes = { λ f. string_bytes f.name };
 
-    fn title(&self) -> &str {
+    fn name_text(&self) -> &str {
         self.name.as_str()
     }
 }
 
 /// The name of each item.
-fn titles_of<T: Titled>(alloc: Global, items: &[T]) -> Result<Vec<&str>, AllocError>
-    ensures { IfOk result (λ v. map (λ t. t.now) v.items ≡ map T.title_of items.now) }
+fn item_names<T: HasName>(alloc: Global, items: &[T]) -> Result<Vec<&str>, AllocError>
+    ensures { IfOk result (λ v. map (λ t. t.now) v.items ≡ map T.name_bytes items.now) }
 {
-    let mut titles = Vec::with_capacity(alloc, items.len())?;
+    let mut names = Vec::with_capacity(alloc, items.len())?;
     for item in items {
-        titles.push(item.title())?;
+        names.push(item.name_text())?;
     }
-    Ok(titles)
+    Ok(names)
 }
 
 /// Whether each text is less than the next.
@@ -79,19 +79,19 @@ fn hash_of(text: &str) -> u64
 }
 
 /// The hash of each item's name.
-fn hashes_of<T: Titled>(alloc: Global, items: &[T]) -> Result<Vec<u64>, AllocError>
-    ensures { IfOk result (λ v. v.items ≡ map (λ t. text_hash (T.title_of t)) items.now) }
+fn hashes_of<T: HasName>(alloc: Global, items: &[T]) -> Result<Vec<u64>, AllocError>
+    ensures { IfOk result (λ v. v.items ≡ map (λ t. text_hash (T.name_bytes t)) items.now) }
 {
     let mut hashes = Vec::with_capacity(alloc, items.len())?;
     for item in items {
-        hashes.push(hash_of(item.title()))?;
+        hashes.push(hash_of(item.name_text()))?;
     }
     Ok(hashes)
 }
 
 /// Whether the hashes of the names are distinct. If so, the names are distinct, too.
-fn hashes_differ<T: Titled>(alloc: Global, items: &[T]) -> Result<bool, AllocError>
-    ensures { IfOk result (λ b. IsTrue b → true ≡ all_differ bytes_eq (map T.title_of items.now)) }
+fn hashes_differ<T: HasName>(alloc: Global, items: &[T]) -> Result<bool, AllocError>
+    ensures { IfOk result (λ b. IsTrue b → true ≡ all_differ bytes_eq (map T.name_bytes items.now)) }
 {
     let mut hashes = hashes_of(alloc, items)?;
     hashes.sort_unstable();
@@ -104,15 +104,15 @@ fn hashes_differ<T: Titled>(alloc: Global, items: &[T]) -> Result<bool, AllocErr
 /// # Errors
 ///
 /// `AllocError` if an allocation fails.
-pub fn texts_differ<T: Titled>(alloc: Global, items: &[T]) -> Result<bool, AllocError>
-    ensures { IfOk result (λ b. b ≡ all_differ bytes_eq (map T.title_of items.now)) }
+pub fn texts_differ<T: HasName>(alloc: Global, items: &[T]) -> Result<bool, AllocError>
+    ensures { IfOk result (λ b. b ≡ all_differ bytes_eq (map T.name_bytes items.now)) }
 {
     if hashes_differ(alloc, items)? {
         return Ok(true);
     }
-    let mut titles = titles_of(alloc, items)?;
-    titles.sort_unstable();
-    Ok(texts_rise(&titles))
+    let mut names = item_names(alloc, items)?;
+    names.sort_unstable();
+    Ok(texts_rise(&names))
 }
 
 /// Whether the kinds of the branches are distinct. A branch is its place and the number of its

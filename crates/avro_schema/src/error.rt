@@ -70,7 +70,7 @@ impl<T: Drop> From<AllocFailed<T>> for SchemaError {
 }
 
 /// Why a text couldn't be read as JSON.
-#[derive(Clone, Copy, Debug, Drop)]
+#[derive(Clone, Copy, Drop)]
 pub enum JsonError {
     /// the text isn't JSON, or nests too deep
     Invalid,

@@ -49,7 +49,7 @@ fn value_if_any(attribute: Option<Value>) -> Result<Option<Value>, SchemaError>
 }
 
 /// The attributes of a field other than its type.
-#[derive(Debug, Drop)]
+#[derive(Drop)]
 pub struct FieldAttributes {
     pub name: String,
     pub aliases: Vec<String>,

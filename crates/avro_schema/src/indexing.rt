@@ -194,7 +194,8 @@ fn nodes_ranks(
 ///
 /// # Errors
 ///
-/// `AllocError` if an allocation fails.
+/// `AllocError` if an allocation fails, or if there are more than `MAX_NAMES` names. No schema has
+/// that many.
 pub fn index_of(alloc: Global, nodes: &[Node]) -> Result<Index, AllocError>
     ensures { IfOk result (IsIndex (nodes_view nodes.now)) }
 {

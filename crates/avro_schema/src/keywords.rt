@@ -3,13 +3,13 @@
 ghost use Rattle.std.specs.Prelude.{◌≡◌, Some, None};
 ghost use Rattle.avro_schema.specs.Keywords.{kind_of, type_name_of, order_of};
 
-use avro_nodes::{Kind, Order};
+use avro_nodes::{Order, PrimitiveKind};
 
 /// The meaning of the attribute `type` of an object (Avro 1.11 specification, Schema Declaration).
-#[derive(Clone, Copy, Debug, PartialEq, Eq)]
+#[derive(Clone, Copy)]
 pub enum TypeName {
     /// a primitive type
-    Primitive(Kind),
+    Primitive(PrimitiveKind),
     /// `array`
     Array,
     /// `map`
@@ -25,7 +25,7 @@ pub enum TypeName {
 }
 
 /// A type whose values contain values of one other type (Avro 1.11 specification, Arrays; Maps).
-#[derive(Clone, Copy, Debug, PartialEq, Eq)]
+#[derive(Clone, Copy)]
 pub enum Container {
     /// an array; its attribute `items` is the type of its items
     Items,
@@ -35,18 +35,18 @@ pub enum Container {
 
 /// The primitive type with this name.
 #[tactic(auto, unfolding(crate::specs::Keywords::kind_of))]
-pub fn kind_of(name: &str) -> Option<Kind>
+pub fn kind_of(name: &str) -> Option<PrimitiveKind>
     ensures { result ≡ kind_of name.now }
 {
     match name.len() {
-        3 if name == "int" => Some(Kind::Int),
-        4 if name == "long" => Some(Kind::Long),
-        4 if name == "null" => Some(Kind::Null),
-        5 if name == "bytes" => Some(Kind::Bytes),
-        5 if name == "float" => Some(Kind::Float),
-        6 if name == "string" => Some(Kind::Text),
-        6 if name == "double" => Some(Kind::Double),
-        7 if name == "boolean" => Some(Kind::Boolean),
+        3 if name == "int" => Some(PrimitiveKind::Int),
+        4 if name == "long" => Some(PrimitiveKind::Long),
+        4 if name == "null" => Some(PrimitiveKind::Null),
+        5 if name == "bytes" => Some(PrimitiveKind::Bytes),
+        5 if name == "float" => Some(PrimitiveKind::Float),
+        6 if name == "string" => Some(PrimitiveKind::Text),
+        6 if name == "double" => Some(PrimitiveKind::Double),
+        7 if name == "boolean" => Some(PrimitiveKind::Boolean),
         _ => None,
     }
 }

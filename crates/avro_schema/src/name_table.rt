@@ -34,7 +34,7 @@ impl NameTable {
     ghost use Rattle.std.specs.Prelude.{slice_get, IfOk, OnOk};
     ghost use Rattle.avro_schema.specs.Names.{none_known, defined, resolved};
     ghost use Rattle.avro_nodes.specs.Names.{namespace_of};
-    ghost use Rattle.avro_schema.specs.Inside.NameTables.{in_table, number_in, place_in, known_in, HasNumber, KeepsNumbers};
+    ghost use Rattle.avro_schema.specs.Inside.NameTables.{in_table, namespace_number, place_in, known_in, HasNumber, KeepsNumbers};
 
     /// An empty table.
     pub fn none(alloc: Global) -> NameTable
@@ -52,7 +52,7 @@ impl NameTable {
     ///
     /// `AllocError` if allocation fails. The contract doesn't say which names are then known.
     pub fn number(&mut self, alloc: Global, space: &str) -> Result<usize, AllocError>
-        ensures there { IfOk result (λ n. number_in self.new space.now ≡ Some n) }
+        ensures there { IfOk result (λ n. namespace_number self.new space.now ≡ Some n) }
         ensures kept { OnOk result (KeepsNumbers self.old self.new) }
         ensures same { OnOk result ((other name : List ℕ)
             → place_in self.new other name ≡ place_in self.old other name) }
@@ -96,7 +96,7 @@ impl NameTable {
     /// `AllocError` if allocation fails. The contract doesn't say which names are then known.
     pub fn define(&mut self, alloc: Global, full: &str, place: u32) -> Result<usize, AllocError>
         ensures defined { OnOk result (known_in self.new ≡ defined (known_in self.old) full.now place) }
-        ensures there { IfOk result (λ n. number_in self.new (namespace_of full.now) ≡ Some n) }
+        ensures there { IfOk result (λ n. namespace_number self.new (namespace_of full.now) ≡ Some n) }
         ensures kept { OnOk result (KeepsNumbers self.old self.new) }
     {
         let space = namespace_of(full);

@@ -4,7 +4,7 @@ ghost use Rattle.std.specs.Prelude.{◌≡◌, nat_le};
 ghost use Rattle.serde_json.specs.Data.{depth, items_depth, members_depth};
 ghost use Rattle.serde_json.specs.View.{view, items_view, members_view};
 
-use avro_nodes::Extra;
+use avro_nodes::Members;
 use serde_json::Value;
 
 /// Whether the value's nesting depth is within the limit. A scalar has depth 0; an array or object
@@ -34,7 +34,7 @@ fn items_within(items: &Vec<Value>, limit: u32) -> bool
 
 /// Whether each member's nesting depth is within the limit.
 #[cycle(nest)]
-pub fn members_within(members: &Extra, limit: u32) -> bool
+pub fn members_within(members: &Members, limit: u32) -> bool
     ensures { result ≡ nat_le (members_depth (members_view members.now.entries)) limit }
 {
     if members.is_empty() {

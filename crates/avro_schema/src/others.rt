@@ -7,14 +7,14 @@ ghost use Rattle.serde_json.specs.View.{view, members_view};
 ghost use Rattle.avro_schema.specs.Attributes.{without};
 ghost use Rattle.avro_schema.specs.Inside.Reserved.{is_reserved, has_reserved, are_in_order};
 
-use avro_nodes::Extra;
+use avro_nodes::Members;
 use serde_json::Value;
 use std::alloc::{AllocError, Global};
 
 /// A map of members whose names aren't reserved.
-#[derive(Debug, Drop)]
+#[derive(Drop)]
 pub struct OtherMembers {
-    members: Extra,
+    members: Members,
     ghost unreserved: { has_reserved (members_view members.entries) ≡ false },
     ghost in_order: { are_in_order (members_view members.entries) ≡ true },
 }
@@ -25,7 +25,7 @@ impl OtherMembers {
         ensures { members_view result.members.entries ≡ no_members }
     {
         OtherMembers {
-            members: Extra::new(alloc),
+            members: Members::new(alloc),
         }
     }
 
@@ -54,7 +54,7 @@ impl OtherMembers {
     }
 
     /// The members as a map.
-    pub fn into_map(self) -> Extra
+    pub fn into_map(self) -> Members
         ensures { result ≡ self.members }
     {
         self.members

@@ -7,7 +7,7 @@ ghost use Rattle.serde_json.specs.Read.{number_of, number_from, float_of, of_jso
 ghost use Rattle.serde_json.specs.View.{view, number_view, items_view, members_view};
 
 use crate::error::JsonError;
-use avro_nodes::Extra;
+use avro_nodes::Members;
 use fast_float::Numeral;
 use json::{Reader, Token};
 use serde_json::{Number, Value};
@@ -137,7 +137,7 @@ fn owned_members_at(
     alloc: Global,
     reader: &mut Reader<'_>,
     depth: usize,
-) -> Result<Extra, JsonError>
+) -> Result<Members, JsonError>
     ensures ok { IfOk result
         (λ m. converted (λ ms. of_members ms no_members)
         (members (value depth) (length reader.old) reader.old)
@@ -147,7 +147,7 @@ fn owned_members_at(
         → converted (λ ms. of_members ms no_members)
         (members (value depth) (length reader.old) reader.old) ≡ None }
 {
-    let mut found = Extra::new(alloc);
+    let mut found = Members::new(alloc);
     'members: while let Some(name) = reader.next_key()? {
         let key = String::from_str(alloc, name)?;
         let member = owned_value_at(alloc, reader, depth)?;

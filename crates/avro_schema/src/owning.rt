@@ -9,7 +9,7 @@ ghost use Rattle.avro_schema.specs.Inside.Reserved.{is_reserved};
 ghost use Rattle.avro_schema.specs.Inside.Borrowed.{value_data, items_data, members_data};
 
 use crate::borrowed::{Attributes, Json, Object, is_reserved};
-use avro_nodes::Extra;
+use avro_nodes::Members;
 use serde_json::Value;
 use std::alloc::{AllocError, Global};
 
@@ -49,7 +49,7 @@ fn owned_items(alloc: Global, items: Vec<Json<'_>>) -> Result<Vec<Value>, AllocE
 ///
 /// `AllocError` if allocation fails.
 #[cycle(own)]
-pub fn owned_members(alloc: Global, attributes: Attributes<'_>) -> Result<Extra, AllocError>
+pub fn owned_members(alloc: Global, attributes: Attributes<'_>) -> Result<Members, AllocError>
     ensures { IfOk result (λ m. members_view m.entries ≡ members_data attributes.entry) }
 {
     let Object { reserved, others } = attributes;

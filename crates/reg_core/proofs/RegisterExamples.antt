@@ -3,7 +3,7 @@ use Rattle.std.proofs.Common.{◌≡◌, ℕ, ◌∷◌, [], List, Bool, true, f
 use Rattle.std.specs.Prelude.{None, Some, Ok, Err}
 use Rattle.serde_json.specs.Data.{no_members}
 use Rattle.serde_json.proofs.OnLiterals.{serde_json_on_literals}
-use Rattle.avro_nodes.specs.declared.node.Kind.TheVariants.{Int, Double}
+use Rattle.avro_nodes.specs.declared.node.PrimitiveKind.TheVariants.{Int, Double}
 use Rattle.avro_nodes.specs.Nodes.{NodeView, primitive}
 use Rattle.avro_nodes.specs.Identity.{identity_at}
 use Rattle.reg_core.specs.declared.code.Code.TheVariants.{SubjectNotFound, VersionNotFound, SchemaNotFound, InvalidVersion}

@@ -14,22 +14,22 @@ use crate::attributes::{
     write_text, write_texts,
 };
 use crate::compact::CompactWriter;
-use crate::node::{Extra, Field, Kind, Named};
+use crate::node::{Field, Members, Named, PrimitiveKind};
 use crate::value::{Others, others_of, write_rest};
 use std::alloc::AllocError;
 
-fn kind_text(kind: Kind) -> &'static str
+fn kind_text(kind: PrimitiveKind) -> &'static str
     ensures { result.now ≡ kind_text kind }
 {
     match kind {
-        Kind::Null => "null",
-        Kind::Boolean => "boolean",
-        Kind::Int => "int",
-        Kind::Long => "long",
-        Kind::Float => "float",
-        Kind::Double => "double",
-        Kind::Bytes => "bytes",
-        Kind::Text => "string",
+        PrimitiveKind::Null => "null",
+        PrimitiveKind::Boolean => "boolean",
+        PrimitiveKind::Int => "int",
+        PrimitiveKind::Long => "long",
+        PrimitiveKind::Float => "float",
+        PrimitiveKind::Double => "double",
+        PrimitiveKind::Bytes => "bytes",
+        PrimitiveKind::Text => "string",
     }
 }
 
@@ -38,7 +38,11 @@ fn kind_text(kind: Kind) -> &'static str
 /// # Errors
 ///
 /// `AllocError` if an allocation fails; a part may be written then.
-pub fn write_primitive(out: &mut CompactWriter, kind: Kind, extra: &Extra) -> Result<(), AllocError>
+pub fn write_primitive(
+    out: &mut CompactWriter,
+    kind: PrimitiveKind,
+    extra: &Members,
+) -> Result<(), AllocError>
     ensures { OnOk result (WritesValue (primitive_value kind (members_view extra.now.entries))
         out.old out.new) }
 {
@@ -62,7 +66,7 @@ pub fn write_enum(
     named: &Named,
     symbols: &[String],
     fallback: &Option<String>,
-    extra: &Extra,
+    extra: &Members,
 ) -> Result<(), AllocError>
     ensures { OnOk result (WritesValue (enum_value enclosing.now (named_view named.now)
         (texts_view symbols.now) (option_map string_bytes fallback.now)
@@ -91,7 +95,7 @@ pub fn write_fixed(
     enclosing: &str,
     named: &Named,
     size: u32,
-    extra: &Extra,
+    extra: &Members,
 ) -> Result<(), AllocError>
     ensures { OnOk result (WritesValue (fixed_value enclosing.now (named_view named.now) size
         (members_view extra.now.entries)) out.old out.new) }
@@ -113,7 +117,10 @@ pub fn write_fixed(
 /// # Errors
 ///
 /// `AllocError` if an allocation fails; a part may be written then.
-pub fn begin_array<'a>(out: &mut CompactWriter, extra: &'a Extra) -> Result<Others<'a>, AllocError>
+pub fn begin_array<'a>(
+    out: &mut CompactWriter,
+    extra: &'a Members,
+) -> Result<Others<'a>, AllocError>
     ensures { IfOk result (λ others. AwaitsValue
         (λ items. array_value items (members_view extra.now.entries))
         (merged array_end (members_view others)) out.old out.new) }
@@ -141,7 +148,7 @@ pub fn end_array(out: &mut CompactWriter, mut others: Others<'_>) -> Result<(), 
 /// # Errors
 ///
 /// `AllocError` if an allocation fails; a part may be written then.
-pub fn begin_map<'a>(out: &mut CompactWriter, extra: &'a Extra) -> Result<Others<'a>, AllocError>
+pub fn begin_map<'a>(out: &mut CompactWriter, extra: &'a Members) -> Result<Others<'a>, AllocError>
     ensures { IfOk result (λ others. AwaitsValue
         (λ values. map_value values (members_view extra.now.entries))
         (members_view others) out.old out.new) }
@@ -161,7 +168,7 @@ pub fn begin_map<'a>(out: &mut CompactWriter, extra: &'a Extra) -> Result<Others
 pub fn begin_record<'a>(
     out: &mut CompactWriter,
     named: &Named,
-    extra: &'a Extra,
+    extra: &'a Members,
 ) -> Result<Others<'a>, AllocError>
     ensures { IfOk result (λ others. (enclosing : List ℕ) (fields : Items) (new end : List Token)
         → WritesValue (array fields) out.new new

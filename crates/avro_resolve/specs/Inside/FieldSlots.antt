@@ -3,11 +3,11 @@ use Rattle.std.specs.Prelude.{◌≡◌, ◌⊎◌, ℕ, ◌<◌, ◌≤◌, ◌
 use Rattle.avro_nodes.specs.Nodes.{FieldView, field_view}
 use Rattle.avro_schema.specs.declared.index.FieldRanks.{FieldRanks}
 use Rattle.avro_schema.specs.Index.{AreFieldsRanked}
-use Rattle.avro_resolve.specs.declared.sides.Fields.{Fields}
-use Rattle.avro_resolve.specs.declared.sides.Sides.{Sides}
+use Rattle.avro_resolve.specs.declared.schemas.Fields.{Fields}
+use Rattle.avro_resolve.specs.declared.schemas.SchemaPair.{SchemaPair}
 use Rattle.avro_resolve.specs.Asking.{source_place}
 use Rattle.avro_resolve.specs.Inside.RankMaps.{mapped_rank}
-use Rattle.avro_resolve.specs.Inside.Sides.{names_of, IsSides}
+use Rattle.avro_resolve.specs.Inside.Schemas.{names_of, IsSchemaPair}
 
 -- the name ranks of fields
 abbrev pub names_in : List FieldRanks → List ℕ
@@ -34,12 +34,12 @@ pub record AreInSlots (rank_map : List (Option ℕ)) (names : List ℕ) (n : ℕ
   pub found : (rank k : ℕ) → slot slots rank ≡ Some k → (n ≤ k) × IsFirst rank_map names n k rank
   pub none : (rank k : ℕ) → rank < length slots → slot slots rank ≡ None → n ≤ k → HasName rank_map names k rank → ⊥
 
--- with two sides: the slots, one for each of the reader's names, have the fields of a writer's place
-pub record AreFieldsInSlots (sides : Sides) (fields : Fields) (slots : List (Option ℕ)) : Type 0 where
-  pub both : IsSides sides
-  pub ranked : AreFieldsRanked (names_of sides.writer) (map field_view fields.fields.now) fields.ranks.now
-  pub in_slots : AreInSlots sides.rank_map.ranks.items (names_in fields.ranks.now) 0 slots
-  pub room : length (names_of sides.reader) ≤ length slots
+-- with two schemas: the slots, one for each of the reader's names, have the fields of a writer's place
+pub record AreFieldsInSlots (schemas : SchemaPair) (fields : Fields) (slots : List (Option ℕ)) : Type 0 where
+  pub both : IsSchemaPair schemas
+  pub ranked : AreFieldsRanked (names_of schemas.writer) (map field_view fields.fields.now) fields.ranks.now
+  pub in_slots : AreInSlots schemas.rank_map.ranks.items (names_in fields.ranks.now) 0 slots
+  pub room : length (names_of schemas.reader) ≤ length slots
 
 -- all slots are empty
 abbrev pub IsClear : List (Option ℕ) → Type 0

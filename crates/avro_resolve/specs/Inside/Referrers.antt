@@ -11,13 +11,13 @@ use Rattle.avro_resolve.specs.declared.links.Link.{Link}
 use Rattle.avro_resolve.specs.declared.links.LinkKind.{LinkKind}
 use Rattle.avro_resolve.specs.declared.links.LinkKind.TheVariants.{ByElement, ByName, ByAlias}
 use Rattle.avro_resolve.specs.declared.links.Links.{Links}
-use Rattle.avro_resolve.specs.declared.sides.RankMap.{RankMap}
-use Rattle.avro_resolve.specs.declared.sides.Sides.{Sides}
+use Rattle.avro_resolve.specs.declared.schemas.RankMap.{RankMap}
+use Rattle.avro_resolve.specs.declared.schemas.SchemaPair.{SchemaPair}
 use Rattle.avro_resolve.specs.Inside.Agreeing.{fields_of}
 use Rattle.avro_resolve.specs.Inside.Lists.{list_at, OnlyAdds, IsListedAt}
 use Rattle.avro_resolve.specs.Inside.RankMaps.{mapped_rank}
-use Rattle.avro_resolve.specs.Inside.Sides.{columns, names_of, rows}
-use Rattle.avro_resolve.specs.Inside.Sources.{code_at, AreSources}
+use Rattle.avro_resolve.specs.Inside.Schemas.{columns, names_of, rows}
+use Rattle.avro_resolve.specs.Inside.Sources.{entry_at, AreSources}
 
 -- if the node is a union, its place is in the list of each branch
 abbrev pub IsUnionListed : List (Vec ℕ Global) → ℕ → NodeView → Type 0
@@ -143,22 +143,22 @@ pub record HasLinks (names : List (List ℕ)) (rank_map : Option (List (Option �
   pub named : (i : ℕ) (a : NodeView) → slice_get nodes i ≡ Some a → IsPlaceLinked names rank_map links i a
   pub meant : (x : Link) (place : ℕ) → IsListedAt links.lists.items x place → (a : NodeView) → slice_get nodes x.referrer ≡ Some a → IsOfNode names rank_map links.aliased.items a x place
 
--- the unions and the links of a side
+-- the unions and the links of a schema
 pub record HasReferrers (names : List (List ℕ)) (rank_map : Option (List (Option ℕ))) (nodes : List NodeView) (side_links : Links) : Type 0 where
   pub unions : HasUnions nodes side_links.unions.items
   pub links : HasLinks names rank_map nodes side_links
 
--- the references of both sides, with the source codes of the reader's fields that have aliases
-pub record AreReferrers (sides : Sides) (writer_links reader_links : Links) (table : List (Vec ℕ Global)) : Type 0 where
-  pub writer : HasReferrers (names_of sides.writer) (Some sides.rank_map.ranks.items) (rows sides) writer_links
-  pub reader : HasReferrers (names_of sides.reader) None (columns sides) reader_links
-  pub sources : AreSources (rows sides) (columns sides) reader_links.aliased.items table
+-- the references of both schemas, with the source entries of the reader's fields that have aliases
+pub record AreReferrers (schemas : SchemaPair) (writer_links reader_links : Links) (table : List (Vec ℕ Global)) : Type 0 where
+  pub writer : HasReferrers (names_of schemas.writer) (Some schemas.rank_map.ranks.items) (rows schemas) writer_links
+  pub reader : HasReferrers (names_of schemas.reader) None (columns schemas) reader_links
+  pub sources : AreSources (rows schemas) (columns schemas) reader_links.aliased.items table
 
 -- two links can match: both are by element, both are by name, or the source of the reader's aliased field has its type at the writer's place
 abbrev pub CanMatchLinks : List (Vec ℕ Global) → ℕ → ℕ → LinkKind → LinkKind → Type 0
 CanMatchLinks sources place referrer ByElement ByElement = Unit {0}
 CanMatchLinks sources place referrer ByName ByName = Unit {0}
-CanMatchLinks sources place referrer ByName (ByAlias number) = code_at sources referrer number ≡ place + 1
+CanMatchLinks sources place referrer ByName (ByAlias number) = entry_at sources referrer number ≡ place + 1
 CanMatchLinks sources place referrer _ _ = ⊥
 
 -- the pair of the two referrers may depend on the pair of the places to which the links refer

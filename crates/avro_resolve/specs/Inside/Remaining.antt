@@ -2,11 +2,11 @@
 use Rattle.std.specs.Prelude.{◌≡◌, ◌⊎◌, ℕ, ◌+◌, ◌*◌, List, [], ◌++◌, Bool, true, false, All, ◌&&◌, ◌||◌, length, ◌<◌, nat_lt, slice_get, slice_index_or, sum_by, IsTrue, MatchOption}
 use Rattle.avro_nodes.specs.Nodes.{NodeView}
 use Rattle.avro_resolve.specs.declared.rows.Progress.{Progress}
-use Rattle.avro_resolve.specs.declared.sides.Sides.{Sides}
+use Rattle.avro_resolve.specs.declared.schemas.SchemaPair.{SchemaPair}
 use Rattle.avro_resolve.specs.declared.table.Table.{Table}
 use Rattle.avro_resolve.specs.Resolution.{Pairs, Supports}
 use Rattle.avro_resolve.specs.Inside.Agreeing.{Agree}
-use Rattle.avro_resolve.specs.Inside.Sides.{columns, rows, IsSides}
+use Rattle.avro_resolve.specs.Inside.Schemas.{columns, rows, IsSchemaPair}
 use Rattle.avro_resolve.specs.Witnesses.{Pair, member, without, RefutesAfter, AreDistinct}
 
 -- the flag of a pair, in a list of flags row by row
@@ -26,6 +26,7 @@ count_flags flags = sum_by one_if flags
 abbrev pub count_remaining : Table → ℕ
 count_remaining t = count_flags t.flags.items
 
+-- the two tables have the same numbers of the writer's and of the reader's places
 pub record SameShape (old new : Table) : Type 0 where
   pub writers : new.writers ≡ old.writers
   pub readers : new.readers ≡ old.readers
@@ -87,35 +88,35 @@ Ignores w r i j p q = (R S : Pairs) → WithinBut p q R S → Supports w r R i j
 abbrev pub DependsOn : List NodeView → List NodeView → ℕ → ℕ → ℕ → ℕ → Type 0
 DependsOn w r i j p q = (R : Pairs) → R p q ≡ false → Supports w r R i j → ⊥
 
--- ---- the same for the state of an elimination, with the two sides
+-- ---- the same for the state of an elimination, with the two schemas
 
--- the two sides are valid, and the nodes of each remaining pair agree
-abbrev pub HasAgreedRemainder : Sides → Progress → Type 0
-HasAgreedRemainder sides p = IsSides sides × IsAgreedRemainder (rows sides) (columns sides) p.table
+-- the two schemas are valid, and the nodes of each remaining pair agree
+abbrev pub HasAgreedRemainder : SchemaPair → Progress → Type 0
+HasAgreedRemainder schemas p = IsSchemaPair schemas × IsAgreedRemainder (rows schemas) (columns schemas) p.table
 
 -- the same, and the popped pair is eliminated
-abbrev pub IsPopped : Sides → Progress → Pair → Type 0
-IsPopped sides p popped = HasAgreedRemainder sides p × (remains p.table popped.0 popped.1 ≡ false)
+abbrev pub IsPopped : SchemaPair → Progress → Pair → Type 0
+IsPopped schemas p popped = HasAgreedRemainder schemas p × (remains p.table popped.0 popped.1 ≡ false)
 
 -- some unsupported pairs were eliminated, and each was queued
-abbrev pub Eliminates : Sides → Progress → Progress → Type 0
-Eliminates sides p q = IsAgreedRemainder (rows sides) (columns sides) q.table × QueuesEliminated p.table p.eliminated.items q.table q.eliminated.items
+abbrev pub Eliminates : SchemaPair → Progress → Progress → Type 0
+Eliminates schemas p q = IsAgreedRemainder (rows schemas) (columns schemas) q.table × QueuesEliminated p.table p.eliminated.items q.table q.eliminated.items
 
 -- the pair is still supported
-abbrev pub IsStillSupported : Sides → Progress → ℕ → ℕ → Type 0
-IsStillSupported sides p i j = StillSupported (rows sides) (columns sides) p.table p.eliminated.items i j
+abbrev pub IsStillSupported : SchemaPair → Progress → ℕ → ℕ → Type 0
+IsStillSupported schemas p i j = StillSupported (rows schemas) (columns schemas) p.table p.eliminated.items i j
 
 -- each pair of a writer's place is still supported
-abbrev pub IsRowStillSupported : Sides → Progress → ℕ → Type 0
-IsRowStillSupported sides p i = (j : ℕ) → j < length sides.reader.schema.now → IsStillSupported sides p i j
+abbrev pub IsRowStillSupported : SchemaPair → Progress → ℕ → Type 0
+IsRowStillSupported schemas p i = (j : ℕ) → j < length schemas.reader.schema.now → IsStillSupported schemas p i j
 
 -- each pair is still supported
-abbrev pub AreStillSupported : Sides → Progress → Type 0
-AreStillSupported sides p = AllStillSupported (rows sides) (columns sides) p.table p.eliminated.items
+abbrev pub AreStillSupported : SchemaPair → Progress → Type 0
+AreStillSupported schemas p = AllStillSupported (rows schemas) (columns schemas) p.table p.eliminated.items
 
 -- each pair is still supported, if the pairs of a run count as queued
-abbrev pub AreStillSupportedBut : Sides → Progress → List Pair → Type 0
-AreStillSupportedBut sides p run = AllStillSupported (rows sides) (columns sides) p.table (p.eliminated.items ++ run)
+abbrev pub AreStillSupportedBut : SchemaPair → Progress → List Pair → Type 0
+AreStillSupportedBut schemas p run = AllStillSupported (rows schemas) (columns schemas) p.table (p.eliminated.items ++ run)
 
 -- the pairs are of one of the writer's places, and none of them remains
 abbrev pub AreRun : Table → ℕ → List Pair → Type 0

@@ -2,13 +2,13 @@
 use Rattle.std.specs.Prelude.{◌≡◌, ℕ, ◌+◌, ◌*◌, ◌<◌, ◌≤◌, ◌⊎◌, [], List, take, length, IsTrue}
 use Rattle.avro_nodes.specs.Nodes.{NodeView}
 use Rattle.avro_resolve.specs.declared.pair_set.PairSet.{PairSet}
-use Rattle.avro_resolve.specs.declared.sides.Sides.{Sides}
+use Rattle.avro_resolve.specs.declared.schemas.SchemaPair.{SchemaPair}
 use Rattle.avro_resolve.specs.declared.recursion.Walk.{Walk}
 use Rattle.avro_resolve.specs.declared.recursion.Answer.{Answer}
 use Rattle.avro_resolve.specs.declared.recursion.Answer.TheVariants.{Yes, No, Unfinished}
 use Rattle.avro_resolve.specs.Resolution.{Supports, Resolves}
 use Rattle.avro_resolve.specs.Inside.Places.{IsSelfContained}
-use Rattle.avro_resolve.specs.Inside.Sides.{columns, rows, IsSides}
+use Rattle.avro_resolve.specs.Inside.Schemas.{columns, rows, IsSchemaPair}
 use Rattle.avro_resolve.specs.Witnesses.{Pair, member, RefutesAfter, AreDistinct, HasClosedSet, HasRefutation}
 use Rattle.avro_resolve.specs.Inside.PairSets.{has}
 use Rattle.avro_resolve.specs.Asking.{ContainsAsked}
@@ -59,9 +59,9 @@ pub record CanContinue (w r : List NodeView) (depth : ℕ) (ps qs : List Pair) (
 abbrev pub IsReady : List NodeView → List NodeView → ℕ → Walk → Type 0
 IsReady w r depth s = CanContinue w r depth s.assumed.items s.failed.items s.assumed_set s.failed_set s.visits
 
--- the same for the nodes of two sides
-abbrev pub MayContinue : Sides → ℕ → Walk → Type 0
-MayContinue sides depth s = IsSides sides × IsReady (rows sides) (columns sides) depth s
+-- the same for the nodes of two schemas
+abbrev pub MayContinue : SchemaPair → ℕ → Walk → Type 0
+MayContinue schemas depth s = IsSchemaPair schemas × IsReady (rows schemas) (columns schemas) depth s
 
 -- From a state with these assumed and failed pairs: yes proves the first property, no the second. Unfinished comes only after a thousand visits.
 abbrev pub AnswerHolds : List NodeView → List NodeView → ℕ → List Pair → List Pair → Walk → Type 0 → Type 0 → Answer → Type 0
@@ -69,8 +69,8 @@ AnswerHolds w r depth ps qs t held lost Yes = IsReady w r depth t × Extends w r
 AnswerHolds w r depth ps qs t held lost No = IsReady w r depth t × Extends w r ps qs t.assumed.items t.failed.items × lost
 AnswerHolds w r depth ps qs t held lost Unfinished = HasWalkInvariant w r t × (1000 ≤ t.visits)
 
-abbrev pub WalkAnswerHolds : Sides → ℕ → Walk → Walk → Type 0 → Type 0 → Answer → Type 0
-WalkAnswerHolds sides depth s t held lost answer = AnswerHolds (rows sides) (columns sides) depth s.assumed.items s.failed.items t held lost answer
+abbrev pub WalkAnswerHolds : SchemaPair → ℕ → Walk → Walk → Type 0 → Type 0 → Answer → Type 0
+WalkAnswerHolds schemas depth s t held lost answer = AnswerHolds (rows schemas) (columns schemas) depth s.assumed.items s.failed.items t held lost answer
 
 -- what the recursion's answer for the roots proves
 abbrev pub AnswerShows : List NodeView → List NodeView → ℕ → Answer → Type 0

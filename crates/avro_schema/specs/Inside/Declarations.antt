@@ -60,6 +60,7 @@ symbols_in ms = do
   symbols ← texts_in (allowed is_simple) items
   if all_differ bytes_eq symbols then Some symbols else None
 
+-- the enum that these members declare, if they are valid, with the next place
 unfoldable pub enum_at : List ℕ → Members → Known → ℕ → Option (Part ℕ)
 enum_at space ms known first = do
   place ← room_at first
@@ -69,6 +70,7 @@ enum_at space ms known first = do
   extra ← bounded (without_all (codes "symbols" ∷ codes "default" ∷ []) (without_all name_keys ms))
   Some (record { it = place; nodes = enumeration named symbols fallback extra ∷ []; known = defined known named.name place })
 
+-- the fixed type that these members declare, if they are valid, with the next place
 unfoldable pub fixed_at : List ℕ → Members → Known → ℕ → Option (Part ℕ)
 fixed_at space ms known first = do
   place ← room_at first
@@ -87,6 +89,7 @@ pub record FieldAttributesView : Type 0 where
 abbrev pub field_attributes_view : FieldAttributes → FieldAttributesView
 field_attributes_view l = record { name = string_bytes l.name; aliases = texts_view l.aliases.items; order = l.order; value = option_map view l.value }
 
+-- the name, aliases, order and default that these members declare, if they are valid
 unfoldable pub field_attributes_in : Members → Option FieldAttributesView
 field_attributes_in ms = do
   text ← text_in (codes "name") ms

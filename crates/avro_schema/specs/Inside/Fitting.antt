@@ -5,8 +5,8 @@ use Rattle.serde_json.specs.Data.{Data, null, boolean, number, string, Items, no
 use Rattle.serde_json.specs.Data as json
 use Rattle.serde_json.specs.Find.{get_member, as_i64}
 use Rattle.avro_nodes.specs.Limits.{max_nesting}
-use Rattle.avro_nodes.specs.declared.node.Kind.{Kind}
-use Rattle.avro_nodes.specs.declared.node.Kind.TheVariants.{Null, Boolean, Int, Long, Float, Double, Bytes, Text}
+use Rattle.avro_nodes.specs.declared.node.PrimitiveKind.{PrimitiveKind}
+use Rattle.avro_nodes.specs.declared.node.PrimitiveKind.TheVariants.{Null, Boolean, Int, Long, Float, Double, Bytes, Text}
 use Rattle.avro_nodes.specs.Nodes.{FieldView, NodeView, primitive, array, mapping, union, enumeration, fixed, rec}
 use Rattle.avro_schema.specs.Defaults.{is_int, is_bytes}
 
@@ -14,7 +14,7 @@ abbrev pub integer_fits : (ℤ → Bool) → Option ℤ → Bool
 integer_fits test None = false
 integer_fits test (Some z) = test z
 
-abbrev pub number_fits : Kind → Option ℤ → Bool
+abbrev pub number_fits : PrimitiveKind → Option ℤ → Bool
 number_fits Null o = false
 number_fits Boolean o = false
 number_fits Int o = integer_fits is_int o
@@ -24,7 +24,7 @@ number_fits Double o = is_some o
 number_fits Bytes o = false
 number_fits Text o = false
 
-abbrev pub string_fits : Kind → List ℕ → Bool
+abbrev pub string_fits : PrimitiveKind → List ℕ → Bool
 string_fits Null s = false
 string_fits Boolean s = false
 string_fits Int s = false
@@ -34,7 +34,7 @@ string_fits Double s = false
 string_fits Bytes s = is_bytes s
 string_fits Text s = true
 
-abbrev pub is_null : Kind → Bool
+abbrev pub is_null : PrimitiveKind → Bool
 is_null Null = true
 is_null Boolean = false
 is_null Int = false
@@ -44,7 +44,7 @@ is_null Double = false
 is_null Bytes = false
 is_null Text = false
 
-abbrev pub is_boolean : Kind → Bool
+abbrev pub is_boolean : PrimitiveKind → Bool
 is_boolean Null = false
 is_boolean Boolean = true
 is_boolean Int = false
@@ -54,7 +54,7 @@ is_boolean Double = false
 is_boolean Bytes = false
 is_boolean Text = false
 
-abbrev pub primitive_fits : Data → Kind → Bool
+abbrev pub primitive_fits : Data → PrimitiveKind → Bool
 primitive_fits null kind = is_null kind
 primitive_fits (boolean b) kind = is_boolean kind
 primitive_fits (number n) kind = number_fits kind (as_i64 n)

@@ -1,11 +1,11 @@
 -- Numbers that identify the kinds of branches.
 use Rattle.std.specs.Prelude.{ℕ, ◌+◌, List, Option, option_map}
-use Rattle.avro_nodes.specs.declared.node.Kind.{Kind}
-use Rattle.avro_nodes.specs.declared.node.Kind.TheVariants.{Null, Boolean, Int, Long, Float, Double, Bytes, Text}
+use Rattle.avro_nodes.specs.declared.node.PrimitiveKind.{PrimitiveKind}
+use Rattle.avro_nodes.specs.declared.node.PrimitiveKind.TheVariants.{Null, Boolean, Int, Long, Float, Double, Bytes, Text}
 use Rattle.avro_nodes.specs.Nodes.{NodeView}
 use Rattle.avro_schema.specs.Kinds.{BranchKind, primitive_kind, array_kind, map_kind, named_kind, branch_kind}
 
-abbrev pub primitive_number : Kind → ℕ
+abbrev pub primitive_number : PrimitiveKind → ℕ
 primitive_number Null = 0
 primitive_number Boolean = 1
 primitive_number Int = 2

@@ -23,12 +23,12 @@ place_at tables None name = None
 place_at tables (Some n) name = in_table (slice_get tables n) name
 
 -- the number of a namespace
-abbrev pub number_in : NameTable → List ℕ → Option ℕ
-number_in known space = get_by_text known.numbers space
+abbrev pub namespace_number : NameTable → List ℕ → Option ℕ
+namespace_number known space = get_by_text known.numbers space
 
 -- the place of a name in a namespace
 abbrev pub place_in : NameTable → List ℕ → List ℕ → Option ℕ
-place_in known space name = place_at known.tables.items (number_in known space) name
+place_in known space name = place_at known.tables.items (namespace_number known space) name
 
 -- the defined names as a function of full names
 abbrev pub known_in : NameTable → Known
@@ -36,8 +36,8 @@ known_in known = λ full. place_in known (namespace_of full) (without_namespace 
 
 -- the table has this number for the namespace
 abbrev pub HasNumber : NameTable → Namespace → Type 0
-HasNumber known space = number_in known space.text.now ≡ Some space.number
+HasNumber known space = namespace_number known space.text.now ≡ Some space.number
 
 -- every namespace keeps its number
 unfoldable pub KeepsNumbers : NameTable → NameTable → Type 0
-KeepsNumbers old new = (space : List ℕ) (n : ℕ) → number_in old space ≡ Some n → number_in new space ≡ Some n
+KeepsNumbers old new = (space : List ℕ) (n : ℕ) → namespace_number old space ≡ Some n → namespace_number new space ≡ Some n

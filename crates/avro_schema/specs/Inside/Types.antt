@@ -5,7 +5,7 @@ use Rattle.std.specs.Str.{bytes_eq}
 use Rattle.serde_json.specs.Data.{Data, string, Items, Members, no_members}
 use Rattle.serde_json.specs.Data as json
 use Rattle.serde_json.specs.Find.{get_member, as_object}
-use Rattle.avro_nodes.specs.declared.node.Kind.{Kind}
+use Rattle.avro_nodes.specs.declared.node.PrimitiveKind.{PrimitiveKind}
 use Rattle.avro_nodes.specs.Nodes.{FieldView, NodeView, primitive, array, mapping, union, rec}
 use Rattle.avro_schema.specs.declared.keywords.TypeName.{TypeName}
 use Rattle.avro_schema.specs.declared.keywords.TypeName.TheVariants as type_name
@@ -24,13 +24,13 @@ use Rattle.avro_schema.specs.Inside.ValueReaders.{Part, PartReader, TypeReader, 
 unfoldable pub reference_to : List ℕ → List ℕ → Known → Option (Part ℕ)
 reference_to space name known = option_map (λ p. record { it = p; nodes = []; known = known }) (resolved known space name)
 
-unfoldable pub primitive_at : Kind → Members → Known → ℕ → Option (Part ℕ)
+unfoldable pub primitive_at : PrimitiveKind → Members → Known → ℕ → Option (Part ℕ)
 primitive_at kind ms known first = do
   place ← room_at first
   extra ← bounded ms
   Some (record { it = place; nodes = primitive kind extra ∷ []; known = known })
 
-abbrev pub kind_or_reference : Option Kind → List ℕ → List ℕ → Known → ℕ → Option (Part ℕ)
+abbrev pub kind_or_reference : Option PrimitiveKind → List ℕ → List ℕ → Known → ℕ → Option (Part ℕ)
 kind_or_reference (Some kind) space name known first = primitive_at kind no_members known first
 kind_or_reference None space name known first = reference_to space name known
 

@@ -6,7 +6,7 @@ ghost use Rattle.serde_json.specs.View.{view};
 ghost use Rattle.avro_schema.specs.Inside.Fitting.{primitive_fits};
 ghost use Rattle.avro_schema.specs.Defaults.{is_bytes};
 
-use avro_nodes::Kind;
+use avro_nodes::PrimitiveKind;
 use serde_json::Value;
 
 /// Whether every code point of the text is at most 255 and so denotes a byte.
@@ -29,21 +29,23 @@ pub fn is_bytes_of(text: &str, size: u32) -> bool
     is_bytes(text) && char_count(text) == size as usize
 }
 
-pub fn primitive_fits(value: &Value, kind: Kind) -> bool
+pub fn primitive_fits(value: &Value, kind: PrimitiveKind) -> bool
     ensures { result ≡ primitive_fits (view value.now) kind }
 {
     match kind {
-        Kind::Null => value.is_null(),
-        Kind::Boolean => value.is_boolean(),
-        Kind::Int => match value.as_i64() {
+        PrimitiveKind::Null => value.is_null(),
+        PrimitiveKind::Boolean => value.is_boolean(),
+        PrimitiveKind::Int => match value.as_i64() {
             Some(number) => -2147483648 <= number && number <= 2147483647,
             None => false,
         },
-        Kind::Long | Kind::Float | Kind::Double => value.as_i64().is_some(),
-        Kind::Bytes => match value.as_str() {
+        PrimitiveKind::Long | PrimitiveKind::Float | PrimitiveKind::Double => value
+            .as_i64()
+            .is_some(),
+        PrimitiveKind::Bytes => match value.as_str() {
             Some(text) => is_bytes(text),
             None => false,
         },
-        Kind::Text => value.is_string(),
+        PrimitiveKind::Text => value.is_string(),
     }
 }

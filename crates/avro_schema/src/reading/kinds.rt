@@ -6,21 +6,21 @@ ghost use Rattle.avro_schema.specs.Inside.KindNumbers.{primitive_number, branch_
 ghost use Rattle.avro_schema.specs.Inside.Types.{member_name};
 
 use crate::keywords::Container;
-use avro_nodes::{Kind, Node};
+use avro_nodes::{Node, PrimitiveKind};
 
 /// The number of a primitive type.
-fn primitive_number(kind: Kind) -> u32
+fn primitive_number(kind: PrimitiveKind) -> u32
     ensures { result ≡ primitive_number kind }
 {
     match kind {
-        Kind::Null => 0,
-        Kind::Boolean => 1,
-        Kind::Int => 2,
-        Kind::Long => 3,
-        Kind::Float => 4,
-        Kind::Double => 5,
-        Kind::Bytes => 6,
-        Kind::Text => 7,
+        PrimitiveKind::Null => 0,
+        PrimitiveKind::Boolean => 1,
+        PrimitiveKind::Int => 2,
+        PrimitiveKind::Long => 3,
+        PrimitiveKind::Float => 4,
+        PrimitiveKind::Double => 5,
+        PrimitiveKind::Bytes => 6,
+        PrimitiveKind::Text => 7,
     }
 }
 

@@ -12,7 +12,7 @@ use crate::definitions::{next_place, other_attributes};
 use crate::error::SchemaError;
 use crate::keywords::kind_of;
 use crate::name_table::{NameTable, Namespace};
-use avro_nodes::{Extra, Kind, Node};
+use avro_nodes::{Members, Node, PrimitiveKind};
 use std::alloc::Global;
 
 /// Reads a primitive type from the attributes without `type`, and returns its place.
@@ -24,7 +24,7 @@ use std::alloc::Global;
 #[tactic(auto, unfolding(crate::specs::Inside::Types::primitive_at))]
 pub fn primitive_at(
     alloc: Global,
-    kind: Kind,
+    kind: PrimitiveKind,
     attributes: Attributes<'_>,
     nodes: &mut Vec<Node>,
     known: &NameTable,
@@ -82,7 +82,7 @@ pub fn name_at(
     match kind_of(name) {
         Some(kind) => {
             let place = next_place(nodes)?;
-            let extra = Extra::new(alloc);
+            let extra = Members::new(alloc);
             nodes.push(Node::Primitive { kind, extra })?;
             Ok(place)
         }

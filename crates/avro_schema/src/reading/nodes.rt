@@ -8,11 +8,11 @@ ghost use Rattle.avro_schema.specs.Inside.Declarations.{field_attributes_view};
 
 use crate::field_attributes::FieldAttributes;
 use crate::keywords::Container;
-use avro_nodes::{Extra, Field, Node};
+use avro_nodes::{Field, Members, Node};
 use std::alloc::Global;
 
 /// The node of an array or a map whose items or values have the type at `place`.
-pub fn container_node(container: Container, place: u32, extra: Extra) -> Node
+pub fn container_node(container: Container, place: u32, extra: Members) -> Node
     ensures { node_view result ≡ container_node container place (members_view extra.entries) }
 {
     match container {
@@ -44,7 +44,7 @@ pub fn fill_blank(nodes: &mut Vec<Node>, place: u32, node: Node)
 }
 
 /// A field whose type is at `place`.
-pub fn field_from(label: FieldAttributes, place: u32, extra: Extra) -> Field
+pub fn field_from(label: FieldAttributes, place: u32, extra: Members) -> Field
     ensures { field_view result ≡ field_at (field_attributes_view label) place (members_view extra.entries) }
 {
     let FieldAttributes {

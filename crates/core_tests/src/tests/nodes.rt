@@ -1,6 +1,6 @@
 //! Numbers, and nodes that no text denotes. The expected texts were derived from the project's profile by hand.
 
-use avro_nodes::{Extra, Kind, Node, identity_of, plain_of};
+use avro_nodes::{Members, Node, PrimitiveKind, identity_of, plain_of};
 use serde_json::Value;
 use std::alloc::Global;
 use std::test::Fail;
@@ -70,7 +70,7 @@ fn numbers(rt: HostRuntime) -> Result<(), Fail> {
     Ok(())
 }
 
-fn members(alloc: Global, json: &str) -> Result<Extra, Fail> {
+fn members(alloc: Global, json: &str) -> Result<Members, Fail> {
     match Value::from_str(alloc, json)? {
         Value::Object(members) => Ok(members),
         _ => Err("not an object".into()),
@@ -83,7 +83,7 @@ fn nodes_that_no_text_denotes(rt: HostRuntime) -> Result<(), Fail> {
     let alloc = rt.alloc();
     let json = r#"{"A":1,"type":7,"x":[1.5,-0.0,2.5e-7],"zz":8}"#;
     let extra = members(alloc, json)?;
-    let kind = Kind::Double;
+    let kind = PrimitiveKind::Double;
     let text = identity_of(alloc, &[Node::Primitive { kind, extra }])?;
     let wanted = r#"{"A":1,"type":"double","x":[1.5,-0.0,2.5e-7],"zz":8}"#;
     assert_eq!(rt; text.as_str(), wanted);

@@ -6,13 +6,13 @@ use Rattle.std.proofs.lemmas.Bool.{cases_lt}
 use Rattle.std.proofs.lemmas.Bool.Decides.{nat_tests}
 use Rattle.std.specs.Prelude.{Vec}
 use Rattle.std.specs.declared.alloc.Global.{Global}
-use Rattle.avro_resolve.specs.Inside.Sides.{columns, rows}
+use Rattle.avro_resolve.specs.Inside.Schemas.{columns, rows}
 use Rattle.avro_resolve.specs.declared.links.Link.{Link}
 use Rattle.avro_resolve.specs.declared.links.LinkKind.{LinkKind}
 use Rattle.avro_resolve.specs.declared.links.LinkKind.TheVariants.{ByElement, ByName, ByAlias}
 use Rattle.avro_resolve.specs.Inside.Referrers.{CanMatchLinks, MayDepend}
 use Rattle.avro_resolve.specs.Inside.Remaining.{remains, StillSupported}
-use Rattle.avro_resolve.specs.Inside.Sources.{code_at}
+use Rattle.avro_resolve.specs.Inside.Sources.{entry_at}
 use Rattle.avro_resolve.proofs.ListLemmas.{get_or_any}
 use Rattle.avro_resolve.proofs.KeptSupport.{lists_none, lists_then, settled_gone, settled_on, stays_out}
 use Rattle.avro_resolve.proofs.elimination.eliminate_joined.Goals.{then-loop-at-test+else-reader_links-at, else-loop-at-test, in-ByName-ByAlias, in_default, in_default-2, in_default-3, in-ByElement-ByElement, in-ByElement-ByElement-2}
@@ -23,7 +23,7 @@ none = record { label = 0; referrer = 0; kind = ByElement }
 
 pub returns-clause-still_supported : goal.returns-clause-still_supported
 returns-clause-still_supported c = λ x y hx hy one asks.
-    let w = rows c.args.sides.now in let r = columns c.args.sides.now in let xs = c.args.writer_links.now in let ys = c.args.reader_links.now in
+    let w = rows c.args.schemas.now in let r = columns c.args.schemas.now in let xs = c.args.writer_links.now in let ys = c.args.reader_links.now in
     let t = c.loop-link.progress.table in let ps = c.loop-link.progress.eliminated.items in
     let past : length xs ≤ c.loop-link.link-index = c.loop-link-test.false in
     let lx = hx.1 in let below : hx.0 < c.loop-link.link-index = omega (arith, past, lx) in
@@ -69,7 +69,7 @@ eliminate_pair-requires-clause-unsupported c =
     let one_if = c.requires.reader_links_sorted first at none on within in let least = c.first_at_label-from.ensures.at none (omega arith) in let most = c.if-reader_links-at.true in omega arith) in
     let asks : MayDepend c.args.sources.now c.args.popped.0 link other = elim c.match-link.branch [
       | in-ByName-ByAlias w ↦ (
-          let popped : w.from.result ≡ code_at s link.referrer w.in-ByName-ByAlias.number = search rules in
+          let popped : w.from.result ≡ entry_at s link.referrer w.in-ByName-ByAlias.number = search rules in
           let same : w.from.result ≡ p + 1 = grind (arith, nat_tests) in
           (by_ways s p link other ByName (ByAlias w.in-ByName-ByAlias.number) w.in-ByName-ByAlias.is-0 w.in-ByName-ByAlias.is-1).0 (sym popped ∙ same)
           )
@@ -85,15 +85,15 @@ eliminate_pair-requires-clause-unsupported c =
 
 pub has-requires-clause-i_in : goal.has-requires-clause-i_in
 has-requires-clause-i_in c =
-    let l = c.requires.writer_links_in c.loop-link.link-index none c.loop-link-test.true in let n = c.loop-at.invariant.rest.rest.writers in let view = length-map c.args.sides.now.writer.schema.now node_view in omega (arith, l, n, view)
+    let l = c.requires.writer_links_in c.loop-link.link-index none c.loop-link-test.true in let n = c.loop-at.invariant.rest.rest.writers in let view = length-map c.args.schemas.now.writer.schema.now node_view in omega (arith, l, n, view)
 
 pub has-requires-clause-j_in : goal.has-requires-clause-j_in
 has-requires-clause-j_in c =
-    let l = c.requires.reader_links_in c.loop-at.at none c.loop-at-test.true in let n = c.loop-at.invariant.rest.rest.readers in let view = length-map c.args.sides.now.reader.schema.now node_view in omega (arith, l, n, view)
+    let l = c.requires.reader_links_in c.loop-at.at none c.loop-at-test.true in let n = c.loop-at.invariant.rest.rest.readers in let view = length-map c.args.schemas.now.reader.schema.now node_view in omega (arith, l, n, view)
 
 pub loop-at-preserved-then-not-has : goal.loop-at-preserved-then-not-has
 loop-at-preserved-then-not-has c =
-    let w = rows c.args.sides.now in let r = columns c.args.sides.now in let link = get_or c.args.writer_links.now c.loop-link.link-index none in let ys = c.args.reader_links.now in let at = c.loop-at.at in let inv = c.loop-at.invariant in
+    let w = rows c.args.schemas.now in let r = columns c.args.schemas.now in let link = get_or c.args.writer_links.now c.loop-link.link-index none in let ys = c.args.reader_links.now in let at = c.loop-at.at in let inv = c.loop-at.invariant in
     let u = c.loop-at.progress.table in let qs = c.loop-at.progress.eliminated.items in let within : at < length ys = c.loop-at-test.true in
     let out : remains u link.referrer (get_or ys at none).referrer ≡ false = sym c.has.ensures ∙ c.if-not-has.true in
     record {
@@ -116,9 +116,9 @@ loop-at-preserved-then-not-asks c =
     let other = get_or ys at none in let s = c.args.sources.now in let p = c.args.popped.0 in
     let never : MayDepend c.args.sources.now c.args.popped.0 link (get_or ys at none) → ⊥ = elim c.match-link.branch [
       | in-ByName-ByAlias w ↦ λ h. (
-          let popped : w.from.result ≡ code_at s link.referrer w.in-ByName-ByAlias.number = search rules in
-          let code : code_at s link.referrer w.in-ByName-ByAlias.number ≡ p + 1 = (by_ways s p link other ByName (ByAlias w.in-ByName-ByAlias.number) w.in-ByName-ByAlias.is-0 w.in-ByName-ByAlias.is-1).1 h in
-          let same : w.from.result ≡ p + 1 = popped ∙ code in
+          let popped : w.from.result ≡ entry_at s link.referrer w.in-ByName-ByAlias.number = search rules in
+          let entry : entry_at s link.referrer w.in-ByName-ByAlias.number ≡ p + 1 = (by_ways s p link other ByName (ByAlias w.in-ByName-ByAlias.number) w.in-ByName-ByAlias.is-0 w.in-ByName-ByAlias.is-1).1 h in
+          let same : w.from.result ≡ p + 1 = popped ∙ entry in
           grind (arith, nat_tests)
           )
       | in_default w ↦ λ h. no_contents s p link.referrer other.kind w.in_default.not-ByElement-1 (subst (λ (v : LinkKind). CanMatchLinks s p link.referrer v other.kind) w.in_default.is-0 h)
@@ -142,7 +142,7 @@ loop-at-preserved-then-not-asks c =
 
 pub loop-at-preserved : goal.loop-at-preserved
 loop-at-preserved c =
-    let w = rows c.args.sides.now in let r = columns c.args.sides.now in let i = (get_or c.args.writer_links.now c.loop-link.link-index none).referrer in let ys = c.args.reader_links.now in let at = c.loop-at.at in
+    let w = rows c.args.schemas.now in let r = columns c.args.schemas.now in let i = (get_or c.args.writer_links.now c.loop-link.link-index none).referrer in let ys = c.args.reader_links.now in let at = c.loop-at.at in
     let t = c.loop-link.progress.table in let u = c.loop-at.progress.table in let v = c.eliminate_pair.new.progress.table in
     let ps = c.loop-link.progress.eliminated.items in let qs = c.loop-at.progress.eliminated.items in let rs = c.eliminate_pair.new.progress.eliminated.items in
     let within : at < length ys = c.loop-at-test.true in
@@ -160,7 +160,7 @@ loop-at-preserved c =
 
 pub loop-link-preserved : goal.loop-link-preserved
 loop-link-preserved c =
-    let w = rows c.args.sides.now in let r = columns c.args.sides.now in let xs = c.args.writer_links.now in let ys = c.args.reader_links.now in
+    let w = rows c.args.schemas.now in let r = columns c.args.schemas.now in let xs = c.args.writer_links.now in let ys = c.args.reader_links.now in
     let at = c.loop-link.link-index in let inv = c.loop-link.invariant in let inner = c.loop-at.invariant in
     let u = c.loop-link.progress.table in let v = c.loop-at.progress.table in let qs = c.loop-link.progress.eliminated.items in let rs = c.loop-at.progress.eliminated.items in
     let within : at < length xs = c.loop-link-test.true in

@@ -4,7 +4,7 @@ use Rattle.std.proofs.lemmas.List.{length-map}
 use Rattle.std.proofs.lemmas.Option.{same_Some}
 use Rattle.avro_nodes.specs.Nodes.{node_view, union}
 use Rattle.avro_resolve.specs.Inside.Remaining.{remains, StillSupported}
-use Rattle.avro_resolve.specs.Inside.Sides.{columns, rows}
+use Rattle.avro_resolve.specs.Inside.Schemas.{columns, rows}
 use Rattle.avro_resolve.proofs.ListLemmas.{each_more}
 use Rattle.avro_resolve.proofs.Dependence.{supports_any}
 use Rattle.avro_resolve.proofs.KeptSupport.{lists_then, settled_gone, settled_on, settled_supported}
@@ -13,7 +13,7 @@ use Rattle.avro_resolve.proofs.elimination.examine_unions.Goals as goal
 
 pub loop-j-preserved-then-not-has : goal.loop-j-preserved-then-not-has
 loop-j-preserved-then-not-has c =
-    let w = rows c.args.sides.now in let r = columns c.args.sides.now in let i = c.args.i in let js = c.args.unions.now in let inv = c.loop-j.invariant in
+    let w = rows c.args.schemas.now in let r = columns c.args.schemas.now in let i = c.args.i in let js = c.args.unions.now in let inv = c.loop-j.invariant in
     let u = c.loop-j.progress.table in let qs = c.loop-j.progress.eliminated.items in
     record {
       rest = inv.rest;
@@ -24,7 +24,7 @@ loop-j-preserved-then-not-has c =
 
 pub loop-j-preserved-in_default : goal.loop-j-preserved-in_default
 loop-j-preserved-in_default c =
-    let w = rows c.args.sides.now in let r = columns c.args.sides.now in let i = c.args.i in let js = c.args.unions.now in let inv = c.loop-j.invariant in
+    let w = rows c.args.schemas.now in let r = columns c.args.schemas.now in let i = c.args.i in let js = c.args.unions.now in let inv = c.loop-j.invariant in
     let u = c.loop-j.progress.table in let qs = c.loop-j.progress.eliminated.items in
     record {
       rest = inv.rest;
@@ -35,7 +35,7 @@ loop-j-preserved-in_default c =
 
 pub loop-j-preserved-then-any_remaining : goal.loop-j-preserved-then-any_remaining
 loop-j-preserved-then-any_remaining c =
-    let w = rows c.args.sides.now in let r = columns c.args.sides.now in let i = c.args.i in let js = c.args.unions.now in let inv = c.loop-j.invariant in
+    let w = rows c.args.schemas.now in let r = columns c.args.schemas.now in let i = c.args.i in let js = c.args.unions.now in let inv = c.loop-j.invariant in
     let u = c.loop-j.progress.table in let qs = c.loop-j.progress.eliminated.items in let j = get_or js c.loop-j.j-index 0 in
     let here : slice_get r j ≡ Some (union c.in-Union.branches.items) = c.node.ensures.node ∙ ap (λ n. Some (node_view n)) c.in-Union.is in
     let told = supports_any w r (remains u) i j c.in-Union.branches.items (rw length-map c.requires.i_in) c.requires.apart here in
@@ -48,14 +48,14 @@ loop-j-preserved-then-any_remaining c =
 
 pub eliminate_pair-requires-clause-unsupported : goal.eliminate_pair-requires-clause-unsupported
 eliminate_pair-requires-clause-unsupported c = λ s.
-    let w = rows c.args.sides.now in let r = columns c.args.sides.now in let i = c.args.i in let j = get_or c.args.unions.now c.loop-j.j-index 0 in
+    let w = rows c.args.schemas.now in let r = columns c.args.schemas.now in let i = c.args.i in let j = get_or c.args.unions.now c.loop-j.j-index 0 in
     let here : slice_get r j ≡ Some (union c.in-Union.branches.items) = c.node.ensures.node ∙ ap (λ n. Some (node_view n)) c.in-Union.is in
     let told = supports_any w r (remains c.loop-j.progress.table) i j c.in-Union.branches.items (rw length-map c.requires.i_in) c.requires.apart here in
     true≢false (sym (c.any_remaining.ensures.1 (rw c.deref.ensures.value (told.0 s))) ∙ c.if-any_remaining.false)
 
 pub loop-j-preserved : goal.loop-j-preserved
 loop-j-preserved c =
-    let w = rows c.args.sides.now in let r = columns c.args.sides.now in let i = c.args.i in let js = c.args.unions.now in let inv = c.loop-j.invariant in
+    let w = rows c.args.schemas.now in let r = columns c.args.schemas.now in let i = c.args.i in let js = c.args.unions.now in let inv = c.loop-j.invariant in
     let u = c.loop-j.progress.table in let v = c.eliminate_pair.new.progress.table in let qs = c.loop-j.progress.eliminated.items in let rs = c.eliminate_pair.new.progress.eliminated.items in
     let done = c.in_ok-eliminate_pair.ensures in let more = done.eliminates.1 in
     record {

@@ -5,12 +5,12 @@ use Rattle.std.proofs.lemmas.List.Elements.{Contains-get_or}
 use Rattle.avro_resolve.specs.declared.links.Link.{Link}
 use Rattle.avro_resolve.specs.declared.links.Links.{Links}
 use Rattle.avro_resolve.specs.Inside.Referrers.{HasLabel, LinkedBy, OnlyAddsLinks}
-use Rattle.avro_resolve.proofs.LinkLemmas.{linked_on, notes_none, notes_then}
+use Rattle.avro_resolve.proofs.LinkLemmas.{linked_on, only_adds_none, only_adds_then}
 use Rattle.avro_resolve.proofs.ListLemmas.{get_or_any}
 use Rattle.avro_resolve.proofs.links.add_links.Goals as goal
 
 pub loop-index-init : goal.loop-index-init
-loop-index-init c = record { notes = notes_none _ c.args.links.now; there = λ k d l. absurd (omega arith) }
+loop-index-init c = record { only_adds = only_adds_none _ c.args.links.now; there = λ k d l. absurd (omega arith) }
 
 pub loop-index-preserved : goal.loop-index-preserved
 loop-index-preserved c =
@@ -20,8 +20,8 @@ loop-index-preserved c =
     let one : OnlyAddsLinks (λ x q. (x ≡ link) × (q ≡ p)) xs ys = record { adds = more; kept = λ number field e. e; unions = refl } in
     let within : at < length ns = c.loop-index-test.true in
     record {
-      notes = notes_then _ _ _ (λ x q h. h)
-          (λ x q h. (subst (λ (n : ℕ). Contains ns n) (sym (ap (λ (y : Link). y.label) h.0)) (Contains-get_or ns at 0 within), ap (λ (y : Link). y.kind) h.0, ap (λ (y : Link). y.referrer) h.0, h.1)) c.args.links.now xs ys inv.notes one;
+      only_adds = only_adds_then _ _ _ (λ x q h. h)
+          (λ x q h. (subst (λ (n : ℕ). Contains ns n) (sym (ap (λ (y : Link). y.label) h.0)) (Contains-get_or ns at 0 within), ap (λ (y : Link). y.kind) h.0, ap (λ (y : Link). y.referrer) h.0, h.1)) c.args.links.now xs ys inv.only_adds one;
       there = λ k d l. elim (cases_lt k at) [
         | inl g ↦ linked_on xs ys more.kept (λ number field e. e) (HasLabel (get_or ns k d) kind) i p (inv.there k d g)
         | inr g ↦ (let e : at ≡ k = omega arith in
@@ -33,7 +33,7 @@ pub loop-index-preserved-then-labels-index : goal.loop-index-preserved-then-labe
 loop-index-preserved-then-labels-index c =
     let inv = c.loop-index.invariant in let ns = c.args.labels.now in let at = c.loop-index.index in let xs = c.loop-index.links in let i = c.args.at in let p = c.args.to in let kind = c.args.kind in
     record {
-      notes = inv.notes;
+      only_adds = inv.only_adds;
       there = λ k d l. elim (cases_lt k at) [
         | inl g ↦ inv.there k d g
         | inr g ↦ (let e : at ≡ k = omega arith in

@@ -20,10 +20,10 @@ use Rattle.avro_resolve.specs.declared.links.Link.{Link}
 use Rattle.avro_resolve.specs.declared.links.LinkKind.{LinkKind}
 use Rattle.avro_resolve.specs.Inside.Agreeing.{fields_of}
 use Rattle.avro_resolve.specs.Inside.Referrers.{element_place, AreFieldsLinked, HasLabel, IsFieldLinked, IsOfField, IsPlaceLinked, LinkedBy, alias_labels, own_label, GivenBy, IsAlias, OnlyAddsLinks, ranks_of}
-use Rattle.avro_resolve.specs.declared.sides.RankMap.{RankMap}
+use Rattle.avro_resolve.specs.declared.schemas.RankMap.{RankMap}
 use Rattle.avro_resolve.specs.Inside.RankMaps.{mapped_rank}
-use Rattle.avro_resolve.specs.Inside.Sides.{names_of}
-use Rattle.avro_resolve.proofs.LinkLemmas.{field_on, of_field_on, notes_none, notes_such, notes_then, linked_on}
+use Rattle.avro_resolve.specs.Inside.Schemas.{names_of}
+use Rattle.avro_resolve.proofs.LinkLemmas.{field_on, of_field_on, only_adds_none, only_adds_such, only_adds_then, linked_on}
 use Rattle.avro_resolve.proofs.ViewLemmas.{view_got, got_last}
 use Rattle.avro_resolve.proofs.ListLemmas.{adds_such, nothing_stands}
 use Rattle.avro_resolve.proofs.links.add_node_links.Goals.{then-is_some-via-then-is_some, then-is_some-via-else-is_some+then-is_empty}
@@ -40,7 +40,7 @@ nothing_contained (Fixed k s x) f g = refl
 nothing_contained (Rec k fs x) f g = refl
 
 pub loop-index-init : goal.loop-index-init
-loop-index-init c = record { notes = notes_none _ c.args.links.now; there = λ k f x l. absurd (omega arith) }
+loop-index-init c = record { only_adds = only_adds_none _ c.args.links.now; there = λ k f x l. absurd (omega arith) }
 
 -- a label in the list of an optional label is that label
 some_label : (o : Option ℕ) (ls : List ℕ) → MatchOption o (ls ≡ []) (λ x. ls ≡ x ∷ []) → (l : ℕ) → Contains ls l → o ≡ Some l
@@ -62,8 +62,8 @@ got_pushed xs ys y number e long = ap (λ (zs : List Aliased). slice_get zs numb
 -- the links of one more field are added
 module _ (rank_map : Option (List (Option ℕ))) (views : List FieldView) (ranks : List FieldRanks) (i at : ℕ) (f : FieldView) (y : FieldRanks) (f_at : slice_get views at ≡ Some f) (y_at : slice_get ranks at ≡ Some y)
     (old xs ys : Links) (more : OnlyAddsLinks (λ x p. (x.referrer ≡ i) × (p ≡ f.place) × GivenBy rank_map ys.aliased.items at y x x.kind) xs ys) where
-  next_notes : OnlyAddsLinks (λ x p. (x.referrer ≡ i) × IsOfField rank_map xs.aliased.items views ranks x p) old xs → OnlyAddsLinks (λ x p. (x.referrer ≡ i) × IsOfField rank_map ys.aliased.items views ranks x p) old ys
-  next_notes before = notes_then _ _ _ (λ x p h. (h.0, of_field_on xs.aliased.items ys.aliased.items more.kept rank_map x views ranks p h.1)) (λ x p h. (h.0, (at, f, y, f_at, y_at, sym h.1, h.2))) old xs ys before more
+  next_only_adds : OnlyAddsLinks (λ x p. (x.referrer ≡ i) × IsOfField rank_map xs.aliased.items views ranks x p) old xs → OnlyAddsLinks (λ x p. (x.referrer ≡ i) × IsOfField rank_map ys.aliased.items views ranks x p) old ys
+  next_only_adds before = only_adds_then _ _ _ (λ x p h. (h.0, of_field_on xs.aliased.items ys.aliased.items more.kept rank_map x views ranks p h.1)) (λ x p h. (h.0, (at, f, y, f_at, y_at, sym h.1, h.2))) old xs ys before more
 
   next_there : ((k : ℕ) (g : FieldView) (x : FieldRanks) → k < at → slice_get views k ≡ Some g → slice_get ranks k ≡ Some x → IsFieldLinked rank_map xs i k g.place x) → IsFieldLinked rank_map ys i at f.place y
       → (k : ℕ) (g : FieldView) (x : FieldRanks) → k < at + 1 → slice_get views k ≡ Some g → slice_get ranks k ≡ Some x → IsFieldLinked rank_map ys i k g.place x
@@ -80,7 +80,7 @@ own_is : (rank_map : Option (Bor RankMap)) (rank : ℕ) (own : Option ℕ) (P : 
 own_is None rank own P ranked h = h
 own_is (Some m) rank own P ranked h = ranked m h
 
--- no labels of aliases, if the side is the writer's or the field has no aliases
+-- no labels of aliases, if the schema is the writer's or the field has no aliases
 no_labels : (rank_map : Option (Bor RankMap)) (aliases : List ℕ) → (is_some rank_map ≡ true) ⊎ (aliases ≡ []) → alias_labels (ranks_of rank_map) aliases ≡ []
 no_labels None aliases (inl h) = absurd cc
 no_labels None aliases (inr e) = e
@@ -103,7 +103,7 @@ loop-index-preserved-then-is_some c =
     let old = c.args.links.now in let xs = c.loop-index.links in let ys = c.add_links-in-loop-index.new.links in
     let given = λ (x : Link) (kind : LinkKind). GivenBy rank_map ys.aliased.items at names x kind in
     let more : OnlyAddsLinks (λ x q. (x.referrer ≡ i) × (q ≡ p) × given x x.kind) xs ys =
-    notes_such _ _ (λ x q h. (h.2, h.3, subst (given x) (sym h.1) (sym mine ∙ some_label c.map_or-own.result c.as_slice.result.now c.as_slice.ensures x.label h.0))) xs ys own.notes in
+    only_adds_such _ _ (λ x q h. (h.2, h.3, subst (given x) (sym h.1) (sym mine ∙ some_label c.map_or-own.result c.as_slice.result.now c.as_slice.ensures x.label h.0))) xs ys own.only_adds in
     let none : alias_labels rank_map names.aliases.items ≡ [] = no_labels c.args.rank_map names.aliases.items (elim c.then-is_some.branch [
       | then-is_some-via-then-is_some w ↦ inl (sym c.is_some.ensures ∙ w.if-is_some.true)
       | then-is_some-via-else-is_some+then-is_empty w ↦ inr (let empty : names.aliases.items ≡ [] = grind (arith, common_steps) in empty)
@@ -113,7 +113,7 @@ loop-index-preserved-then-is_some c =
       aliases = subst (λ (ls : List ℕ). All (λ label. LinkedBy (IsAlias ys.aliased.items i at label) ys.lists.items i p) ls) (sym none) (λ k d m. absurd (omega arith));
     } in
     record {
-      notes = next_notes rank_map views ranks i at (field_view field) names field_here names_here old xs ys more inv.notes;
+      only_adds = next_only_adds rank_map views ranks i at (field_view field) names field_here names_here old xs ys more inv.only_adds;
       there = next_there rank_map views ranks i at (field_view field) names field_here names_here old xs ys more inv.there here;
     }
 
@@ -130,9 +130,9 @@ loop-index-preserved c =
     let old = c.args.links.now in let xs = c.loop-index.links in let ms = c.add_links-in-loop-index.new.links in let ys = c.add_links-in-loop-index-2.new.links in
     let last = c.in_ok-add_links-3.ensures in let number = c.len.result in let items = c.in_ok-push.ensures.items in
     let this : Aliased = record { place = i; index = at } in
-    let is = last.notes.kept number this (got_pushed ms.aliased.items c.push.new.self.items this number items (omega (arith, c.len.ensures, ms.aliased.ok.0))) in
+    let is = last.only_adds.kept number this (got_pushed ms.aliased.items c.push.new.self.items this number items (omega (arith, c.len.ensures, ms.aliased.ok.0))) in
     let kept : (k : ℕ) (x : Aliased) → slice_get ms.aliased.items k ≡ Some x → slice_get ys.aliased.items k ≡ Some x =
-    λ k x e. last.notes.kept k x (subst (λ (fs : List Aliased). slice_get fs k ≡ Some x) (sym items) (got_still ms.aliased.items x this k e)) in
+    λ k x e. last.only_adds.kept k x (subst (λ (fs : List Aliased). slice_get fs k ≡ Some x) (sym items) (got_still ms.aliased.items x this k e)) in
     let given = λ (x : Link) (kind : LinkKind). GivenBy rank_map ys.aliased.items at names x kind in
     let copied : c.in_ok-labels.labels.items ≡ names.aliases.items = each_same names.aliases.items c.in_ok-labels.labels.items c.in_ok-labels.ensures.cases.0 in
     let Linked = λ (label : ℕ). LinkedBy (HasLabel label (ByAlias number)) ys.lists.items i p in
@@ -141,21 +141,21 @@ loop-index-preserved c =
     let all : All Linked names.aliases.items = λ k d m. All-contains Linked sorted (get_or names.aliases.items k d) each
     (Contains-permutation names.aliases.items sorted (get_or names.aliases.items k d) (subst (λ (ls : List ℕ). IsPermutation ls sorted) copied c.sort_unstable.ensures.permutation) (Contains-get_or names.aliases.items k d m)) in
     let rest : OnlyAddsLinks (λ x q. (x.referrer ≡ i) × (q ≡ p) × given x x.kind) ms ys = record {
-      adds = adds_such _ _ (λ x q h. (h.2, h.3, subst (given x) (sym h.1) (subst (λ (j : ℕ). slice_get ys.aliased.items number ≡ Some (record { place = j; index = at })) (sym h.2) is))) ms.lists.items ys.lists.items last.notes.adds;
+      adds = adds_such _ _ (λ x q h. (h.2, h.3, subst (given x) (sym h.1) (subst (λ (j : ℕ). slice_get ys.aliased.items number ≡ Some (record { place = j; index = at })) (sym h.2) is))) ms.lists.items ys.lists.items last.only_adds.adds;
       kept = kept;
-      unions = last.notes.unions;
+      unions = last.only_adds.unions;
     } in
     let more : OnlyAddsLinks (λ x q. (x.referrer ≡ i) × (q ≡ p) × given x x.kind) xs ys =
-    notes_then _ _ _ (λ x q h. (h.2, h.3, subst (given x) (sym h.1) (sym mine ∙ some_label c.map_or-own.result c.as_slice.result.now c.as_slice.ensures x.label h.0))) (λ x q h. h) xs ms ys own.notes rest in
+    only_adds_then _ _ _ (λ x q h. (h.2, h.3, subst (given x) (sym h.1) (sym mine ∙ some_label c.map_or-own.result c.as_slice.result.now c.as_slice.ensures x.label h.0))) (λ x q h. h) xs ms ys own.only_adds rest in
     let here : IsFieldLinked rank_map ys i at p names = record {
-      own = λ label e. linked_on ms ys last.notes.adds.kept kept (HasLabel label ByName) i p
+      own = λ label e. linked_on ms ys last.only_adds.adds.kept kept (HasLabel label ByName) i p
           (all_some (λ n. LinkedBy (HasLabel n ByName) ms.lists.items i p) c.map_or-own.result c.as_slice.result.now c.as_slice.ensures own.there label (mine ∙ e));
       aliases = subst (λ (ls : List ℕ). All (λ label. LinkedBy (IsAlias ys.aliased.items i at label) ys.lists.items i p) ls)
           (all_labels c.args.rank_map names.aliases.items (sym c.is_some.ensures ∙ c.if-is_some.false))
           (λ k d m. (let h = all k d m in (h.0, (number, h.1, is), h.2, h.3)));
     } in
     record {
-      notes = next_notes rank_map views ranks i at (field_view field) names field_here names_here old xs ys more inv.notes;
+      only_adds = next_only_adds rank_map views ranks i at (field_view field) names field_here names_here old xs ys more inv.only_adds;
       there = next_there rank_map views ranks i at (field_view field) names field_here names_here old xs ys more inv.there here;
     }
 
@@ -180,28 +180,28 @@ module _ (names : List (List ℕ)) (rank_map : Option (List (Option ℕ))) (link
   contained_linked (fixed k s x) e h = absurd cc
   contained_linked (rec k fs x) e h = absurd cc
 
-pub returns-in-Array-clause-notes : goal.returns-in-Array-clause-notes
-returns-in-Array-clause-notes c =
+pub returns-in-Array-clause-only_adds : goal.returns-in-Array-clause-only_adds
+returns-in-Array-clause-only_adds c =
     let holds : element_place (node_view c.node.result.now) ≡ Some c.in-Array.place = elim c.in-Array.is [ inl e ↦ ap (λ (n : Node). element_place (node_view n)) e.1 | inr e ↦ ap (λ (n : Node). element_place (node_view n)) e.1 ] in
-    notes_such _ _ (λ x p h. (h.2, λ a ea. inl (h.1, ap element_place (same_Some a (node_view c.node.result.now) (sym ea ∙ c.node.ensures.node)) ∙ holds ∙ ap (λ (q : ℕ). Some q) (sym h.3))))
-    c.args.links.now c.add_links.new.links c.in_ok-add_links.ensures.notes
+    only_adds_such _ _ (λ x p h. (h.2, λ a ea. inl (h.1, ap element_place (same_Some a (node_view c.node.result.now) (sym ea ∙ c.node.ensures.node)) ∙ holds ∙ ap (λ (q : ℕ). Some q) (sym h.3))))
+    c.args.links.now c.add_links.new.links c.in_ok-add_links.ensures.only_adds
 
 pub returns-in-Array-clause-there : goal.returns-in-Array-clause-there
 returns-in-Array-clause-there c = λ a ea.
     let holds : element_place (node_view c.node.result.now) ≡ Some c.in-Array.place = elim c.in-Array.is [ inl e ↦ ap (λ (n : Node). element_place (node_view n)) e.1 | inr e ↦ ap (λ (n : Node). element_place (node_view n)) e.1 ] in
-    contained_linked (names_of c.args.side.now) (ranks_of c.args.rank_map) c.add_links.new.links c.args.referrer c.in-Array.place a
+    contained_linked (names_of c.args.indexed.now) (ranks_of c.args.rank_map) c.add_links.new.links c.args.referrer c.in-Array.place a
     (ap element_place (same_Some a (node_view c.node.result.now) (sym ea ∙ c.node.ensures.node)) ∙ holds) (c.in_ok-add_links.ensures.there 0 0 (omega arith))
 
-pub returns-clause-notes : goal.returns-clause-notes
-returns-clause-notes c =
+pub returns-clause-only_adds : goal.returns-clause-only_adds
+returns-clause-only_adds c =
     let all = c.fields-fields.result in let rank_map = ranks_of c.args.rank_map in let links = c.loop-index.links in
-    notes_such _ _ (λ x p h. (
+    only_adds_such _ _ (λ x p h. (
       h.0,
       λ a ea. (
           let are = c.fields-fields.ensures.are a ea in
-          inr (all.ranks.now, subst (λ (fs : List FieldView). AreFieldsRanked (names_of c.args.side.now) fs all.ranks.now) are c.fields-fields.ensures.ranked, subst (λ (fs : List FieldView). IsOfField rank_map links.aliased.items fs all.ranks.now x p) are h.1)
+          inr (all.ranks.now, subst (λ (fs : List FieldView). AreFieldsRanked (names_of c.args.indexed.now) fs all.ranks.now) are c.fields-fields.ensures.ranked, subst (λ (fs : List FieldView). IsOfField rank_map links.aliased.items fs all.ranks.now x p) are h.1)
           ),
-    )) c.args.links.now links c.loop-index.invariant.notes
+    )) c.args.links.now links c.loop-index.invariant.only_adds
 
 pub returns-clause-there : goal.returns-clause-there
 returns-clause-there c = λ a ea.
@@ -213,7 +213,7 @@ returns-clause-there c = λ a ea.
       all.ranks.now,
       record {
         contained = λ p e. (let none = nothing_contained c.node.result.now c.in_default.not-Array c.in_default.not-Map in let same = ap element_place (same_Some a (node_view c.node.result.now) (sym ea ∙ c.node.ensures.node)) in absurd (none-some p (sym none ∙ sym same ∙ e)));
-        ranked = subst (λ (fs : List FieldView). AreFieldsRanked (names_of c.args.side.now) fs all.ranks.now) are c.fields-fields.ensures.ranked;
+        ranked = subst (λ (fs : List FieldView). AreFieldsRanked (names_of c.args.indexed.now) fs all.ranks.now) are c.fields-fields.ensures.ranked;
         fields = subst (λ (fs : List FieldView). AreFieldsLinked rank_map links i fs all.ranks.now) are linked;
       },
     )

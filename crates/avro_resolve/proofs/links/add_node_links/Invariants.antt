@@ -7,6 +7,6 @@ use Rattle.avro_resolve.proofs.links.add_node_links.Given as goal
 
 abbrev pub invariant-loop-index : goal.invariant-loop-index
 invariant-loop-index l = record {
-  notes : OnlyAddsLinks (λ x p. (x.referrer ≡ l.referrer) × IsOfField (ranks_of l.rank_map) l.links.aliased.items (map field_view l.fields.fields.now) l.fields.ranks.now x p) l.initial.links l.links;
+  only_adds : OnlyAddsLinks (λ x p. (x.referrer ≡ l.referrer) × IsOfField (ranks_of l.rank_map) l.links.aliased.items (map field_view l.fields.fields.now) l.fields.ranks.now x p) l.initial.links l.links;
   there : (k : ℕ) (f : FieldView) (x : FieldRanks) → k < l.index → slice_get (map field_view l.fields.fields.now) k ≡ Some f → slice_get l.fields.ranks.now k ≡ Some x → IsFieldLinked (ranks_of l.rank_map) l.links l.referrer k f.place x;
 }

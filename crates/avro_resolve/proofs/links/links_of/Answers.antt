@@ -11,7 +11,7 @@ use Rattle.avro_nodes.specs.Nodes.{node_view}
 use Rattle.avro_resolve.specs.declared.links.Link.{Link}
 use Rattle.avro_resolve.specs.declared.readable.Aliased.{Aliased}
 use Rattle.avro_resolve.specs.Inside.Referrers.{HasUnions, IsPlaceLinked, ranks_of}
-use Rattle.avro_resolve.specs.Inside.Sides.{names_of, nodes_of}
+use Rattle.avro_resolve.specs.Inside.Schemas.{names_of, nodes_of}
 use Rattle.avro_resolve.specs.Inside.Lists.{list_at}
 use Rattle.avro_resolve.proofs.LinkLemmas.{of_node_on, place_on}
 use Rattle.avro_resolve.proofs.ListLemmas.{keeps, onlys, list_in, list_past, list_set, list_set_other}
@@ -28,23 +28,23 @@ loop-i-init c = record {
 
 pub loop-i-preserved : goal.loop-i-preserved
 loop-i-preserved c =
-    let inv = c.loop-i.invariant in let at = c.loop-i.i in let side = c.args.side.now in let nodes = side.schema.now in
-    let xs = c.loop-i.links in let ys = c.add_node_links.new.links in let more = c.in_ok-add_node_links.ensures.notes in
-    let names = names_of side in let rank_map = ranks_of c.args.rank_map in
-    let view : length (nodes_of side) ≡ length nodes = length-map nodes node_view in
+    let inv = c.loop-i.invariant in let at = c.loop-i.i in let indexed = c.args.indexed.now in let nodes = indexed.schema.now in
+    let xs = c.loop-i.links in let ys = c.add_node_links.new.links in let more = c.in_ok-add_node_links.ensures.only_adds in
+    let names = names_of indexed in let rank_map = ranks_of c.args.rank_map in
+    let view : length (nodes_of indexed) ≡ length nodes = length-map nodes node_view in
     let below : at < length nodes = omega (arith, c.loop-i-test.true, c.places-i-end.ensures.places) in
     record {
-      unions = subst (λ (v : Vec (Vec ℕ Global) Global). HasUnions (nodes_of side) v.items) (sym more.unions) inv.unions;
+      unions = subst (λ (v : Vec (Vec ℕ Global) Global). HasUnions (nodes_of indexed) v.items) (sym more.unions) inv.unions;
       long = more.adds.long ∙ inv.long;
       within = λ x p l. elim (more.adds.only x p l) [ inl m ↦ inv.within x p m | inr h ↦ subst (λ (i : ℕ). i < length nodes) (sym h.0) below ];
       named = λ i a l e. elim (cases_lt i at) [
         | inl g ↦ place_on xs ys more.adds.kept more.kept names rank_map i a (inv.named i a g e)
         | inr g ↦ (let s : i ≡ at = omega arith in
-            subst (λ (x : ℕ). IsPlaceLinked names rank_map ys x a) (sym s) (c.in_ok-add_node_links.ensures.there a (subst (λ (x : ℕ). slice_get (nodes_of side) x ≡ Some a) s e)))
+            subst (λ (x : ℕ). IsPlaceLinked names rank_map ys x a) (sym s) (c.in_ok-add_node_links.ensures.there a (subst (λ (x : ℕ). slice_get (nodes_of indexed) x ≡ Some a) s e)))
       ];
       meant = λ x p l a e. elim (more.adds.only x p l) [
         | inl m ↦ of_node_on xs.aliased.items ys.aliased.items more.kept rank_map x names a p (inv.meant x p m a e)
-        | inr h ↦ h.1 a (subst (λ (i : ℕ). slice_get (nodes_of side) i ≡ Some a) h.0 e)
+        | inr h ↦ h.1 a (subst (λ (i : ℕ). slice_get (nodes_of indexed) i ≡ Some a) h.0 e)
       ];
     }
 
@@ -71,14 +71,14 @@ loop-place-preserved c =
 
 pub returns : goal.returns
 returns c =
-    let inv = c.loop-i.invariant in let side = c.args.side.now in let nodes = side.schema.now in let same = c.loop-place.invariant.same in
+    let inv = c.loop-i.invariant in let indexed = c.args.indexed.now in let nodes = indexed.schema.now in let same = c.loop-place.invariant.same in
     let xs = c.loop-i.links in let ys = c.loop-place.links in
-    let view : length (nodes_of side) ≡ length nodes = length-map nodes node_view in
+    let view : length (nodes_of indexed) ≡ length nodes = length-map nodes node_view in
     let past : length nodes ≤ c.loop-i.i = omega (arith, c.loop-i-test.false, c.places-i-end.ensures.places) in
     let kept : (number : ℕ) (field : Aliased) → slice_get xs.aliased.items number ≡ Some field → slice_get ys.aliased.items number ≡ Some field =
     λ number field e. subst (λ (fs : List Aliased). slice_get fs number ≡ Some field) (sym c.loop-place.invariant.aliased) e in
     record {
-      unions = subst (λ (v : Vec (Vec ℕ Global) Global). HasUnions (nodes_of side) v.items) (sym c.loop-place.invariant.unions) inv.unions;
+      unions = subst (λ (v : Vec (Vec ℕ Global) Global). HasUnions (nodes_of indexed) v.items) (sym c.loop-place.invariant.unions) inv.unions;
       links = record {
         within = λ x p h. subst (λ (n : ℕ). x.referrer < n) (sym view) (inv.within x p (same.back x p h));
         sorted = λ place. elim (cases_lt place (length ys.lists.items)) [
@@ -86,9 +86,9 @@ returns c =
           | inr g ↦ subst (λ (ls : List Link). IsNonDecreasingBy (λ (x : Link). x.label) ls) (sym (list_past ys.lists.items place g)) (λ i j d le l. absurd (omega arith))
         ];
         named = λ i a e. (
-            let l : i < length (nodes_of side) = slice_get_within (nodes_of side) i a e in
-            place_on xs ys same.there kept (names_of side) (ranks_of c.args.rank_map) i a (inv.named i a (omega arith) e)
+            let l : i < length (nodes_of indexed) = slice_get_within (nodes_of indexed) i a e in
+            place_on xs ys same.there kept (names_of indexed) (ranks_of c.args.rank_map) i a (inv.named i a (omega arith) e)
             );
-        meant = λ x p h a e. of_node_on xs.aliased.items ys.aliased.items kept (ranks_of c.args.rank_map) x (names_of side) a p (inv.meant x p (same.back x p h) a e);
+        meant = λ x p h a e. of_node_on xs.aliased.items ys.aliased.items kept (ranks_of c.args.rank_map) x (names_of indexed) a p (inv.meant x p (same.back x p h) a e);
       };
     }

@@ -3,7 +3,7 @@ use Rattle.std.specs.Prelude.{slice_get}
 use Rattle.std.proofs.lemmas.Option.{same_Some, slice_get-get_or}
 use Rattle.avro_nodes.specs.Nodes.{FieldView, NodeView, field_view}
 use Rattle.avro_resolve.specs.Inside.Agreeing.{fields_of}
-use Rattle.avro_resolve.specs.Inside.Sides.{names_of, nodes_of}
+use Rattle.avro_resolve.specs.Inside.Schemas.{names_of, nodes_of}
 use Rattle.avro_resolve.specs.Inside.Sources.{Describes}
 use Rattle.avro_resolve.proofs.LinkLemmas.{then_some}
 use Rattle.avro_resolve.proofs.Sourcing.{ranked_field}
@@ -15,7 +15,7 @@ got {X} xs n x h = slice_get-get_or xs n x h.0 ∙ ap (λ (y : X). Some y) (sym 
 
 pub returns : goal.returns
 returns c =
-    let names = names_of c.args.side.now in let nodes = nodes_of c.args.side.now in let i = c.args.aliased.index in
+    let names = names_of c.args.indexed.now in let nodes = nodes_of c.args.indexed.now in let i = c.args.aliased.index in
     let fields = c.fields-found.result.fields.now in let ranks = c.fields-found.result.ranks.now in
     let x = c.in_ok-field.field.now in let y = c.in_ok-get.field-0.now in
     let at : slice_get (map field_view fields) i ≡ Some (field_view x) = view_got field_view fields i x (got fields i x c.in_ok-field.ensures.lookup.3) in

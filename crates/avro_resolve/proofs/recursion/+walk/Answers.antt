@@ -16,7 +16,7 @@ use Rattle.avro_resolve.specs.declared.recursion.Answer.TheVariants.{No}
 use Rattle.avro_resolve.specs.declared.pair_set.PairSet.{PairSet}
 use Rattle.avro_resolve.specs.Inside.PairSets.{has}
 use Rattle.avro_resolve.specs.Inside.Reachable.{AreReachable, IsReachablePair, IsSourceReachable}
-use Rattle.avro_resolve.specs.Inside.Sides.{columns, rows}
+use Rattle.avro_resolve.specs.Inside.Schemas.{columns, rows}
 use Rattle.avro_resolve.specs.Inside.Walking.{CanContinue, WalkInvariant, ExtendsWalk, Represents, IsReady, AnswerHolds}
 use Rattle.avro_resolve.specs.Inside.Agreeing.{Agree}
 use Rattle.avro_resolve.specs.Inside.FieldSlots.{AreFieldSources}
@@ -31,17 +31,17 @@ use Rattle.avro_resolve.proofs.WalkLemmas.{reachable_from, grown0, grown2, withi
 use Rattle.avro_resolve.proofs.recursion.+walk.Goals as goal
 use Rattle.avro_resolve.proofs.recursion.+walk.Goals.{all_readable-in-Some+in_ok-outcome-in-Some+in-Yes, all_readable-in-None+else-is_none}
 
-pub ask-returns-in_default : goal.ask-returns-in_default
-ask-returns-in_default t c =
-    let w = nodes_view c.args.sides.now.writer.schema.now in let r = nodes_view c.args.sides.now.reader.schema.now in let s = c.args.walk.now in let v = c.is_supported.new.walk in let i = c.args.i in let j = c.args.j in let same = c.walk.view_is in
+pub check_pair-returns-in_default : goal.check_pair-returns-in_default
+check_pair-returns-in_default t c =
+    let w = nodes_view c.args.schemas.now.writer.schema.now in let r = nodes_view c.args.schemas.now.reader.schema.now in let s = c.args.walk.now in let v = c.is_supported.new.walk in let i = c.args.i in let j = c.args.j in let same = c.walk.view_is in
     let pushed : c.push.new.self.items ≡ s.assumed.items ++ (i, j) ∷ [] = c.in_ok-push.ensures.items ∙ ap (λ (x : Walk). x.assumed.items ++ (i, j) ∷ []) same in
     let u : Walk = record s { assumed = c.push.new.self } in
     ask_told w r c.args.depth s u v i j (Supports w r (without v.failed.items) i j → ⊥) _ c.requires.ready.1 pushed refl c.in_ok-outcome.outcome c.in_default.not-No
     (subst (λ (x : Walk). AnswerHolds w r (c.args.depth + 1) c.push.new.self.items x.failed.items v (Supports w r (member v.assumed.items) i j) (Supports w r (without v.failed.items) i j → ⊥) c.in_ok-outcome.outcome) same c.in_ok-outcome.ensures)
 
-pub ask-loop-walk-init : goal.ask-loop-walk-init
-ask-loop-walk-init t c =
-    let w = nodes_view c.args.sides.now.writer.schema.now in let r = nodes_view c.args.sides.now.reader.schema.now in let s = c.args.walk.now in let v = c.is_supported.new.walk in let i = c.args.i in let j = c.args.j in let same = c.walk.view_is in
+pub check_pair-loop-walk-init : goal.check_pair-loop-walk-init
+check_pair-loop-walk-init t c =
+    let w = nodes_view c.args.schemas.now.writer.schema.now in let r = nodes_view c.args.schemas.now.reader.schema.now in let s = c.args.walk.now in let v = c.is_supported.new.walk in let i = c.args.i in let j = c.args.j in let same = c.walk.view_is in
     let pushed : c.push.new.self.items ≡ s.assumed.items ++ (i, j) ∷ [] = c.in_ok-push.ensures.items ∙ ap (λ (x : Walk). x.assumed.items ++ (i, j) ∷ []) same in
     let outcome = rw c.in-No.is at c.in_ok-outcome.ensures in
     let long : length c.push.new.self.items ≡ length s.assumed.items + 1 = ap length pushed ∙ length_push s.assumed.items (i, j) in
@@ -56,15 +56,15 @@ ask-loop-walk-init t c =
       visits = refl;
     }
 
-pub ask-remove-requires : goal.ask-remove-requires
-ask-remove-requires t c =
+pub check_pair-remove-requires : goal.check_pair-remove-requires
+check_pair-remove-requires t c =
     let inv = c.loop-walk.invariant in
     let k = inv.marks.within c.in-Some.i c.in-Some.j (subst (λ (ps : List Pair). member ps c.in-Some.i c.in-Some.j ≡ true) (sym c.in-Some.ensures.items) (member_last c.pop.new.self.items c.in-Some.i c.in-Some.j)) in
     subst (λ (n : ℕ). c.in-Some.j < n) (sym inv.marks.readers) k
 
-pub ask-loop-walk-preserved-in-Some : goal.ask-loop-walk-preserved-in-Some
-ask-loop-walk-preserved-in-Some t c =
-    let inv = c.loop-walk.invariant in let m = length (columns c.args.sides.now) in let all = c.is_supported.new.walk.assumed.items in let x = c.loop-walk.walk in let ps = c.pop.new.self.items in
+pub check_pair-loop-walk-preserved-in-Some : goal.check_pair-loop-walk-preserved-in-Some
+check_pair-loop-walk-preserved-in-Some t c =
+    let inv = c.loop-walk.invariant in let m = length (columns c.args.schemas.now) in let all = c.is_supported.new.walk.assumed.items in let x = c.loop-walk.walk in let ps = c.pop.new.self.items in
     let p : Pair = (c.in-Some.i, c.in-Some.j) in
     let is : x.assumed.items ≡ ps ++ p ∷ [] = c.in-Some.ensures.items in
     let l : length x.assumed.items ≡ length ps + 1 = ap length is ∙ length_push ps p in
@@ -80,14 +80,14 @@ ask-loop-walk-preserved-in-Some t c =
       visits = inv.visits;
     }
 
-pub ask-insert-requires-2 : goal.ask-insert-requires-2
-ask-insert-requires-2 t c =
+pub check_pair-insert-requires-2 : goal.check_pair-insert-requires-2
+check_pair-insert-requires-2 t c =
     let outcome = rw c.in-No.is at c.in_ok-outcome.ensures in let inv = c.loop-walk.invariant in
     subst (λ (n : ℕ). c.args.j < n) (sym (ap (λ (y : PairSet). y.readers) inv.failed_set ∙ outcome.0.failed.readers)) c.requires.reachable.column
 
-pub ask-returns : goal.ask-returns
-ask-returns t c =
-    let w = nodes_view c.args.sides.now.writer.schema.now in let r = nodes_view c.args.sides.now.reader.schema.now in let s = c.args.walk.now in let v = c.is_supported.new.walk in let i = c.args.i in let j = c.args.j in let same = c.walk.view_is in
+pub check_pair-returns : goal.check_pair-returns
+check_pair-returns t c =
+    let w = nodes_view c.args.schemas.now.writer.schema.now in let r = nodes_view c.args.schemas.now.reader.schema.now in let s = c.args.walk.now in let v = c.is_supported.new.walk in let i = c.args.i in let j = c.args.j in let same = c.walk.view_is in
     let pushed : c.push.new.self.items ≡ s.assumed.items ++ (i, j) ∷ [] = c.in_ok-push.ensures.items ∙ ap (λ (x : Walk). x.assumed.items ++ (i, j) ∷ []) same in
     let out : member s.assumed.items i j ≡ false = sym (c.requires.ready.1.assumed.exact i j c.requires.reachable.column) ∙ sym (c.has.ensures ∙ ap (λ (x : Walk). has x.assumed_set i j) same) ∙ c.if-has.false in
     let inv = c.loop-walk.invariant in
@@ -103,9 +103,9 @@ ask-returns t c =
     (sym (subst (λ (n : ℕ). take n v.assumed.items ≡ x.assumed.items) back inv.front)) failed inv.visits inv.marks
     (subst (λ (y : List Pair). Represents (length r) x.failed_set y) (sym failed) marks)
 
-pub ask-is_supported-requires : goal.ask-is_supported-requires
-ask-is_supported-requires t c =
-    let w = nodes_view c.args.sides.now.writer.schema.now in let r = nodes_view c.args.sides.now.reader.schema.now in let s = c.args.walk.now in let i = c.args.i in let j = c.args.j in let same = c.walk.view_is in
+pub check_pair-is_supported-requires : goal.check_pair-is_supported-requires
+check_pair-is_supported-requires t c =
+    let w = nodes_view c.args.schemas.now.writer.schema.now in let r = nodes_view c.args.schemas.now.reader.schema.now in let s = c.args.walk.now in let i = c.args.i in let j = c.args.j in let same = c.walk.view_is in
     let reachable = c.requires.reachable in let all = c.push.new.self.items in
     let ready : IsReady w r c.args.depth s = c.requires.ready.1 in
     let pushed : c.push.new.self.items ≡ s.assumed.items ++ (i, j) ∷ [] = c.in_ok-push.ensures.items ∙ ap (λ (x : Walk). x.assumed.items ++ (i, j) ∷ []) same in
@@ -129,21 +129,21 @@ ask-is_supported-requires t c =
 
 pub is_supported-fits-requires : goal.is_supported-fits-requires
 is_supported-fits-requires t c =
-    let w = nodes_view c.args.sides.now.writer.schema.now in let r = nodes_view c.args.sides.now.reader.schema.now in
+    let w = nodes_view c.args.schemas.now.writer.schema.now in let r = nodes_view c.args.schemas.now.reader.schema.now in
     let a = node_view c.node-a.result.now in let b = node_view c.node-b.result.now in
     let reachable : AreReachable w r c.args.at.0 c.args.at.1 a b = reachable_from w r c.args.at.0 c.args.at.1 a b c.requires.ready.1.writer c.requires.ready.1.reader c.node-a.ensures.node c.node-b.ensures.node c.requires.reachable.reached in
     search rules
 
 pub is_supported-returns-then-not-agreed : goal.is_supported-returns-then-not-agreed
 is_supported-returns-then-not-agreed t c =
-    let w = nodes_view c.args.sides.now.writer.schema.now in let r = nodes_view c.args.sides.now.reader.schema.now in let s = c.args.walk.now in
+    let w = nodes_view c.args.schemas.now.writer.schema.now in let r = nodes_view c.args.schemas.now.reader.schema.now in let s = c.args.walk.now in
     let a = node_view c.node-a.result.now in let b = node_view c.node-b.result.now in let R = without s.failed.items in
     let at = supports_at w r R c.args.at.0 c.args.at.1 a b c.node-a.ensures.node c.node-b.ensures.node in
     (c.requires.ready.1, grown0 w r s, (λ h. true≢false (sym (c.in_ok-agreed.ensures.1 (fits_agree R c.args.at.0 c.args.at.1 a b (at.0 h))) ∙ c.if-not-agreed.true)))
 
 pub is_supported-returns : goal.is_supported-returns
 is_supported-returns t c =
-    let w = nodes_view c.args.sides.now.writer.schema.now in let r = nodes_view c.args.sides.now.reader.schema.now in let s = c.args.walk.now in let v = c.fits.new.walk in
+    let w = nodes_view c.args.schemas.now.writer.schema.now in let r = nodes_view c.args.schemas.now.reader.schema.now in let s = c.args.walk.now in let v = c.fits.new.walk in
     let a = node_view c.node-a.result.now in let b = node_view c.node-b.result.now in
     let yes = supports_at w r (member v.assumed.items) c.args.at.0 c.args.at.1 a b c.node-a.ensures.node c.node-b.ensures.node in
     let no = supports_at w r (without v.failed.items) c.args.at.0 c.args.at.1 a b c.node-a.ensures.node c.node-b.ensures.node in
@@ -151,29 +151,29 @@ is_supported-returns t c =
 
 pub fits-sources-requires-clause-i_in : goal.fits-sources-requires-clause-i_in
 fits-sources-requires-clause-i_in t c =
-    let within = slice_get_within (rows c.args.sides.now) c.args.at.0 (node_view c.args.a.now) c.requires.a_at in
-    let long = length-map c.args.sides.now.writer.schema.now node_view in
+    let within = slice_get_within (rows c.args.schemas.now) c.args.at.0 (node_view c.args.a.now) c.requires.a_at in
+    let long = length-map c.args.schemas.now.writer.schema.now node_view in
     omega (arith, within, long)
 
 pub fits-sources-requires-clause-j_in : goal.fits-sources-requires-clause-j_in
 fits-sources-requires-clause-j_in t c =
-    let within = slice_get_within (columns c.args.sides.now) c.args.at.1 (node_view c.args.b.now) c.requires.b_at in
-    let long = length-map c.args.sides.now.reader.schema.now node_view in
+    let within = slice_get_within (columns c.args.schemas.now) c.args.at.1 (node_view c.args.b.now) c.requires.b_at in
+    let long = length-map c.args.schemas.now.reader.schema.now node_view in
     omega (arith, within, long)
 
-pub fits-ask-requires-in-Array-Array : goal.fits-ask-requires-in-Array-Array
-fits-ask-requires-in-Array-Array t c =
-    let reachable : IsReachablePair (rows c.args.sides.now) (columns c.args.sides.now) c.in-Array-Array.p c.in-Array-Array.q = (rw (c.in-Array-Array.is-0, c.in-Array-Array.is-1) at c.requires.reachable) c.in-Array-Array.p c.in-Array-Array.q (refl, refl) in
+pub fits-check_pair-requires-in-Array-Array : goal.fits-check_pair-requires-in-Array-Array
+fits-check_pair-requires-in-Array-Array t c =
+    let reachable : IsReachablePair (rows c.args.schemas.now) (columns c.args.schemas.now) c.in-Array-Array.p c.in-Array-Array.q = (rw (c.in-Array-Array.is-0, c.in-Array-Array.is-1) at c.requires.reachable) c.in-Array-Array.p c.in-Array-Array.q (refl, refl) in
     search rules
 
-pub fits-ask-requires-in-Map-Map : goal.fits-ask-requires-in-Map-Map
-fits-ask-requires-in-Map-Map t c =
-    let reachable : IsReachablePair (rows c.args.sides.now) (columns c.args.sides.now) c.in-Map-Map.p c.in-Map-Map.q = (rw (c.in-Map-Map.is-0, c.in-Map-Map.is-1) at c.requires.reachable) c.in-Map-Map.p c.in-Map-Map.q (refl, refl) in
+pub fits-check_pair-requires-in-Map-Map : goal.fits-check_pair-requires-in-Map-Map
+fits-check_pair-requires-in-Map-Map t c =
+    let reachable : IsReachablePair (rows c.args.schemas.now) (columns c.args.schemas.now) c.in-Map-Map.p c.in-Map-Map.q = (rw (c.in-Map-Map.is-0, c.in-Map-Map.is-1) at c.requires.reachable) c.in-Map-Map.p c.in-Map-Map.q (refl, refl) in
     search rules
 
 pub fits-all_readable-requires : goal.fits-all_readable-requires
 fits-all_readable-requires t c =
-    let w = nodes_view c.args.sides.now.writer.schema.now in let r = nodes_view c.args.sides.now.reader.schema.now in let fs = c.in-Rec-Rec.fields.items in let gs = c.in-Rec-Rec.wanted.items in
+    let w = nodes_view c.args.schemas.now.writer.schema.now in let r = nodes_view c.args.schemas.now.reader.schema.now in let fs = c.in-Rec-Rec.fields.items in let gs = c.in-Rec-Rec.wanted.items in
     let e = sym c.deref.ensures.value in let e2 = sym c.deref-in-Rec-Rec-2.ensures.value in
     let read : AreFieldSources (map field_view fs) (map field_view gs) c.in_ok-sources-in-Rec-Rec.sources.items = rw (c.in-Rec-Rec.is-0, c.in-Rec-Rec.is-1) at (c.in_ok-sources-in-Rec-Rec.ensures (node_view c.args.a.now) (node_view c.args.b.now) c.requires.a_at c.requires.b_at) in
     let outcome : AreFieldSources (map field_view c.deref.result.now) (map field_view c.deref-in-Rec-Rec-2.result.now) c.deref-in-Rec-Rec.result.now =
@@ -186,7 +186,7 @@ fits-all_readable-requires t c =
 
 pub fits-returns-in_ok-sources-in-Rec-Rec : goal.fits-returns-in_ok-sources-in-Rec-Rec
 fits-returns-in_ok-sources-in-Rec-Rec t c =
-    let w = nodes_view c.args.sides.now.writer.schema.now in let r = nodes_view c.args.sides.now.reader.schema.now in let s = c.args.walk.now in let v = c.all_readable.new.walk in
+    let w = nodes_view c.args.schemas.now.writer.schema.now in let r = nodes_view c.args.schemas.now.reader.schema.now in let s = c.args.walk.now in let v = c.all_readable.new.walk in
     let fs = map field_view c.in-Rec-Rec.fields.items in let gs = c.in-Rec-Rec.wanted.items in
     let names = (rw (c.in-Rec-Rec.is-0, c.in-Rec-Rec.is-1) at c.requires.agreed).0 in
     let outcome = rw (c.deref.ensures.value, c.deref-in-Rec-Rec-2.ensures.value) at c.all_readable.ensures in
@@ -194,7 +194,7 @@ fits-returns-in_ok-sources-in-Rec-Rec t c =
 
 pub fits-loop-p-preserved : goal.fits-loop-p-preserved
 fits-loop-p-preserved t c =
-    let w = rows c.args.sides.now in let r = columns c.args.sides.now in let s = c.args.walk.now in let u = c.loop-p.walk in let v = c.ask.new.walk in
+    let w = rows c.args.schemas.now in let r = columns c.args.schemas.now in let s = c.args.walk.now in let u = c.loop-p.walk in let v = c.check_pair.new.walk in
     let outcome = rw c.in-Yes.is at c.in_ok-outcome.ensures in
     let places = c.deref-p-items.result.now in let j = c.args.at.1 in
     let l : c.loop-p.p-index < length places = c.loop-p-test.true in
@@ -229,9 +229,9 @@ with_union R i j (Rec k fs x) bs f = (((λ h. h), (λ h. h)), (λ q h. (refl, h)
 none_of : (ps : List Pair) (i : ℕ) (xs : List ℕ) → All (λ p. IsTrue (member ps i p)) xs → Any (λ p. IsTrue (without ps i p)) xs → ⊥
 none_of ps i xs lost (k, x, l, e, h) = not_without ps i x (subst (λ (y : ℕ). member ps i y ≡ true) e (lost k x l)) h
 
-pub fits-ask-requires-in-loop-q : goal.fits-ask-requires-in-loop-q
-fits-ask-requires-in-loop-q t c =
-    let w = rows c.args.sides.now in let r = columns c.args.sides.now in let i = c.args.at.0 in let j = c.args.at.1 in
+pub fits-check_pair-requires-in-loop-q : goal.fits-check_pair-requires-in-loop-q
+fits-check_pair-requires-in-loop-q t c =
+    let w = rows c.args.schemas.now in let r = columns c.args.schemas.now in let i = c.args.at.0 in let j = c.args.at.1 in
     let places = c.deref-q-items.result.now in let k = c.loop-q.q-index in let q = get_or places k 0 in let a = c.args.a.now in
     let same : node_view c.args.b.now ≡ union places = ap node_view c.in-Union-b.is ∙ ap (λ (xs : List ℕ). union xs) (sym c.deref-q-items.ensures.value) in
     let all : AreReachable w r i j (node_view a) (union places) = subst (λ (b : NodeView). AreReachable w r i j (node_view a) b) same c.requires.reachable in
@@ -240,7 +240,7 @@ fits-ask-requires-in-loop-q t c =
 
 pub fits-loop-q-preserved : goal.fits-loop-q-preserved
 fits-loop-q-preserved t c =
-    let w = rows c.args.sides.now in let r = columns c.args.sides.now in let s = c.args.walk.now in let u = c.loop-q.walk in let v = c.ask-in-loop-q.new.walk in
+    let w = rows c.args.schemas.now in let r = columns c.args.schemas.now in let s = c.args.walk.now in let u = c.loop-q.walk in let v = c.check_pair-in-loop-q.new.walk in
     let outcome = rw c.in-No.is at c.in_ok-outcome-2.ensures in
     let places = c.deref-q-items.result.now in let i = c.args.at.0 in
     let l : c.loop-q.q-index < length places = c.loop-q-test.true in
@@ -253,7 +253,7 @@ fits-loop-q-preserved t c =
 
 pub fits-returns-in_default-3 : goal.fits-returns-in_default-3
 fits-returns-in_default-3 t c =
-    let w = rows c.args.sides.now in let r = columns c.args.sides.now in let s = c.args.walk.now in let u = c.loop-q.walk in let v = c.ask-in-loop-q.new.walk in
+    let w = rows c.args.schemas.now in let r = columns c.args.schemas.now in let s = c.args.walk.now in let u = c.loop-q.walk in let v = c.check_pair-in-loop-q.new.walk in
     let i = c.args.at.0 in let j = c.args.at.1 in let a = c.args.a.now in let b = node_view c.args.b.now in
     let places = c.deref-q-items.result.now in let k = c.loop-q.q-index in let q = get_or places k 0 in let R = member v.assumed.items in
     let same : b ≡ union places = ap node_view c.in-Union-b.is ∙ ap (λ (xs : List ℕ). union xs) (sym c.deref-q-items.ensures.value) in
@@ -290,7 +290,7 @@ pub fits-returns-in_default-4-4 : goal.fits-returns-in_default-4-4
 fits-returns-in_default-4-4 t c =
     let s = c.args.walk.now in
     let fit = fits_rest (member s.assumed.items) c.args.at.0 c.args.at.1 c.args.a.now c.args.b.now c.requires.agreed c.in_default.not-Union c.in_default-4.not-Array-0 c.in_default-4.not-Map-0 c.in_default-4.not-Rec-0 c.in_default-b.not-Union in
-    (c.requires.ready.1, grown0 (rows c.args.sides.now) (columns c.args.sides.now) s, fit)
+    (c.requires.ready.1, grown0 (rows c.args.schemas.now) (columns c.args.schemas.now) s, fit)
 
 -- the source of the field at an index
 read_at : (fs : List FieldView) (gs : List Field) (sources : List (Option ℕ)) (n : ℕ) (f : Field) → AreFieldSources fs (map field_view gs) sources → n < length gs → f ≡ get_or gs n f → get_or sources n None ≡ source_place fs (field_view f)
@@ -300,9 +300,9 @@ read_at fs gs sources n f outcome l is =
     let got : slice_get sources n ≡ Some (get_or sources n None) = slice_get-get_or sources n None (omega (arith, long)) in
     same_Some (get_or sources n None) (source_place fs (field_view f)) (sym got ∙ ap (λ (xs : List (Option ℕ)). slice_get xs n) outcome ∙ view_got (source_place fs) (map field_view gs) n (field_view f) (view_got field_view gs n f here))
 
-pub all_readable-ask-requires : goal.all_readable-ask-requires
-all_readable-ask-requires t c =
-    let w = nodes_view c.args.sides.now.writer.schema.now in let r = nodes_view c.args.sides.now.reader.schema.now in
+pub all_readable-check_pair-requires : goal.all_readable-check_pair-requires
+all_readable-check_pair-requires t c =
+    let w = nodes_view c.args.schemas.now.writer.schema.now in let r = nodes_view c.args.schemas.now.reader.schema.now in
     let fs = map field_view c.args.fields.now in let gs = c.args.wanted.now in let k = c.loop-index.index in let f = c.index-wanted-index.result in let is = sym c.index-wanted-index.is in
     let outcome : source_place fs (field_view f) ≡ Some c.in-Some.p = sym (read_at fs gs c.args.sources.now k f c.requires.sources c.loop-index-test.true c.index-wanted-index.is) ∙ c.in-Some.is in
     let asks : IsSourceReachable w r fs (field_view f) = subst (λ (g : Field). IsSourceReachable w r fs (field_view g)) is (c.requires.reachable k f c.loop-index-test.true) in
@@ -311,7 +311,7 @@ all_readable-ask-requires t c =
 
 pub all_readable-returns-in_default : goal.all_readable-returns-in_default
 all_readable-returns-in_default t c =
-    let w = rows c.args.sides.now in let r = columns c.args.sides.now in let s = c.args.walk.now in let u = c.loop-index.walk in let v = c.ask.new.walk in
+    let w = rows c.args.schemas.now in let r = columns c.args.schemas.now in let s = c.args.walk.now in let u = c.loop-index.walk in let v = c.check_pair.new.walk in
     let f = c.index-wanted-index.result in let fs = map field_view c.args.fields.now in
     let read = sym (read_at fs c.args.wanted.now c.args.sources.now c.loop-index.index f c.requires.sources c.loop-index-test.true c.index-wanted-index.is) ∙ c.in-Some.is in
     tells_no w r c.args.depth s u v _ _ ((v.assumed.items ≡ u.assumed.items) × IsTrue (member v.failed.items c.from.result f.place)) _ c.loop-index.invariant.grown
@@ -335,13 +335,13 @@ all_readable-returns-then-is_none t c =
 
 pub all_readable-loop-index-preserved : goal.all_readable-loop-index-preserved
 all_readable-loop-index-preserved t c =
-    let w' = nodes_view c.args.sides.now.writer.schema.now in let r' = nodes_view c.args.sides.now.reader.schema.now in let s = c.args.walk.now in let u = c.loop-index.walk in
+    let w' = nodes_view c.args.schemas.now.writer.schema.now in let r' = nodes_view c.args.schemas.now.reader.schema.now in let s = c.args.walk.now in let u = c.loop-index.walk in
     let fs = map field_view c.args.fields.now in let gs = c.args.wanted.now in let f = c.index-wanted-index.result in
     let read = sym (read_at fs gs c.args.sources.now c.loop-index.index f c.requires.sources c.loop-index-test.true c.index-wanted-index.is) in
     elim c.match-sources-index.branch [
       | all_readable-in-Some+in_ok-outcome-in-Some+in-Yes w ↦ (
           let outcome = rw w.in-Yes.is at w.in_ok-outcome-in-Some.ensures in
-          let v = w.ask.new.walk in
+          let v = w.check_pair.new.walk in
           rw w.walk-is (record {
             ready = outcome.0;
             grown = grown2 w' r' s u v c.loop-index.invariant.grown outcome.1;

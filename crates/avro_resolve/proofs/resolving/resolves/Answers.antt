@@ -7,7 +7,7 @@ use Rattle.avro_resolve.specs.Asking.{ContainsAsked}
 use Rattle.avro_resolve.specs.Witnesses.{Pair, HasClosedSet, HasRefutation}
 use Rattle.avro_resolve.specs.Resolution.{Resolves}
 use Rattle.avro_resolve.specs.Inside.Walking.{WalkInvariant, Represents, IsReady, AnswerShows}
-use Rattle.avro_resolve.specs.Inside.Sides.{columns, rows}
+use Rattle.avro_resolve.specs.Inside.Schemas.{columns, rows}
 use Rattle.avro_resolve.proofs.Denoted.{some_node, is_whole}
 use Rattle.avro_resolve.proofs.MarkLemmas.{marks_none}
 use Rattle.avro_resolve.proofs.Reaching.{is_small}
@@ -17,8 +17,8 @@ use Rattle.avro_resolve.proofs.WalkEnds.{good_start, ended, reached_hold}
 use Rattle.avro_resolve.proofs.resolving.resolves.Goals as goal
 use Rattle.avro_resolve.proofs.resolving.resolves.Goals.{in-Yes, in-No, in-Unfinished+in_ok-yes-in-Unfinished}
 
-pub ask-requires-clause-ready : goal.ask-requires-clause-ready
-ask-requires-clause-ready c =
+pub check_pair-requires-clause-ready : goal.check_pair-requires-clause-ready
+check_pair-requires-clause-ready c =
     let w = nodes_view c.args.writer.now in let r = nodes_view c.args.reader.now in
     let lw : length w ≡ length c.args.writer.now = length-map c.args.writer.now node_view in
     let lr : length r ≡ length c.args.reader.now = length-map c.args.reader.now node_view in
@@ -37,21 +37,21 @@ ask-requires-clause-ready c =
       assumed = subst (λ (x : List Pair). Represents (length r) c.none.result x) (sym c.new.ensures.items) (marks_none (length r) c.none.result (c.none.ensures.readers ∙ m) c.none.ensures.empty);
       failed = subst (λ (x : List Pair). Represents (length r) c.none-2.result x) (sym c.new-2.ensures.items) (marks_none (length r) c.none-2.result (c.none-2.ensures.readers ∙ m) c.none-2.ensures.empty);
     } in
-    (c.in_ok-sides.ensures.sides, both (λ x y. IsReady x y 0 walk) w (rows c.in_ok-sides.sides) r (columns c.in_ok-sides.sides) (ap nodes_view (sym c.in_ok-sides.ensures.writer)) (ap nodes_view (sym c.in_ok-sides.ensures.reader)) ready)
+    (c.in_ok-schemas.ensures.schemas, both (λ x y. IsReady x y 0 walk) w (rows c.in_ok-schemas.schemas) r (columns c.in_ok-schemas.schemas) (ap nodes_view (sym c.in_ok-schemas.ensures.writer)) (ap nodes_view (sym c.in_ok-schemas.ensures.reader)) ready)
 
-pub ask-requires-clause-reachable : goal.ask-requires-clause-reachable
-ask-requires-clause-reachable c = record {
-  row = subst (λ (x : List NodeView). 0 < length x) (ap nodes_view (sym c.in_ok-sides.ensures.writer)) (some_node (nodes_view c.args.writer.now) c.places-rows.ensures.schema);
-  column = subst (λ (x : List NodeView). 0 < length x) (ap nodes_view (sym c.in_ok-sides.ensures.reader)) (some_node (nodes_view c.args.reader.now) c.places-columns.ensures.schema);
-  reached = roots_reachable (rows c.in_ok-sides.sides) (columns c.in_ok-sides.sides);
+pub check_pair-requires-clause-reachable : goal.check_pair-requires-clause-reachable
+check_pair-requires-clause-reachable c = record {
+  row = subst (λ (x : List NodeView). 0 < length x) (ap nodes_view (sym c.in_ok-schemas.ensures.writer)) (some_node (nodes_view c.args.writer.now) c.places-rows.ensures.schema);
+  column = subst (λ (x : List NodeView). 0 < length x) (ap nodes_view (sym c.in_ok-schemas.ensures.reader)) (some_node (nodes_view c.args.reader.now) c.places-columns.ensures.schema);
+  reached = roots_reachable (rows c.in_ok-schemas.schemas) (columns c.in_ok-schemas.schemas);
 }
 
 pub returns : goal.returns
 returns c =
-    let w = rows c.in_ok-sides.sides in let r = columns c.in_ok-sides.sides in let wn = nodes_view c.args.writer.now in let rn = nodes_view c.args.reader.now in
+    let w = rows c.in_ok-schemas.schemas in let r = columns c.in_ok-schemas.schemas in let wn = nodes_view c.args.writer.now in let rn = nodes_view c.args.reader.now in
     let s : Walk = record { alloc = c.args.alloc; assumed = c.new.result; failed = c.new-2.result; assumed_set = c.none.result; failed_set = c.none-2.result; visits = 0; meter = c.none-3.result } in
-    let t = c.ask.new.walk in let answer = c.in_ok-answer.answer in let n = t.visits in let yes = c.match-answer.yes in
-    let end = both (λ x y. AnswerShows x y n answer × (1 ≤ n) × ((ps : List Pair) → ContainsAsked x y ps → n ≤ length ps * length ps)) w wn r rn (ap nodes_view c.in_ok-sides.ensures.writer) (ap nodes_view c.in_ok-sides.ensures.reader)
+    let t = c.check_pair.new.walk in let answer = c.in_ok-answer.answer in let n = t.visits in let yes = c.match-answer.yes in
+    let end = both (λ x y. AnswerShows x y n answer × (1 ≤ n) × ((ps : List Pair) → ContainsAsked x y ps → n ≤ length ps * length ps)) w wn r rn (ap nodes_view c.in_ok-schemas.ensures.writer) (ap nodes_view c.in_ok-schemas.ensures.reader)
     (ended w r s t c.new.ensures.items c.new-2.ensures.items answer c.in_ok-answer.ensures) in
     let told : (IsTrue yes ↔ Resolves wn rn) × (IsTrue yes → n < 1000 → HasClosedSet wn rn n) × (yes ≡ false → n < 1000 → HasRefutation wn rn n) = elim c.match-answer.branch [
       | in-Yes q ↦ (let shows = rw q.in-Yes.is at end.0 in rw q.yes-is (((λ h. shows.0), (λ h. refl)), (λ h l. shows.1), (λ h l. absurd (true≢false h))))

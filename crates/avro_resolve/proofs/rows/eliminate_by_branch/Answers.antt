@@ -5,7 +5,7 @@ use Rattle.std.proofs.lemmas.List.{length-map}
 use Rattle.avro_nodes.specs.Nodes.{node_view}
 use Rattle.avro_resolve.specs.declared.table.Table.{Table}
 use Rattle.avro_resolve.specs.Inside.Remaining.{remains}
-use Rattle.avro_resolve.specs.Inside.Sides.{columns, rows}
+use Rattle.avro_resolve.specs.Inside.Schemas.{columns, rows}
 use Rattle.avro_resolve.proofs.Flags.{flag_past}
 use Rattle.avro_resolve.proofs.Dependence.{rests_by_branch}
 use Rattle.avro_resolve.proofs.KeptSupport.{lists_none, lists_then, not_back, stays_out}
@@ -21,7 +21,7 @@ gone_before t v i branch from at fewer gone rest b l e = elim (cases_lt b from) 
 
 pub loop-at-init : goal.loop-at-init
 loop-at-init c =
-    let u = c.args.progress.now.table in let first = c.next_difference-at.ensures in let view = length-map c.args.sides.now.reader.schema.now node_view in
+    let u = c.args.progress.now.table in let first = c.next_difference-at.ensures in let view = length-map c.args.schemas.now.reader.schema.now node_view in
     record {
       rest = c.requires.rest.1;
       lists = lists_none u c.args.progress.now.eliminated.items;
@@ -31,13 +31,13 @@ loop-at-init c =
 
 pub eliminate_pair-requires-clause-unsupported : goal.eliminate_pair-requires-clause-unsupported
 eliminate_pair-requires-clause-unsupported c =
-    rests_by_branch (rows c.args.sides.now) (columns c.args.sides.now) c.args.union c.args.branch c.loop-at.at c.requires.meant (remains c.loop-at.progress.table) (c.loop-at.invariant.apart c.loop-at-test.true)
+    rests_by_branch (rows c.args.schemas.now) (columns c.args.schemas.now) c.args.union c.args.branch c.loop-at.at c.requires.meant (remains c.loop-at.progress.table) (c.loop-at.invariant.apart c.loop-at-test.true)
 
 pub loop-at-preserved : goal.loop-at-preserved
 loop-at-preserved c =
     let i = c.args.union in let p = c.args.branch in let at = c.loop-at.at in let inv = c.loop-at.invariant in let t = c.args.progress.now.table in
     let u = c.loop-at.progress.table in let v = c.eliminate_pair.new.progress.table in let qs = c.loop-at.progress.eliminated.items in let rs = c.eliminate_pair.new.progress.eliminated.items in
-    let done = c.in_ok-eliminate_pair.ensures in let next = c.next_difference-at-in-loop-at.ensures in let view = length-map c.args.sides.now.reader.schema.now node_view in
+    let done = c.in_ok-eliminate_pair.ensures in let next = c.next_difference-at-in-loop-at.ensures in let view = length-map c.args.schemas.now.reader.schema.now node_view in
     let lists = lists_then t u v c.args.progress.now.eliminated.items qs rs inv.lists done.eliminates.1 in
     let gone : (b : ℕ) → b < at + 1 → remains t p b ≡ false → remains v i b ≡ false = λ b l e. elim (cases_lt b at) [
       | inl g ↦ stays_out u v qs rs i b done.eliminates.1 (inv.gone b g e)
@@ -52,7 +52,7 @@ loop-at-preserved c =
 
 pub returns-clause-gone : goal.returns-clause-gone
 returns-clause-gone c = λ j e.
-    let v = c.loop-at.progress.table in let readers = c.loop-at.invariant.rest.rest.readers in let view = length-map c.args.sides.now.reader.schema.now node_view in
+    let v = c.loop-at.progress.table in let readers = c.loop-at.invariant.rest.rest.readers in let view = length-map c.args.schemas.now.reader.schema.now node_view in
     elim (cases_lt j c.loop-at.at) [
       | inl g ↦ c.loop-at.invariant.gone j g e
       | inr g ↦ flag_past v.flags.items v.readers c.args.union j (let done = c.loop-at-test.false in omega (arith, g, done, readers, view, c.places-places.ensures.places))

@@ -10,8 +10,8 @@ use Rattle.avro_nodes.specs.Nodes.{FieldView, NodeView, field_view, node_view}
 use Rattle.avro_resolve.specs.Inside.Agreeing.{fields_of}
 use Rattle.avro_resolve.specs.Inside.FieldSlots.{IsClear}
 use Rattle.avro_resolve.specs.Inside.Remaining.{StillSupported}
-use Rattle.avro_resolve.specs.Inside.Sides.{columns, names_of, rows}
-use Rattle.avro_resolve.specs.Inside.Sources.{IsSourceCode, IsReaderField}
+use Rattle.avro_resolve.specs.Inside.Schemas.{columns, names_of, rows}
+use Rattle.avro_resolve.specs.Inside.Sources.{IsSourceEntry, IsReaderField}
 use Rattle.avro_resolve.proofs.LinkLemmas.{zip_more}
 use Rattle.avro_resolve.proofs.RankMaps.{met_below}
 use Rattle.avro_resolve.proofs.KeptSupport.{lists_none, lists_then, settled_on}
@@ -30,7 +30,7 @@ slots_clear (suc n) (suc rank) k e = slots_clear n rank k e
 pub loop-place-init : goal.loop-place-init
 loop-place-init c =
     let same = c.as_mut_slice-slots.ensures.value in
-    let names = length-map c.args.sides.now.reader.index.now.names.items string_bytes in
+    let names = length-map c.args.schemas.now.reader.index.now.names.items string_bytes in
     let n = c.len.result in let none : Option ℕ = None in
     let made : c.as_mut_slice-slots.result.now ≡ replicate n none = same ∙ c.in_ok-made.ensures.items_if_clones_equal (none_alone _ (λ x g. g)) in
     let long : length (replicate n none) ≡ n = length-replicate n none in
@@ -45,53 +45,53 @@ loop-place-init c =
 
 pub fill_slots-requires-clause-has_slots : goal.fill_slots-requires-clause-has_slots
 fill_slots-requires-clause-has_slots c = λ name rank e.
-    let sides = c.args.sides.now in let room = c.loop-place.invariant.room in
-    let below = met_below (names_of sides.writer) (names_of sides.reader) sides.rank_map.ranks.items c.requires.rest.0.rank_map name rank e in
+    let schemas = c.args.schemas.now in let room = c.loop-place.invariant.room in
+    let below = met_below (names_of schemas.writer) (names_of schemas.reader) schemas.rank_map.ranks.items c.requires.rest.0.rank_map name rank e in
     omega arith
 
-pub source_codes-requires-clause-in_slots : goal.source_codes-requires-clause-in_slots
-source_codes-requires-clause-in_slots c =
+pub source_entries-requires-clause-in_slots : goal.source_entries-requires-clause-in_slots
+source_entries-requires-clause-in_slots c =
     let room = c.loop-place.invariant.room in let kept = c.fill_slots.auto.slots in
     record { both = c.requires.rest.0; ranked = c.fields-fields.ensures.ranked; in_slots = c.fill_slots.ensures; room = omega arith }
 
-pub source_codes-requires-clause-fields_in : goal.source_codes-requires-clause-fields_in
-source_codes-requires-clause-fields_in c =
-    let s = c.args.sides.now.writer.schema.now in let few = c.requires.rest.0.writer.few in
+pub source_entries-requires-clause-fields_in : goal.source_entries-requires-clause-fields_in
+source_entries-requires-clause-fields_in c =
+    let s = c.args.schemas.now.writer.schema.now in let few = c.requires.rest.0.writer.few in
     All-weaker (λ (g : Field). g.place < length s) (λ (g : Field). g.place < 65535) (λ g h. omega arith) c.fields-fields.result.fields.now c.fields-fields.ensures.in_schema
 
-pub source_codes-requires-clause-wanted : goal.source_codes-requires-clause-wanted
-source_codes-requires-clause-wanted c = subst (AllZip (IsReaderField c.args.sides.now.reader) c.args.aliased.now) (sym c.deref-2.ensures.value) c.in_ok-wanted.ensures
+pub source_entries-requires-clause-wanted : goal.source_entries-requires-clause-wanted
+source_entries-requires-clause-wanted c = subst (AllZip (IsReaderField c.args.schemas.now.reader) c.args.aliased.now) (sym c.deref-2.ensures.value) c.in_ok-wanted.ensures
 
 pub examine_row-requires-clause-row : goal.examine_row-requires-clause-row
 examine_row-requires-clause-row c =
-    let sides = c.args.sides.now in let room = c.loop-place.invariant.room in let kept = c.fill_slots.auto.slots in let at = c.loop-place-test.true in let end = c.places-place-end.ensures.places in
+    let schemas = c.args.schemas.now in let room = c.loop-place.invariant.room in let kept = c.fill_slots.auto.slots in let at = c.loop-place-test.true in let end = c.places-place-end.ensures.places in
     record {
       within = omega arith;
       are = c.fields-fields.ensures.are;
       places = c.fields-fields.ensures.in_schema;
       in_slots = record { both = c.requires.rest.0; ranked = c.fields-fields.ensures.ranked; in_slots = c.fill_slots.ensures; room = omega arith };
-      entries = subst (λ (xs : List ℕ). AllZip (IsSourceCode (columns sides) (map field_view c.fields-fields.result.fields.now)) c.args.aliased.now xs) (sym c.deref-in-loop-place.ensures.value) c.in_ok-entries.ensures;
-      wanted = subst (AllZip (IsReaderField sides.reader) c.args.aliased.now) (sym c.deref-2.ensures.value) c.in_ok-wanted.ensures;
+      entries = subst (λ (xs : List ℕ). AllZip (IsSourceEntry (columns schemas) (map field_view c.fields-fields.result.fields.now)) c.args.aliased.now xs) (sym c.deref-in-loop-place.ensures.value) c.in_ok-entries.ensures;
+      wanted = subst (AllZip (IsReaderField schemas.reader) c.args.aliased.now) (sym c.deref-2.ensures.value) c.in_ok-wanted.ensures;
     }
 
 pub clear_slots-requires-clause-has_slots : goal.clear_slots-requires-clause-has_slots
 clear_slots-requires-clause-has_slots c = λ name rank e.
-    let sides = c.args.sides.now in let room = c.loop-place.invariant.room in let kept = c.fill_slots.auto.slots in
-    let below = met_below (names_of sides.writer) (names_of sides.reader) sides.rank_map.ranks.items c.requires.rest.0.rank_map name rank e in
+    let schemas = c.args.schemas.now in let room = c.loop-place.invariant.room in let kept = c.fill_slots.auto.slots in
+    let below = met_below (names_of schemas.writer) (names_of schemas.reader) schemas.rank_map.ranks.items c.requires.rest.0.rank_map name rank e in
     omega arith
 
 pub loop-place-preserved : goal.loop-place-preserved
 loop-place-preserved c =
-    let w = rows c.args.sides.now in let r = columns c.args.sides.now in let p = c.loop-place.place in let inv = c.loop-place.invariant in let all = c.args.aliased.now in
+    let w = rows c.args.schemas.now in let r = columns c.args.schemas.now in let p = c.loop-place.place in let inv = c.loop-place.invariant in let all = c.args.aliased.now in
     let u = c.loop-place.progress.table in let v = c.examine_row.new.progress.table in let qs = c.loop-place.progress.eliminated.items in let rs = c.examine_row.new.progress.eliminated.items in
     let is = c.in_ok-examine_row.ensures in let entries = c.in_ok-entries.entries in let room = inv.room in let in_slots = c.fill_slots.auto.slots in let lifted = c.clear_slots.auto.slots in
-    let view = length-map c.args.sides.now.writer.schema.now node_view in
+    let view = length-map c.args.schemas.now.writer.schema.now node_view in
     let a = nth w p (omega (arith, view, c.loop-place-test.true, c.places-place-end.ensures.places)) in
-    let P = λ (x : NodeView) (row : Vec ℕ Global). AllZip (IsSourceCode r (fields_of x)) all row.items in
+    let P = λ (x : NodeView) (row : Vec ℕ Global). AllZip (IsSourceEntry r (fields_of x)) all row.items in
     record {
       clear = c.clear_slots.ensures;
       room = omega arith;
-      sources = rw c.in_ok-push.ensures.items (zip_more P w p a.0 c.loop-place.sources.items entries a.1 inv.sources (subst (λ (fs : List FieldView). AllZip (IsSourceCode r fs) all entries.items) (c.fields-fields.ensures.are a.0 a.1) c.in_ok-entries.ensures));
+      sources = rw c.in_ok-push.ensures.items (zip_more P w p a.0 c.loop-place.sources.items entries a.1 inv.sources (subst (λ (fs : List FieldView). AllZip (IsSourceEntry r fs) all entries.items) (c.fields-fields.ensures.are a.0 a.1) c.in_ok-entries.ensures));
       rest = is.eliminates.0;
       lists = lists_then c.args.progress.now.table u v c.args.progress.now.eliminated.items qs rs inv.lists is.eliminates.1;
       still_supported = λ a b lo l. elim (cases_lt a p) [
@@ -102,6 +102,6 @@ loop-place-preserved c =
 
 pub returns-clause-sources : goal.returns-clause-sources
 returns-clause-sources c =
-    let w = rows c.args.sides.now in let r = columns c.args.sides.now in let view = length-map c.args.sides.now.writer.schema.now node_view in
+    let w = rows c.args.schemas.now in let r = columns c.args.schemas.now in let view = length-map c.args.schemas.now.writer.schema.now node_view in
     let past : length w ≤ c.loop-place.place = omega (arith, view, c.loop-place-test.false, c.places-place-end.ensures.places) in
-    subst (λ (xs : List NodeView). AllZip (λ a (row : Vec ℕ Global). AllZip (IsSourceCode r (fields_of a)) c.args.aliased.now row.items) xs c.loop-place.sources.items) (take_all c.loop-place.place w past) c.loop-place.invariant.sources
+    subst (λ (xs : List NodeView). AllZip (λ a (row : Vec ℕ Global). AllZip (IsSourceEntry r (fields_of a)) c.args.aliased.now row.items) xs c.loop-place.sources.items) (take_all c.loop-place.place w past) c.loop-place.invariant.sources

@@ -8,7 +8,7 @@ use Rattle.avro_nodes.specs.Nodes.{NodeView, node_view, union}
 use Rattle.avro_resolve.specs.Inside.Referrers.{HasBranch}
 use Rattle.avro_resolve.specs.Inside.Remaining.{NeedsBranch, StillSupported, remains_or_queued}
 use Rattle.avro_resolve.specs.Inside.Places.{IsSelfContained, RefersBelow}
-use Rattle.avro_resolve.specs.Inside.Sides.{columns, rows}
+use Rattle.avro_resolve.specs.Inside.Schemas.{columns, rows}
 use Rattle.avro_resolve.proofs.ListLemmas.{each_more}
 use Rattle.avro_resolve.proofs.Monotone.{at_place, supports_at}
 use Rattle.avro_resolve.proofs.KeptSupport.{goes_gone, goes_on, lists_then, settled_gone, settled_on, settled_supported}
@@ -18,12 +18,12 @@ use Rattle.avro_resolve.proofs.rows.examine_row.Goals as goal
 
 pub supports-requires-clause-over : goal.supports-requires-clause-over
 supports-requires-clause-over c =
-    let sides = c.args.sides.now in let t = c.loop-j.invariant.rest.rest in let lr = length-map sides.reader.schema.now node_view in
-    record { both = c.requires.rest.0; is = c.requires.row; writers = t.writers ∙ length-map sides.writer.schema.now node_view; readers = t.readers ∙ lr; within = omega (arith, t.readers, lr) }
+    let schemas = c.args.schemas.now in let t = c.loop-j.invariant.rest.rest in let lr = length-map schemas.reader.schema.now node_view in
+    record { both = c.requires.rest.0; is = c.requires.row; writers = t.writers ∙ length-map schemas.writer.schema.now node_view; readers = t.readers ∙ lr; within = omega (arith, t.readers, lr) }
 
 pub supports-requires-clause-agreed : goal.supports-requires-clause-agreed
 supports-requires-clause-agreed c =
-    let lr = length-map c.args.sides.now.reader.schema.now node_view in
+    let lr = length-map c.args.schemas.now.reader.schema.now node_view in
     c.loop-j.invariant.rest.agreed c.args.row.now.place c.loop-j.j (rw length-map c.requires.row.within) (omega (arith, lr)) (sym c.has.ensures ∙ c.if-not-has.false)
 
 pub eliminate_pair-requires-clause-unsupported : goal.eliminate_pair-requires-clause-unsupported
@@ -31,7 +31,7 @@ eliminate_pair-requires-clause-unsupported c = λ s. true≢false (sym (c.suppor
 
 pub loop-j-preserved-then-not-has : goal.loop-j-preserved-then-not-has
 loop-j-preserved-then-not-has c =
-    let w = rows c.args.sides.now in let r = columns c.args.sides.now in let i = c.args.row.now.place in let j = c.loop-j.j in let u = c.loop-j.progress.table in let qs = c.loop-j.progress.eliminated.items in
+    let w = rows c.args.schemas.now in let r = columns c.args.schemas.now in let i = c.args.row.now.place in let j = c.loop-j.j in let u = c.loop-j.progress.table in let qs = c.loop-j.progress.eliminated.items in
     let here : StillSupported w r u qs i j = elim c.then-not-has.branch [
       | then-not-has-via-then-not-has b ↦ settled_gone w r u qs i j (sym c.has.ensures ∙ b.if-not-has.true)
       | then-not-has-via-else-not-has+then-supports b ↦ settled_supported w r u qs i j c.requires.rest.0.writer.whole c.requires.rest.0.reader.whole (b.supports.ensures.0 b.if-supports.true)
@@ -47,7 +47,7 @@ loop-j-preserved-then-not-has c =
 
 pub loop-j-preserved : goal.loop-j-preserved
 loop-j-preserved c =
-    let w = rows c.args.sides.now in let r = columns c.args.sides.now in let i = c.args.row.now.place in let j = c.loop-j.j in
+    let w = rows c.args.schemas.now in let r = columns c.args.schemas.now in let i = c.args.row.now.place in let j = c.loop-j.j in
     let u = c.loop-j.progress.table in let v = c.eliminate_pair.new.progress.table in let qs = c.loop-j.progress.eliminated.items in let rs = c.eliminate_pair.new.progress.eliminated.items in
     let done = c.in_ok-eliminate_pair.ensures in
     record {
@@ -65,7 +65,7 @@ branch_in w n i branches is long whole here same k l = subst (λ (ps : List ℕ)
 
 pub eliminate_by_branch-requires-clause-branch_in : goal.eliminate_by_branch-requires-clause-branch_in
 eliminate_by_branch-requires-clause-branch_in c =
-    let s = c.args.sides.now.writer.schema.now in let w = rows c.args.sides.now in
+    let s = c.args.schemas.now.writer.schema.now in let w = rows c.args.schemas.now in
     branch_in w (length s) c.args.row.now.place c.in-Union.branches.items c.deref-branch-items.result.now (length-map s node_view) c.requires.rest.0.writer.whole (c.node.ensures.node ∙ ap (λ n. Some (node_view n)) c.in-Union.is) c.deref-branch-items.ensures.value c.loop-branch.branch-index c.loop-branch-test.true
 
 pub eliminate_by_branch-requires-clause-meant : goal.eliminate_by_branch-requires-clause-meant
@@ -86,6 +86,6 @@ loop-branch-preserved c =
 
 pub returns-in-Union-clause-still_supported : goal.returns-in-Union-clause-still_supported
 returns-in-Union-clause-still_supported c = λ j l h.
-    let w = rows c.args.sides.now in let r = columns c.args.sides.now in let is = c.deref-branch-items.result.now in
+    let w = rows c.args.schemas.now in let r = columns c.args.schemas.now in let is = c.deref-branch-items.result.now in
     let b = nth r j (rw length-map l) in
     (supports_at w r (remains_or_queued c.loop-branch.progress.table c.loop-branch.progress.eliminated.items) c.args.row.now.place j (union is) b.0 (rw (← c.deref-branch-items.ensures.value) at (c.node.ensures.node ∙ ap (λ n. Some (node_view n)) c.in-Union.is)) b.1).1 (λ k d m. c.loop-branch.invariant.goes k d j (let done = c.loop-branch-test.false in omega arith) h)

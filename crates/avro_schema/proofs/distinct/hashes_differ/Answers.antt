@@ -12,4 +12,4 @@ returns g c rises =
     rise_differ nat_cmp nat_cmp_total (λ a b. a == b) numbers_level (λ x. x) 0 c.in_ok-hashes.hashes.items c.sort_unstable.new.self.items c.numbers_rise.result
     c.sort_unstable.ensures.permutation c.sort_unstable.ensures.sorted (rw c.deref.ensures.value at c.numbers_rise.ensures)
     ∙ ap (all_differ (λ a b. a == b)) (map-id c.in_ok-hashes.hashes.items ∙ c.in_ok-hashes.ensures) in
-    sym (differ_by_hash g.T.Titled.title_of c.args.items.now (sym told ∙ rises))
+    sym (differ_by_hash g.T.HasName.name_bytes c.args.items.now (sym told ∙ rises))

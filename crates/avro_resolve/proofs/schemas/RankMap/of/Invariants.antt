@@ -2,7 +2,7 @@ use Rattle.std.proofs.Common.{◌≤◌, length, take}
 use Rattle.avro_nodes.specs.Nodes.{texts_view}
 use Rattle.avro_resolve.specs.Inside.RankMaps.{AreMapped}
 use Rattle.avro_resolve.proofs.RankMaps.{Passed}
-use Rattle.avro_resolve.proofs.sides.RankMap.of.Given as goal
+use Rattle.avro_resolve.proofs.schemas.RankMap.of.Given as goal
 
 abbrev pub invariant-loop-rank : goal.invariant-loop-rank
 invariant-loop-rank l = record {

@@ -1,6 +1,6 @@
 use Rattle.std.proofs.Common.{◌≡◌, ℕ, ◌<◌, Some, true, false, get_or, length}
 use Rattle.avro_resolve.specs.Inside.RankMaps.{mapped_rank}
-use Rattle.avro_resolve.proofs.sides.known_of.Given as goal
+use Rattle.avro_resolve.proofs.schemas.known_of.Given as goal
 
 abbrev pub invariant-loop-mapped : goal.invariant-loop-mapped
 invariant-loop-mapped l = record {

@@ -1,10 +1,10 @@
 use Rattle.std.proofs.Common.{arith}
 use Rattle.avro_nodes.specs.Nodes.{nodes_view}
 use Rattle.avro_resolve.proofs.Denoted.{is_whole, are_own}
-use Rattle.avro_resolve.proofs.sides.Side.of.Goals as goal
+use Rattle.avro_resolve.proofs.schemas.IndexedSchema.of.Goals as goal
 
-pub returns-clause-side : goal.returns-clause-side
-returns-clause-side c =
+pub returns-clause-indexed : goal.returns-clause-indexed
+returns-clause-indexed c =
     let nodes = nodes_view c.args.schema.now in
     record {
       whole = is_whole nodes c.places-places.ensures.schema;

@@ -10,7 +10,7 @@ use Rattle.std.proofs.lemmas.Option.{get_or_from_slice_get, same_Some, slice_get
 use Rattle.avro_nodes.specs.Nodes.{texts_view}
 use Rattle.avro_schema.proofs.Rising.{order, level, less_not_equal}
 use Rattle.avro_resolve.proofs.RankMaps.{name_at}
-use Rattle.avro_resolve.proofs.sides.first_from.Goals as goal
+use Rattle.avro_resolve.proofs.schemas.first_from.Goals as goal
 
 -- the comparison with the name at a rank
 at_rank : (names : List (List ℕ)) (at : ℕ) (here name : List ℕ) (o : Ordering) → slice_get names at ≡ Some here → o ≡ order here name → order (get_or names at []) name ≡ o

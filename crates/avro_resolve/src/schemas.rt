@@ -8,7 +8,7 @@ ghost use Rattle.avro_nodes.specs.Nodes.{field_view, node_view, texts_view, Node
 ghost use Rattle.avro_schema.specs.Index.{AreFieldsRanked, IsRanked};
 ghost use Rattle.avro_resolve.specs.Inside.Agreeing.{fields_of};
 ghost use Rattle.avro_resolve.specs.Inside.RankMaps.{mapped_rank, IsKnown};
-ghost use Rattle.avro_resolve.specs.Inside.Sides.{names_of, nodes_of, IsSide, IsSides};
+ghost use Rattle.avro_resolve.specs.Inside.Schemas.{names_of, nodes_of, IsIndexedSchema, IsSchemaPair};
 
 use crate::AllocResult;
 use avro_nodes::{Field, Node};
@@ -106,16 +106,16 @@ impl RankMap {
 
 /// A schema with its index.
 #[derive(Clone, Copy)]
-pub struct Side<'a> {
+pub struct IndexedSchema<'a> {
     pub schema: &'a Schema,
     pub index: &'a Index,
 }
 
-/// The writer's side and the reader's.
+/// The writer's schema and the reader's.
 #[derive(Drop)]
-pub struct Sides<'a> {
-    pub writer: Side<'a>,
-    pub reader: Side<'a>,
+pub struct SchemaPair<'a> {
+    pub writer: IndexedSchema<'a>,
+    pub reader: IndexedSchema<'a>,
     pub rank_map: RankMap,
 }
 
@@ -126,13 +126,13 @@ pub struct Fields<'a> {
     pub ranks: &'a [FieldRanks],
 }
 
-impl<'a> Side<'a> {
-    fn of(schema: &'a Schema) -> Side<'a>
-        ensures side { IsSide result }
+impl<'a> IndexedSchema<'a> {
+    fn of(schema: &'a Schema) -> IndexedSchema<'a>
+        ensures indexed { IsIndexedSchema result }
         ensures schema { result.schema.now ≡ schema.now }
     {
         let (_places, index) = (schema.places(), schema.index());
-        Side { schema, index }
+        IndexedSchema { schema, index }
     }
 
     /// The number of places.
@@ -153,7 +153,7 @@ impl<'a> Side<'a> {
 
     /// The ranks of the names of the node at a place.
     pub fn ranks(&self, place: u32) -> &Ranks
-        requires side { IsSide self.now }
+        requires indexed { IsIndexedSchema self.now }
         requires within { place < length (nodes_of self.now) }
         ensures { (a : NodeView) → slice_get (nodes_of self.now) place ≡ Some a
             → IsRanked (names_of self.now) a result.now }
@@ -163,7 +163,7 @@ impl<'a> Side<'a> {
 
     /// The fields of the node at a place, or none if it isn't a record.
     pub fn fields(&self, place: u32) -> Fields<'_>
-        requires side { IsSide self.now }
+        requires indexed { IsIndexedSchema self.now }
         requires within { place < length self.now.schema.now }
         ensures are { (a : NodeView) → slice_get (nodes_of self.now) place ≡ Some a
             → map field_view result.fields.now ≡ fields_of a }
@@ -184,16 +184,16 @@ impl<'a> Side<'a> {
     }
 }
 
-impl<'a> Sides<'a> {
-    /// Both sides, with the map of their name ranks.
-    pub fn of(alloc: Global, writer: &'a Schema, reader: &'a Schema) -> AllocResult<Sides<'a>>
-        ensures sides { IfOk result (λ s. IsSides s) }
+impl<'a> SchemaPair<'a> {
+    /// Both schemas, with the map of their name ranks.
+    pub fn of(alloc: Global, writer: &'a Schema, reader: &'a Schema) -> AllocResult<SchemaPair<'a>>
+        ensures schemas { IfOk result (λ s. IsSchemaPair s) }
         ensures writer { IfOk result (λ s. s.writer.schema.now ≡ writer.now) }
         ensures reader { IfOk result (λ s. s.reader.schema.now ≡ reader.now) }
     {
-        let (writer, reader) = (Side::of(writer), Side::of(reader));
+        let (writer, reader) = (IndexedSchema::of(writer), IndexedSchema::of(reader));
         let rank_map = RankMap::of(alloc, &writer.index.names, &reader.index.names)?;
-        Ok(Sides {
+        Ok(SchemaPair {
             writer,
             reader,
             rank_map,

@@ -4,7 +4,7 @@ use Rattle.std.proofs.lemmas.Option.{slice_get_within}
 use Rattle.avro_nodes.specs.Nodes.{texts_view}
 use Rattle.avro_resolve.specs.Inside.RankMaps.{mapped_rank}
 use Rattle.avro_resolve.proofs.RankMaps.{name_at, passed, met_below, met_more}
-use Rattle.avro_resolve.proofs.sides.RankMap.of.Goals as goal
+use Rattle.avro_resolve.proofs.schemas.RankMap.of.Goals as goal
 
 pub first_from-at-requires-clause-few : goal.first_from-at-requires-clause-few
 first_from-at-requires-clause-few c =

@@ -11,11 +11,11 @@ use Rattle.avro_schema.specs.declared.index.Ranks.TheVariants.{Unnamed, Fixed as
 use Rattle.avro_schema.specs.Index.{IsFieldRanked, IsRanked}
 use Rattle.avro_resolve.specs.Inside.Agreeing.{fields_of}
 use Rattle.avro_resolve.specs.Inside.Places.{RefersBelow}
-use Rattle.avro_resolve.specs.Inside.Sides.{names_of, nodes_of}
+use Rattle.avro_resolve.specs.Inside.Schemas.{names_of, nodes_of}
 use Rattle.avro_resolve.proofs.Monotone.{at_place}
 use Rattle.avro_resolve.proofs.ViewLemmas.{all_of}
-use Rattle.avro_resolve.proofs.sides.Side.fields.Goals as goal
-use Rattle.avro_resolve.proofs.sides.Side.fields.Goals.{in_default-via-in-Rec+in_default, in_default-via-in_default}
+use Rattle.avro_resolve.proofs.schemas.IndexedSchema.fields.Goals as goal
+use Rattle.avro_resolve.proofs.schemas.IndexedSchema.fields.Goals.{in_default-via-in-Rec+in_default, in_default-via-in_default}
 
 pub returns-in-Rec-Rec-clause-ranked : goal.returns-in-Rec-Rec-clause-ranked
 returns-in-Rec-Rec-clause-ranked c =
@@ -32,7 +32,7 @@ pub returns-in-Rec-Rec-clause-in_schema : goal.returns-in-Rec-Rec-clause-in_sche
 returns-in-Rec-Rec-clause-in_schema c =
     let s = c.args.self.now.schema.now in let nodes = nodes_of c.args.self.now in let fields = c.in-Rec-Rec.fields.items in
     let long : length nodes ≡ length s = length-map s node_view in
-    let named = rw c.in-Rec-Rec.is-0 at (at_place nodes (RefersBelow (length nodes)) c.args.place (node_view c.node.result.now) c.requires.side.whole c.node.ensures.node) in
+    let named = rw c.in-Rec-Rec.is-0 at (at_place nodes (RefersBelow (length nodes)) c.args.place (node_view c.node.result.now) c.requires.indexed.whole c.node.ensures.node) in
     simp c.deref.ensures.value (all_of (λ (f : FieldView). f.place < length s) field_view fields (subst (λ n. All (λ (f : FieldView). f.place < n) (map field_view fields)) long named))
 
 no_record : (n : Node) → ((x : _) (y : _) (z : _) → n ≡ Rec x y z → ⊥) → fields_of (node_view n) ≡ []
