@@ -24,7 +24,7 @@ use std::alloc::Global;
 
 impl<S: Alter> Store<S> {
     /// Creates a new registry, without replies or evidence, in an empty database. The connection is
-    /// outside a transaction; a failed call returns it.
+    /// outside a transaction; a failed call returns it without a step limit.
     ///
     /// # Errors
     ///
@@ -42,6 +42,7 @@ impl<S: Alter> Store<S> {
         ensures full { (state S.Store connection).now.schema ≢ no_schema
             → IsErrAnd result (λ e. e.0 ≡ StoreError.NotARegistry) }
         ensures idle { IfErr result (λ e. e.1.in_transaction ≡ false) }
+        ensures unlimited { IfErr result (λ e. e.1.step_limit ≡ None) }
 
         ensures fails { IfErr result (λ e. IsCreateFailure (λ db. RecoversTo db new_stored)
             (state S.Store connection) (state S.Store e.1) e.0) }
@@ -99,7 +100,7 @@ impl<S: Alter> Store<S> {
 }
 
 /// Creates a new registry in layout 1, as programs before layout 2 did, in an empty database. The
-/// connection is outside a transaction, and the call returns it.
+/// connection is outside a transaction, and the call returns it without a step limit.
 ///
 /// # Errors
 ///
@@ -111,6 +112,7 @@ pub fn create_first<S: Alter>(
 ) -> (Result<(), StoreError>, Connection<S>)
     requires { connection.in_transaction ≡ false }
     ensures idle { result.1.in_transaction ≡ false }
+    ensures unlimited { result.1.step_limit ≡ None }
     ensures done { HasCleanDisk (state S.Store result.1)
         → OnOk result.0 (IsOpenOverLayoutOne (state S.Store result.1) new_stored) }
     ensures full { (state S.Store connection).now.schema ≢ no_schema

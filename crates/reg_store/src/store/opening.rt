@@ -24,8 +24,8 @@ use std::alloc::Global;
 
 impl<S: Alter> Store<S> {
     /// Opens the registry that the tables of a database spell. The connection is outside a
-    /// transaction; a failed call returns it. If the tables lack the index of versions, `open` adds
-    /// it in a transaction of its own.
+    /// transaction; a failed call returns it without a step limit. If the tables lack the index of
+    /// versions, `open` adds it in a transaction of its own.
     ///
     /// # Errors
     ///
@@ -43,6 +43,7 @@ impl<S: Alter> Store<S> {
         ensures fails { IfErr result (λ e. HasCleanDisk (state S.Store e.1)
             → IsOpenFailure (state S.Store connection) (state S.Store e.1) e.0) }
         ensures idle { IfErr result (λ e. e.1.in_transaction ≡ false) }
+        ensures unlimited { IfErr result (λ e. e.1.step_limit ≡ None) }
         ensures leaves { IfErr result (λ e.
             KeepsConnection (state S.Store connection) (state S.Store e.1) e.0) }
 
