@@ -8,7 +8,7 @@ use Rattle.clap.specs.declared.Error.{Error}
 use Rattle.clap.specs.declared.ArgMatches.{ArgMatches}
 use Rattle.clap.proofs.OnLiterals.{clap_on_literals}
 use Rattle.reg_cli.specs.Commands.{program}
-use Rattle.reg_cli.specs.Line.{line, line_unless_faulty, task_in}
+use Rattle.reg_cli.specs.Line.{line, task_unless_faulty, task_in}
 
 -- clap's contract says exactly when a parse of the program's arguments fails
 is_free : is_simple_and_free program ≡ true
@@ -20,7 +20,7 @@ is_plain : is_simple program ≡ true
 unfolding clap_on_literals
 is_plain = refl
 
-faulty : (k : ErrorKind) (kinds : Kinds) (arguments : List Text) → IsAmong k kinds → line_unless_faulty kinds arguments ≡ None
+faulty : (k : ErrorKind) (kinds : Kinds) (arguments : List Text) → IsAmong k kinds → task_unless_faulty kinds arguments ≡ None
 faulty k [] arguments among = absurd among
 faulty k (x ∷ xs) arguments among = refl
 
@@ -39,7 +39,7 @@ pub taken : (a : App) → a ≡ program → (arguments : List Text) → (is_simp
 taken a is arguments free m has =
     let none : fault_of program arguments ≡ [] = subst (λ (x : App). is_simple_and_free x ≡ true → fault_of x arguments ≡ []) is free is_free in
     let met : subcommand_rows_of m ≡ subcommand_of program arguments = (subst (λ (x : App). HasMatchesOf x arguments m) is has is_plain).1 in
-    ap (λ kinds. line_unless_faulty kinds arguments) none ∙ ap (option_and_then (λ (found : Text × List Row). task_in found.0 found.1)) (sym met)
+    ap (λ kinds. task_unless_faulty kinds arguments) none ∙ ap (option_and_then (λ (found : Text × List Row). task_in found.0 found.1)) (sym met)
 
 -- a name and rows that are known separately, as a pair
 pub pair_from : {X : Type 0} (f : X → Text) (g : X → List Row) (o : Option X) (name : Text) (rows : List Row) → Some name ≡ option_map f o

@@ -69,10 +69,10 @@ task_in name rows =
     else None
 
 -- the task of the subcommand in the arguments, if clap finds no fault in them
-abbrev pub line_unless_faulty : Kinds → List Text → Option TaskView
-line_unless_faulty [] arguments = option_and_then (λ found. task_in found.0 found.1) (subcommand_of program arguments)
-line_unless_faulty (fault ∷ faults) arguments = None
+abbrev pub task_unless_faulty : Kinds → List Text → Option TaskView
+task_unless_faulty [] arguments = option_and_then (λ found. task_in found.0 found.1) (subcommand_of program arguments)
+task_unless_faulty (fault ∷ faults) arguments = None
 
 -- The task of the arguments, or `None` for a usage error, such as an option given twice, an argument too many, or a request for help.
 abbrev pub line : List Text → Option TaskView
-line arguments = line_unless_faulty (fault_of program arguments) arguments
+line arguments = task_unless_faulty (fault_of program arguments) arguments

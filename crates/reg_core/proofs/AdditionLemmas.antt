@@ -54,8 +54,8 @@ was_admitted g ok subject text new denotes passed =
     record { new = new; denotes = denotes; live = live; are = live_schemas-each g ok subject; admits = (admits_decided (level_in g subject) live new).0 passed }
 
 -- Register adds only the subject's next version, with the admitted schema
-registered_adds : (g : Registry) → IsRegistry g → (subject text : List ℕ) (supported : Bool) (new : List NodeView) → TextDenotes text new → (has_live admitted left : Bool)
-    → is_admitted_after g.schemas (level_in g subject) (live_rows (rows_of g subject)) new ≡ admitted → OnlyAdditions g (Register subject text supported) (registered g subject new (record { has_live = has_live; admitted = admitted; numbers_left = left })).0
+registered_adds : (g : Registry) → IsRegistry g → (subject text : List ℕ) (supported : Bool) (new : List NodeView) → TextDenotes text new → (is_already_live admitted left : Bool)
+    → is_admitted_after g.schemas (level_in g subject) (live_rows (rows_of g subject)) new ≡ admitted → OnlyAdditions g (Register subject text supported) (registered g subject new (record { is_already_live = is_already_live; admitted = admitted; has_numbers_left = left })).0
 unfolding was_admitted
 registered_adds g ok subject text supported new denotes true admitted left e = itself_adds g (Register subject text supported)
 registered_adds g ok subject text supported new denotes false false left e = itself_adds g (Register subject text supported)
@@ -69,7 +69,7 @@ registered_adds g ok subject text supported new denotes false true true e =
       subject = subject;
       text = text;
       supported = supported;
-      is = refl;
+      command_is = refl;
       admitted = was_admitted g ok subject text new denotes e;
       next = refl;
       absent = next_number-absent g subject;

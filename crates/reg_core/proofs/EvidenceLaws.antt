@@ -57,7 +57,7 @@ added-grows schemas new = by (is_some (id_of schemas (identity new)))
     by true = stays schemas schemas refl
     by false = (new ∷ [], refl)
 
-registered-grows : (g : Registry) (subject : List ℕ) (new : List NodeView) (has_live admitted left : Bool) → Grows g.schemas (registered g subject new (record { has_live = has_live; admitted = admitted; numbers_left = left })).0.schemas
+registered-grows : (g : Registry) (subject : List ℕ) (new : List NodeView) (is_already_live admitted left : Bool) → Grows g.schemas (registered g subject new (record { is_already_live = is_already_live; admitted = admitted; has_numbers_left = left })).0.schemas
 registered-grows g subject new true admitted left = stays g.schemas g.schemas refl
 registered-grows g subject new false false left = stays g.schemas g.schemas refl
 registered-grows g subject new false true false = stays g.schemas g.schemas refl

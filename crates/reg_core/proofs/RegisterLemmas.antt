@@ -128,7 +128,7 @@ module _ (g : Registry) (subject text : List ℕ) (supported : Bool) (view : Vie
     among = input.shows.rows.among
 
     register_as : permitted_step g (Register subject text supported)
-        ≡ registered g subject new (record { has_live = is_among view.known live; admitted = is_admitted_after g.schemas (level_of_view view) all new; numbers_left = has_numbers_left g subject new })
+        ≡ registered g subject new (record { is_already_live = is_among view.known live; admitted = is_admitted_after g.schemas (level_of_view view) all new; has_numbers_left = has_numbers_left g subject new })
     unfolding permitted_step
     register_as =
         let levels = input.shows.levels refl in

@@ -168,7 +168,7 @@ with_version-IsRegistry g subject new ok schema number id =
 nat_le_says : (a b : ℕ) → nat_le a b ≡ true → a ≤ b
 nat_le_says a b h = grind (arith, nat_tests)
 
-registered-IsRegistry : (g : Registry) (subject : List ℕ) (new : List NodeView) → IsRegistry g → IsSchema new → (has_live admitted left : Bool) → has_numbers_left g subject new ≡ left → IsRegistry (registered g subject new (record { has_live = has_live; admitted = admitted; numbers_left = left })).0
+registered-IsRegistry : (g : Registry) (subject : List ℕ) (new : List NodeView) → IsRegistry g → IsSchema new → (is_already_live admitted left : Bool) → has_numbers_left g subject new ≡ left → IsRegistry (registered g subject new (record { is_already_live = is_already_live; admitted = admitted; has_numbers_left = left })).0
 registered-IsRegistry g subject new ok schema true admitted left e = ok
 registered-IsRegistry g subject new ok schema false false left e = ok
 registered-IsRegistry g subject new ok schema false true false e = ok

@@ -28,7 +28,7 @@ pub record IsAddition (g : Registry) (command : Command) (after : Registry) (key
   pub subject : List ℕ
   pub text : List ℕ
   pub supported : Bool
-  pub is : command ≡ Register subject text supported
+  pub command_is : command ≡ Register subject text supported
   pub admitted : WasAdmitted g subject text
   pub next : key ≡ (subject, next_number (rows_of g subject))
   pub absent : get g.rows key ≡ None

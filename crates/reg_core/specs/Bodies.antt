@@ -41,4 +41,4 @@ subject_versions_body rows = compact_text (array (items_of (map subject_version_
 
 -- Schema Registry API reference, Compatibility: a verdict
 abbrev pub verdict_body : Bool → List ℕ
-verdict_body fits = compact_text (object (member (codes "is_compatible") (boolean fits) no_members))
+verdict_body compatible = compact_text (object (member (codes "is_compatible") (boolean compatible) no_members))

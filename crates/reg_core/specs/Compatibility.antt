@@ -10,8 +10,8 @@ use Rattle.reg_core.specs.declared.level.Level.TheVariants.{Backward, BackwardTr
 abbrev pub latest : {X : Type 0} → List X → List X
 latest live = option_to_list (last_or None live)
 
--- Schema Registry API reference, Compatibility; Schema Evolution and Compatibility, Compatibility Types: of the live versions, in order of
--- number, those that a level compares a new schema with: the latest one, all for the transitive levels, none for NONE
+-- Schema Registry API reference, Compatibility; Schema Evolution and Compatibility, Compatibility Types: the live versions that a level compares
+-- a new schema with, in order of number: all for a transitive level, none for NONE, else the latest
 abbrev pub named_versions : {X : Type 0} → Level → List X → List X
 named_versions Backward live = latest live
 named_versions BackwardTransitive live = live

@@ -52,7 +52,7 @@ subject_of (SetMode subject mode) = Some subject
 subject_of GlobalMode = None
 subject_of (ModeOf subject default_to_global) = Some subject
 
--- Schema Registry API reference, Subjects and Compatibility: whether a command sends a schema's text of a supported type
+-- Schema Registry API reference, Subjects and Compatibility: whether a command sends the text of a schema whose type is supported
 abbrev pub sends_schema : Command → Bool
 sends_schema (Register subject text supported) = supported
 sends_schema (Lookup subject text supported deleted) = supported

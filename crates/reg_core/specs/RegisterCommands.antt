@@ -48,16 +48,16 @@ with_version g subject new = record g {
 -- Schema Registry API reference, POST /subjects/{subject}/versions: the results of the tests of a valid schema, in their order: a live version has it;
 -- the level admits it; numbers are left for the version and the schema
 pub record RegisterTests : Type 0 where
-  pub has_live : Bool
+  pub is_already_live : Bool
   pub admitted : Bool
-  pub numbers_left : Bool
+  pub has_numbers_left : Bool
 
 -- Schema Registry API reference, POST /subjects/{subject}/versions: the registry and the reply, by the first test that decides
 abbrev pub registered : Registry → List ℕ → List NodeView → RegisterTests → Registry × ReplyView
 registered g subject new tests =
-    if tests.has_live then (g, answer (id_body (id_for g.schemas new))) else
+    if tests.is_already_live then (g, answer (id_body (id_for g.schemas new))) else
     if not tests.admitted then (g, fault Incompatible) else
-    if not tests.numbers_left then (g, fault NoNumberLeft) else
+    if not tests.has_numbers_left then (g, fault NoNumberLeft) else
     (with_version g subject new, answer (id_body (id_for g.schemas new)))
 
 -- whether one of the versions has the id; no if there is no id
@@ -74,9 +74,9 @@ register g subject None = (g, fault InvalidSchema)
 register g subject (Some new) =
     let live = live_rows (rows_of g subject) in
     registered g subject new (record {
-      has_live = is_among (id_of g.schemas (identity new)) live;
+      is_already_live = is_among (id_of g.schemas (identity new)) live;
       admitted = is_admitted_after g.schemas (level_in g subject) live new;
-      numbers_left = has_numbers_left g subject new;
+      has_numbers_left = has_numbers_left g subject new;
     })
 
 -- ---- Check

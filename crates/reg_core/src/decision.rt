@@ -142,7 +142,7 @@ pub fn decide_with_cache(
     decide_permitted(alloc, view, command, schema_if_sent(command, schema), cache)
 }
 
-/// The schema, or `None` if the command sends none of a supported type.
+/// The schema, or `None` if the command sends no schema, or one of another type.
 fn schema_if_sent<'a>(command: &Command, schema: Option<&'a Schema>) -> Option<&'a Schema>
     ensures { option_map nodes_view (option_copied result)
         ≡ used_schema command.now (option_map nodes_view (option_copied schema.entry)) }

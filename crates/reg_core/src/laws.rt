@@ -19,11 +19,12 @@ pub fn additions_are_admitted()
     ensures { (g : Registry) (command : Command) → IsRegistry g → AddsAdmitted g command }
 {}
 
-/// A law of the abstract machine: if the evidence of a registry's versions is true, and a command
-/// leaves evidence as `IsEvidenceAfter` says, it is true after the command. By `IsEvidenceAfter`,
-/// existing versions keep their evidence, and removed versions have none. The evidence of a new
-/// version is the level in force and the ids of the schemas that it was compared with.
+/// A law of the abstract machine. If a registry's evidence is true before a command, then the
+/// evidence after it, as `IsEvidenceAfter` gives it, is true of the registry after it. By
+/// `IsEvidenceAfter`, existing versions keep their evidence, and removed versions have none. The
+/// evidence of a new version is the level in force and the ids of the schemas that it was compared
+/// with.
 pub fn evidence_stays_true()
-    ensures { (g : Registry) (command : Command) (had has : EvidenceMap) → IsRegistry g → IsTrueEvidence g had
-        → IsEvidenceAfter g command had has → IsTrueEvidence (step g command).0 has }
+    ensures { (g : Registry) (command : Command) (before after : EvidenceMap) → IsRegistry g → IsTrueEvidence g before
+        → IsEvidenceAfter g command before after → IsTrueEvidence (step g command).0 after }
 {}

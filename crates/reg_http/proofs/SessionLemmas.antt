@@ -9,7 +9,7 @@ use Rattle.reg_core.specs.declared.code.Code.{Code}
 use Rattle.reg_core.specs.Replies.{ReplyView}
 use Rattle.reg_service.specs.Deliveries.{Exchange}
 use Rattle.reg_http.specs.declared.writing.WriteOutcome.{WriteOutcome}
-use Rattle.reg_http.specs.declared.writing.WriteOutcome.TheVariants.{Whole, CutShort, OutOfMemory as Unsent}
+use Rattle.reg_http.specs.declared.writing.WriteOutcome.TheVariants.{Whole, CutShort, OutOfMemory as NoMemory}
 use Rattle.reg_http.specs.declared.answering.Stop.{Stop}
 use Rattle.reg_http.specs.declared.answering.Stop.TheVariants.{Waiting, AtClose, AtFault, NotWritten, OutOfMemory}
 use Rattle.reg_messages.specs.Messages.{Message, StartsWithMessage, ParsesInto, Follows, Faulty}
@@ -185,7 +185,7 @@ Next-message P w w' bytes size m reply CutShort close is r c part front a whole 
   processes = ProcessesMessages-one P w w' bytes (drop size bytes) part m reply is r a;
   stops = inl (record { before = []; last = (m, reply); part = part; all = refl; stay = tt; front = front; written = refl });
 }
-Next-message P w w' bytes size m reply Unsent close is r c part front a whole = record {
+Next-message P w w' bytes size m reply NoMemory close is r c part front a whole = record {
   answered = (m, reply) ∷ [];
   rest = drop size bytes;
   out = part;

@@ -86,7 +86,7 @@ fn answer_fault<W: Write>(alloc: Global, code: Code, writer: &mut W) -> Stop
     }
 }
 
-/// Processes the front of the bytes: a message, a part of one, or a fault.
+/// Processes the front of the bytes: a whole message, a part of one, a fault, or nothing.
 fn answer_front<W: Write, S: Alter>(
     alloc: Global,
     routes: &Routes,
@@ -112,7 +112,8 @@ fn answer_front<W: Write, S: Alter>(
         ParseOutcome::Nothing => Next::Stopped(Stop::Waiting(1)),
         ParseOutcome::Part(needs) => Next::Stopped(Stop::Waiting(needs)),
         ParseOutcome::Faulty(code) => Next::Stopped(answer_fault(alloc, code, writer)),
-        // `ReadBuffers` has room for more fields than a head within the size limit can have.
+        // `ReadBuffers` has room for more fields than a head within the size limit can have. So
+        // this doesn't happen.
         ParseOutcome::TooManyFields => Next::Stopped(Stop::OutOfMemory),
     }
 }

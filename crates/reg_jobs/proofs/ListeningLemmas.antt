@@ -15,13 +15,13 @@ use Rattle.reg_http.proofs.EndLemmas.{Session-same}
 use Rattle.reg_jobs.specs.declared.errors.Errors.{Errors}
 use Rattle.reg_jobs.specs.declared.outcome.Fault.TheVariants.{CannotAccept}
 use Rattle.reg_jobs.specs.Errors.{Puts}
-use Rattle.reg_jobs.specs.Listening.{ServesNext, ServesUpTo, ReportsAcceptFailures, accept_failure_lines}
+use Rattle.reg_jobs.specs.Listening.{ServesNext, ServesRounds, ReportsAcceptFailures, accept_failure_lines}
 use Rattle.reg_jobs.specs.Outcomes.{line_of}
 use Rattle.reg_jobs.proofs.LineLemmas.{Puts-append, Puts-none}
 
 module _ {S : Type 0} {g : Ghosts S} where
   -- no connection yet
-  pub StoredTransition-none : (s : Service S g) → RecoversSpelled (state_in s) → StoredTransition (state_in s) (state_in s) (ServesUpTo 0 s s)
+  pub StoredTransition-none : (s : Service S g) → RecoversSpelled (state_in s) → StoredTransition (state_in s) (state_in s) (ServesRounds 0 s s)
   StoredTransition-none s spelled was spells = record { stored = was; spells = spells; holds = record { exchanges = []; are = refl; serves = durable_none s was [] refl spelled } }
 
   -- no connection was accepted
@@ -45,8 +45,8 @@ module _ {S : Type 0} {g : Ghosts S} where
       }
 
   -- one more connection
-  pub StoredTransition-next : (old mid new : Service S g) (count : ℕ) → HasCleanDisk (state_in new) → StoredTransition (state_in old) (state_in mid) (ServesUpTo count old mid)
-      → StoredTransition (state_in mid) (state_in new) (ServesNext mid new) → StoredTransition (state_in old) (state_in new) (ServesUpTo (count + 1) old new)
+  pub StoredTransition-next : (old mid new : Service S g) (count : ℕ) → HasCleanDisk (state_in new) → StoredTransition (state_in old) (state_in mid) (ServesRounds count old mid)
+      → StoredTransition (state_in mid) (state_in new) (ServesNext mid new) → StoredTransition (state_in old) (state_in new) (ServesRounds (count + 1) old new)
   StoredTransition-next old mid new count clean before next was spells =
       let b = before was spells in
       let n = next b.stored b.spells in

@@ -22,17 +22,17 @@ use Rattle.reg_http.specs.Transitions.{StoredTransition}
 use Rattle.reg_http.specs.Sessions.{Session}
 
 -- a connection is returned, and if its disk is clean, P is true of its state
-pub record ReturnsConnection {S : Type 0} (g : Ghosts S) (back : Option (Held S)) (P : State → Type 0) : Type 0 where
+pub record ReturnsConnection {S : Type 0} (g : Ghosts S) (returned : Option (Held S)) (P : State → Type 0) : Type 0 where
   pub connection : Held S
-  pub given : back ≡ Some connection
+  pub given : returned ≡ Some connection
   pub holds : HasCleanDisk (state g connection) → P (state g connection)
 
 -- a session of a service over the store, after which the connection is returned
-pub record ServesStore {S : Type 0} {g : Ghosts S} (store : Store S g) (back : Held S) (reader reader' writer writer' : Option (List ℕ)) (ended : Ended) : Type 0 where
+pub record ServesStore {S : Type 0} {g : Ghosts S} (store : Store S g) (returned : Held S) (reader reader' writer writer' : Option (List ℕ)) (ended : Ended) : Type 0 where
   pub before : Service S g
   pub after : Service S g
   pub begins : store_in before ≡ store
-  pub ends : back ≡ connection_of (store_in after)
+  pub ends : returned ≡ connection_of (store_in after)
   pub leads : HasCleanDisk (state_in after) → StoredTransition (state_in before) (state_in after) (λ was now. Session (ServesDurably before after was now) reader reader' writer writer' ended)
 
 -- the database was empty, and its tables now spell a new registry, without kept replies or evidence

@@ -107,13 +107,13 @@ HasRegistry g (Database old) new = OpensOver (state g old) new
 
 -- why what was opened has no registry, and the connection that is returned
 abbrev pub LacksRegistry : {S : Type 0} (g : Ghosts S) → Opened S → Option (Held S) → StoreError → Type 0
-LacksRegistry g Nothing back error = (back ≡ None) × (error ≡ Disk)
-LacksRegistry g (Texts texts) back error = (back ≡ None) × (error ≡ Disk)
-LacksRegistry g Failed back error = (back ≡ None) × (error ≡ Disk)
-LacksRegistry g Empty back error = (back ≡ None) × (error ≡ NotARegistry)
-LacksRegistry g OrphanedLog back error = (back ≡ None) × (error ≡ NotARegistry)
-LacksRegistry g (Fresh old) back error = ReturnsConnection g back (λ new. CreatesNone (state g old) new error)
-LacksRegistry g (Database old) back error = ReturnsConnection g back (λ new. OpensNone (state g old) new error)
+LacksRegistry g Nothing returned error = (returned ≡ None) × (error ≡ Disk)
+LacksRegistry g (Texts texts) returned error = (returned ≡ None) × (error ≡ Disk)
+LacksRegistry g Failed returned error = (returned ≡ None) × (error ≡ Disk)
+LacksRegistry g Empty returned error = (returned ≡ None) × (error ≡ NotARegistry)
+LacksRegistry g OrphanedLog returned error = (returned ≡ None) × (error ≡ NotARegistry)
+LacksRegistry g (Fresh old) returned error = ReturnsConnection g returned (λ new. CreatesNone (state g old) new error)
+LacksRegistry g (Database old) returned error = ReturnsConnection g returned (λ new. OpensNone (state g old) new error)
 
 -- the stored state when a session begins, by what was opened
 abbrev pub SessionStartsFrom : {S : Type 0} (g : Ghosts S) → Opened S → Stored → Type 0
@@ -133,33 +133,33 @@ pub record SessionFrom {S : Type 0} (g : Ghosts S) (opened : Opened S) (before a
   pub leads : StoredSatisfies (state_in after) (λ now. Session (ServesDurably before after was now) reader reader' writer writer' ended)
 
 -- such a session over what was opened, after which the connection is returned
-pub record SessionOver {S : Type 0} (g : Ghosts S) (opened : Opened S) (back : Option (Held S)) (reader reader' writer writer' : Option (List ℕ)) (ended : Ended) : Type 0 where
+pub record SessionOver {S : Type 0} (g : Ghosts S) (opened : Opened S) (returned : Option (Held S)) (reader reader' writer writer' : Option (List ℕ)) (ended : Ended) : Type 0 where
   pub before : Service S g
   pub after : Service S g
-  pub given : back ≡ Some (connection_of (store_in after))
+  pub given : returned ≡ Some (connection_of (store_in after))
   pub holds : HasCleanDisk (state_in after) → SessionFrom g opened before after reader reader' writer writer' ended
 
 -- there was no registry, and nothing was read or written
-pub record RunsWithoutRegistry {S : Type 0} (g : Ghosts S) (opened : Opened S) (back : Option (Held S)) (reader reader' writer writer' : Option (List ℕ)) (error : StoreError) : Type 0 where
+pub record RunsWithoutRegistry {S : Type 0} (g : Ghosts S) (opened : Opened S) (returned : Option (Held S)) (reader reader' writer writer' : Option (List ℕ)) (error : StoreError) : Type 0 where
   pub unread : reader' ≡ reader
   pub unwritten : writer' ≡ writer
-  pub lacks : LacksRegistry g opened back error
+  pub lacks : LacksRegistry g opened returned error
 
 -- the outcome of a session over what was opened
 abbrev pub RunsOn : {S : Type 0} (g : Ghosts S) → Opened S → Option (Held S) → Option (List ℕ) → Option (List ℕ) → Option (List ℕ) → Option (List ℕ) → Outcome → Type 0
-RunsOn g opened back reader reader' writer writer' (SessionEnded ended) = SessionOver g opened back reader reader' writer writer' ended
-RunsOn g opened back reader reader' writer writer' (Unopened error) = RunsWithoutRegistry g opened back reader reader' writer writer' error
-RunsOn g opened back reader reader' writer writer' (NotListening port) = ⊥
-RunsOn g opened back reader reader' writer writer' (TextEnded printed) = ⊥
-RunsOn g opened back reader reader' writer writer' (CheckEnded checked) = ⊥
-RunsOn g opened back reader reader' writer writer' (ListEnded listed) = ⊥
-RunsOn g opened back reader reader' writer writer' (Migrated printed) = ⊥
-RunsOn g opened back reader reader' writer writer' (Audited audited) = ⊥
+RunsOn g opened returned reader reader' writer writer' (SessionEnded ended) = SessionOver g opened returned reader reader' writer writer' ended
+RunsOn g opened returned reader reader' writer writer' (Unopened error) = RunsWithoutRegistry g opened returned reader reader' writer writer' error
+RunsOn g opened returned reader reader' writer writer' (NotListening port) = ⊥
+RunsOn g opened returned reader reader' writer writer' (TextEnded printed) = ⊥
+RunsOn g opened returned reader reader' writer writer' (CheckEnded checked) = ⊥
+RunsOn g opened returned reader reader' writer writer' (ListEnded listed) = ⊥
+RunsOn g opened returned reader reader' writer writer' (Migrated migrated) = ⊥
+RunsOn g opened returned reader reader' writer writer' (Audited audited) = ⊥
 
 -- the outcome of `run`: a session over what was opened if the job names a file, otherwise over a new registry in memory
 abbrev pub RunsJob : {S : Type 0} (g : Ghosts S) → Opened S → Bool → Option (Held S) → Option (List ℕ) → Option (List ℕ) → Option (List ℕ) → Option (List ℕ) → Outcome → Type 0
-RunsJob g opened false back reader reader' writer writer' outcome = (back ≡ connection_in opened) × RunsInMemory reader reader' writer writer' outcome
-RunsJob g opened true back reader reader' writer writer' outcome = RunsOn g opened back reader reader' writer writer' outcome
+RunsJob g opened false returned reader reader' writer writer' outcome = (returned ≡ connection_in opened) × RunsInMemory reader reader' writer writer' outcome
+RunsJob g opened true returned reader reader' writer writer' outcome = RunsOn g opened returned reader reader' writer writer' outcome
 
 -- a database was opened that may have a registry, and P is true of its state
 abbrev pub OverDatabase : {S : Type 0} (g : Ghosts S) → Opened S → (State → Type 0) → Type 0
@@ -174,13 +174,13 @@ OverDatabase g (Database old) P = P (state g old)
 -- why a job that only reads finds no registry in what was opened, and the connection that is returned. It creates none in an empty
 -- database, which is returned unchanged
 abbrev pub FindsNone : {S : Type 0} (g : Ghosts S) → Opened S → Option (Held S) → StoreError → Type 0
-FindsNone g Nothing back error = LacksRegistry g Nothing back error
-FindsNone g (Texts texts) back error = LacksRegistry g (Texts texts) back error
-FindsNone g Failed back error = LacksRegistry g Failed back error
-FindsNone g Empty back error = LacksRegistry g Empty back error
-FindsNone g OrphanedLog back error = LacksRegistry g OrphanedLog back error
-FindsNone g (Fresh old) back error = (back ≡ Some old) × (error ≡ NotARegistry)
-FindsNone g (Database old) back error = LacksRegistry g (Database old) back error
+FindsNone g Nothing returned error = LacksRegistry g Nothing returned error
+FindsNone g (Texts texts) returned error = LacksRegistry g (Texts texts) returned error
+FindsNone g Failed returned error = LacksRegistry g Failed returned error
+FindsNone g Empty returned error = LacksRegistry g Empty returned error
+FindsNone g OrphanedLog returned error = LacksRegistry g OrphanedLog returned error
+FindsNone g (Fresh old) returned error = (returned ≡ Some old) × (error ≡ NotARegistry)
+FindsNone g (Database old) returned error = LacksRegistry g (Database old) returned error
 
 -- a listing of the registry of a database, which the tables still spell
 pub record ListsOver (old : State) (kind : ListingKind) (writer writer' : Option (List ℕ)) (listed : ListOutcome) (new : State) : Type 0 where
@@ -191,20 +191,20 @@ pub record ListsOver (old : State) (kind : ListingKind) (writer writer' : Option
   pub spells : SpellsWhileOpen new was
 
 -- no registry was found, and nothing was written
-pub record FindsNoRegistry {S : Type 0} (g : Ghosts S) (opened : Opened S) (back : Option (Held S)) (writer writer' : Option (List ℕ)) (error : StoreError) : Type 0 where
+pub record FindsNoRegistry {S : Type 0} (g : Ghosts S) (opened : Opened S) (returned : Option (Held S)) (writer writer' : Option (List ℕ)) (error : StoreError) : Type 0 where
   pub unwritten : writer' ≡ writer
-  pub lacks : FindsNone g opened back error
+  pub lacks : FindsNone g opened returned error
 
--- the outcome of a listing of what was opened
+-- what is true after a listing: for each outcome that it can have, what was written and which connection was returned; no other outcome occurs
 abbrev pub ListsOn : {S : Type 0} (g : Ghosts S) → Opened S → ListingKind → Option (Held S) → Option (List ℕ) → Option (List ℕ) → Outcome → Type 0
-ListsOn g opened kind back writer writer' (SessionEnded ended) = ⊥
-ListsOn g opened kind back writer writer' (Unopened error) = FindsNoRegistry g opened back writer writer' error
-ListsOn g opened kind back writer writer' (NotListening port) = ⊥
-ListsOn g opened kind back writer writer' (TextEnded printed) = ⊥
-ListsOn g opened kind back writer writer' (CheckEnded checked) = ⊥
-ListsOn g opened kind back writer writer' (ListEnded listed) = OverDatabase g opened (λ old. ReturnsConnection g back (ListsOver old kind writer writer' listed))
-ListsOn g opened kind back writer writer' (Migrated printed) = ⊥
-ListsOn g opened kind back writer writer' (Audited audited) = ⊥
+ListsOn g opened kind returned writer writer' (SessionEnded ended) = ⊥
+ListsOn g opened kind returned writer writer' (Unopened error) = FindsNoRegistry g opened returned writer writer' error
+ListsOn g opened kind returned writer writer' (NotListening port) = ⊥
+ListsOn g opened kind returned writer writer' (TextEnded printed) = ⊥
+ListsOn g opened kind returned writer writer' (CheckEnded checked) = ⊥
+ListsOn g opened kind returned writer writer' (ListEnded listed) = OverDatabase g opened (λ old. ReturnsConnection g returned (ListsOver old kind writer writer' listed))
+ListsOn g opened kind returned writer writer' (Migrated migrated) = ⊥
+ListsOn g opened kind returned writer writer' (Audited audited) = ⊥
 
 -- an audit of the stored state of a database, which the tables still spell
 pub record AuditsOver (old : State) (writer writer' : Option (List ℕ)) (audited : AuditOutcome) (new : State) : Type 0 where
@@ -215,14 +215,14 @@ pub record AuditsOver (old : State) (writer writer' : Option (List ℕ)) (audite
 
 -- the outcome of an audit of what was opened
 abbrev pub AuditsOn : {S : Type 0} (g : Ghosts S) → Opened S → Option (Held S) → Option (List ℕ) → Option (List ℕ) → Outcome → Type 0
-AuditsOn g opened back writer writer' (SessionEnded ended) = ⊥
-AuditsOn g opened back writer writer' (Unopened error) = FindsNoRegistry g opened back writer writer' error
-AuditsOn g opened back writer writer' (NotListening port) = ⊥
-AuditsOn g opened back writer writer' (TextEnded printed) = ⊥
-AuditsOn g opened back writer writer' (CheckEnded checked) = ⊥
-AuditsOn g opened back writer writer' (ListEnded listed) = ⊥
-AuditsOn g opened back writer writer' (Migrated printed) = ⊥
-AuditsOn g opened back writer writer' (Audited audited) = OverDatabase g opened (λ old. ReturnsConnection g back (AuditsOver old writer writer' audited))
+AuditsOn g opened returned writer writer' (SessionEnded ended) = ⊥
+AuditsOn g opened returned writer writer' (Unopened error) = FindsNoRegistry g opened returned writer writer' error
+AuditsOn g opened returned writer writer' (NotListening port) = ⊥
+AuditsOn g opened returned writer writer' (TextEnded printed) = ⊥
+AuditsOn g opened returned writer writer' (CheckEnded checked) = ⊥
+AuditsOn g opened returned writer writer' (ListEnded listed) = ⊥
+AuditsOn g opened returned writer writer' (Migrated migrated) = ⊥
+AuditsOn g opened returned writer writer' (Audited audited) = OverDatabase g opened (λ old. ReturnsConnection g returned (AuditsOver old writer writer' audited))
 
 -- nothing was opened that could be migrated, and nothing was written
 abbrev pub MigratesNothing : Option (List ℕ) → Option (List ℕ) → StoreError → Outcome → Type 0
@@ -231,13 +231,13 @@ MigratesNothing writer writer' error outcome = (writer' ≡ writer) × (outcome 
 -- the outcome of a migration of what was opened, and the connection that is returned. It creates no registry in an empty database, which is
 -- returned unchanged
 abbrev pub MigratesOn : {S : Type 0} (g : Ghosts S) → Opened S → Option (Held S) → Option (List ℕ) → Option (List ℕ) → Outcome → Type 0
-MigratesOn g Nothing back writer writer' outcome = (back ≡ None) × MigratesNothing writer writer' Disk outcome
-MigratesOn g (Texts texts) back writer writer' outcome = (back ≡ None) × MigratesNothing writer writer' Disk outcome
-MigratesOn g Failed back writer writer' outcome = (back ≡ None) × MigratesNothing writer writer' Disk outcome
-MigratesOn g Empty back writer writer' outcome = (back ≡ None) × MigratesNothing writer writer' NotARegistry outcome
-MigratesOn g OrphanedLog back writer writer' outcome = (back ≡ None) × MigratesNothing writer writer' NotARegistry outcome
-MigratesOn g (Fresh old) back writer writer' outcome = (back ≡ Some old) × MigratesNothing writer writer' NotARegistry outcome
-MigratesOn g (Database old) back writer writer' outcome = ReturnsConnection g back (λ new. MigratesAs (state g old) new writer writer' outcome)
+MigratesOn g Nothing returned writer writer' outcome = (returned ≡ None) × MigratesNothing writer writer' Disk outcome
+MigratesOn g (Texts texts) returned writer writer' outcome = (returned ≡ None) × MigratesNothing writer writer' Disk outcome
+MigratesOn g Failed returned writer writer' outcome = (returned ≡ None) × MigratesNothing writer writer' Disk outcome
+MigratesOn g Empty returned writer writer' outcome = (returned ≡ None) × MigratesNothing writer writer' NotARegistry outcome
+MigratesOn g OrphanedLog returned writer writer' outcome = (returned ≡ None) × MigratesNothing writer writer' NotARegistry outcome
+MigratesOn g (Fresh old) returned writer writer' outcome = (returned ≡ Some old) × MigratesNothing writer writer' NotARegistry outcome
+MigratesOn g (Database old) returned writer writer' outcome = ReturnsConnection g returned (λ new. MigratesAs (state g old) new writer writer' outcome)
 
 -- the outcome of `text`, and what was printed
 pub record PrintsText (file writer writer' : Option (List ℕ)) (outcome : Outcome) : Type 0 where
@@ -253,17 +253,17 @@ pub record ChecksFiles (reader_file writer_file writer writer' : Option (List �
 
 -- the outcome of a job, by its kind. Only a session reads its input
 abbrev pub HasOutcome : {S : Type 0} (g : Ghosts S) → Job → Opened S → Option (Held S) → Option (List ℕ) → Option (List ℕ) → Option (List ℕ) → Option (List ℕ) → Outcome → Type 0
-HasOutcome g (Run database) opened back reader reader' writer writer' outcome = RunsJob g opened (is_some database) back reader reader' writer writer' outcome
-HasOutcome g (TextJob file) opened back reader reader' writer writer' outcome = (back ≡ connection_in opened) × (reader' ≡ reader) × PrintsText (text_at opened 0) writer writer' outcome
-HasOutcome g (CheckJob r w) opened back reader reader' writer writer' outcome = (back ≡ connection_in opened) × (reader' ≡ reader) × ChecksFiles (text_at opened 0) (text_at opened 1) writer writer' outcome
-HasOutcome g (ListJob database kind) opened back reader reader' writer writer' outcome = (reader' ≡ reader) × ListsOn g opened kind back writer writer' outcome
-HasOutcome g (Migrate database) opened back reader reader' writer writer' outcome = (reader' ≡ reader) × MigratesOn g opened back writer writer' outcome
-HasOutcome g (Audit database) opened back reader reader' writer writer' outcome = (reader' ≡ reader) × AuditsOn g opened back writer writer' outcome
+HasOutcome g (Run database) opened returned reader reader' writer writer' outcome = RunsJob g opened (is_some database) returned reader reader' writer writer' outcome
+HasOutcome g (TextJob file) opened returned reader reader' writer writer' outcome = (returned ≡ connection_in opened) × (reader' ≡ reader) × PrintsText (text_at opened 0) writer writer' outcome
+HasOutcome g (CheckJob r w) opened returned reader reader' writer writer' outcome = (returned ≡ connection_in opened) × (reader' ≡ reader) × ChecksFiles (text_at opened 0) (text_at opened 1) writer writer' outcome
+HasOutcome g (ListJob database kind) opened returned reader reader' writer writer' outcome = (reader' ≡ reader) × ListsOn g opened kind returned writer writer' outcome
+HasOutcome g (Migrate database) opened returned reader reader' writer writer' outcome = (reader' ≡ reader) × MigratesOn g opened returned writer writer' outcome
+HasOutcome g (Audit database) opened returned reader reader' writer writer' outcome = (reader' ≡ reader) × AuditsOn g opened returned writer writer' outcome
 
 -- a job that was done: its outcome, the connection that is returned, its line on standard error, and the status
-pub record DoesJob {S E : Type 0} (g : Ghosts S) (contents : E → Option (List ℕ)) (job : Job) (opened : Opened S) (back : Option (Held S))
+pub record DoesJob {S E : Type 0} (g : Ghosts S) (contents : E → Option (List ℕ)) (job : Job) (opened : Opened S) (returned : Option (Held S))
     (reader reader' writer writer' : Option (List ℕ)) (errors errors' : Errors E) (status : ℕ) : Type 0 where
   pub outcome : Outcome
-  pub has_outcome : HasOutcome g job opened back reader reader' writer writer' outcome
+  pub has_outcome : HasOutcome g job opened returned reader reader' writer writer' outcome
   pub reports : PrintsFault contents (job_result job outcome) errors errors'
   pub status_is : status ≡ status_of (job_result job outcome)

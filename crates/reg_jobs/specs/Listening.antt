@@ -21,14 +21,14 @@ pub record IsSession (xs : List Exchange) : Type 0 where
   pub ended : Ended
   pub session : Session (λ ys. ys ≡ xs) reader reader' writer writer' ended
 
--- a connection: none was accepted, or a session
-abbrev pub IsConnection : List Exchange → Type 0
-IsConnection xs = (xs ≡ []) ⊎ IsSession xs
+-- a round: no connection was accepted, or one was, and its messages are a session
+abbrev pub IsRound : List Exchange → Type 0
+IsRound xs = (xs ≡ []) ⊎ IsSession xs
 
--- the exchanges of this number of connections, in order
-abbrev pub AreConnections : ℕ → List Exchange → Type 0
-AreConnections zero xs = xs ≡ []
-AreConnections (suc count) xs = (before : List Exchange) × (last : List Exchange) × (xs ≡ before ++ last) × AreConnections count before × IsConnection last
+-- the exchanges of this number of rounds, in order
+abbrev pub AreRounds : ℕ → List Exchange → Type 0
+AreRounds zero xs = xs ≡ []
+AreRounds (suc count) xs = (before : List Exchange) × (last : List Exchange) × (xs ≡ before ++ last) × AreRounds count before × IsRound last
 
 -- exchanges with the property `Are` lead from `was` to `now`, and a crash preserves every acknowledged one
 pub record ServesSome (Are : List Exchange → Type 0) {S : Type 0} {g : Ghosts S} (old new : Service S g) (was now : Stored) : Type 0 where
@@ -36,13 +36,13 @@ pub record ServesSome (Are : List Exchange → Type 0) {S : Type 0} {g : Ghosts 
   pub are : Are exchanges
   pub serves : ServesDurably old new was now exchanges
 
--- one connection
+-- one round
 abbrev pub ServesNext : {S : Type 0} {g : Ghosts S} → Service S g → Service S g → Stored → Stored → Type 0
-ServesNext old new = ServesSome IsConnection old new
+ServesNext old new = ServesSome IsRound old new
 
--- this number of connections, one after another
-abbrev pub ServesUpTo : {S : Type 0} {g : Ghosts S} → ℕ → Service S g → Service S g → Stored → Stored → Type 0
-ServesUpTo count old new = ServesSome (AreConnections count) old new
+-- this number of rounds, one after another; each has at most one connection
+abbrev pub ServesRounds : {S : Type 0} {g : Ghosts S} → ℕ → Service S g → Service S g → Stored → Stored → Type 0
+ServesRounds count old new = ServesSome (AreRounds count) old new
 
 -- the line that no connection can be accepted, this number of times
 abbrev pub accept_failure_lines : ℕ → List ℕ

@@ -4,7 +4,7 @@ ghost use Rattle.std.specs.Prelude.{◌≤◌, ℕ};
 ghost use Rattle.sqlite.specs.State.{HasCleanDisk};
 ghost use Rattle.reg_service.specs.Services.{state_in};
 ghost use Rattle.reg_http.specs.Transitions.{StoredTransition};
-ghost use Rattle.reg_jobs.specs.Listening.{ServesNext, ServesUpTo, ReportsAcceptFailures};
+ghost use Rattle.reg_jobs.specs.Listening.{ServesNext, ServesRounds, ReportsAcceptFailures};
 
 mod ending;
 mod halves;
@@ -110,7 +110,7 @@ pub fn serve_with_clock<C: Clock, S: Alter, E: Write + Drop>(
 )
     ensures clean { HasCleanDisk (state_in service.new) → HasCleanDisk (state_in service.old) }
     ensures sessions { HasCleanDisk (state_in service.new)
-        → StoredTransition (state_in service.old) (state_in service.new) (ServesUpTo connections service.old service.new) }
+        → StoredTransition (state_in service.old) (state_in service.new) (ServesRounds connections service.old service.new) }
     ensures reports { ReportsAcceptFailures E.contents connections errors.old errors.new }
 {
     let mut queue = Queue::of(listener);
@@ -131,7 +131,7 @@ pub fn serve_on<S: Alter, E: Write + Drop>(
 )
     ensures clean { HasCleanDisk (state_in service.new) → HasCleanDisk (state_in service.old) }
     ensures sessions { HasCleanDisk (state_in service.new)
-        → StoredTransition (state_in service.old) (state_in service.new) (ServesUpTo connections service.old service.new) }
+        → StoredTransition (state_in service.old) (state_in service.new) (ServesRounds connections service.old service.new) }
     ensures reports { ReportsAcceptFailures E.contents connections errors.old errors.new }
 {
     serve_with_clock(alloc, &NoClock, listener, connections, service, errors);

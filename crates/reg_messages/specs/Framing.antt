@@ -15,7 +15,7 @@ max_body = 1048576
 abbrev pub is_length : List ℕ → Bool
 is_length text = nat_lt 0 (length text) && nat_le (length text) 19 && list_all is_ascii_digit text
 
--- the number of bytes that a text says, within the limit
+-- the body's length, from the text of Content-Length: `BodyTooLarge` above the limit, `MalformedRequest` if the text isn't 1 to 19 digits
 abbrev pub body_length : List ℕ → Result ℕ Code
 body_length text =
     if is_length text

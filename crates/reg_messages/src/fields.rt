@@ -29,7 +29,7 @@ impl<'a> FieldLookup<'a> {
     ghost use Rattle.reg_messages.specs.Fields.{FindsField};
 
     /// The result with one more value found.
-    fn and(self, value: &'a [u8]) -> FieldLookup<'a>
+    fn with_value(self, value: &'a [u8]) -> FieldLookup<'a>
         ensures { (values : List (List ℕ)) → FindsField values self.entry
             → FindsField (values ++ value.now ∷ []) result }
     {
@@ -48,7 +48,7 @@ impl<'a> FieldLookup<'a> {
         let mut found = FieldLookup::Missing;
         for field in fields {
             if is_name(field.name.of(head), name) {
-                found = found.and(field.value.of(head));
+                found = found.with_value(field.value.of(head));
             }
         }
         found

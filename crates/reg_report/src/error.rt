@@ -8,7 +8,7 @@ use thiserror::Error;
 /// Why a listing fails. A part of it may have been written.
 #[derive(Debug, Drop, Error)]
 pub enum ReportError {
-    /// The store failed, also for lack of memory.
+    /// The store failed, or ran out of memory.
     #[error(transparent)]
     Store(StoreError),
     /// An allocation for the output failed.

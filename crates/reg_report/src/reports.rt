@@ -23,10 +23,10 @@ const BUFFER_SIZE: usize = 65_536;
 ///
 /// # Errors
 ///
-/// `Store` if the store fails, also for lack of memory. `OutOfMemory` if an allocation for the
-/// output fails. After either, a number of whole lines was written, from the header on. `Write` if
-/// a write fails; then part of a line may have been written. The registry stays the same in every
-/// case.
+/// `Store` if the store fails or runs out of memory. `OutOfMemory` if an allocation for the output
+/// fails. After either, what was written is the first lines of the listing, each of them whole;
+/// perhaps none. `Write` if a write fails; then part of a line may have been written. The registry
+/// stays the same in every case.
 pub fn list_subjects<W: Write, S: Alter>(
     alloc: Global,
     store: &mut Store<S>,
@@ -37,15 +37,15 @@ pub fn list_subjects<W: Write, S: Alter>(
     list(alloc, store, Listing::Subjects, writer)
 }
 
-/// Writes as CSV the versions of all subjects, soft-deleted ones too, in the order of subjects and
-/// numbers. The header is `subject,version,id,deleted`.
+/// Writes as CSV all versions of all subjects, including soft-deleted ones, in the order of
+/// subjects and numbers. The header is `subject,version,id,deleted`.
 ///
 /// # Errors
 ///
-/// `Store` if the store fails, also for lack of memory. `OutOfMemory` if an allocation for the
-/// output fails. After either, a number of whole lines was written, from the header on. `Write` if
-/// a write fails; then part of a line may have been written. The registry stays the same in every
-/// case.
+/// `Store` if the store fails or runs out of memory. `OutOfMemory` if an allocation for the output
+/// fails. After either, what was written is the first lines of the listing, each of them whole;
+/// perhaps none. `Write` if a write fails; then part of a line may have been written. The registry
+/// stays the same in every case.
 pub fn list_versions<W: Write, S: Alter>(
     alloc: Global,
     store: &mut Store<S>,
@@ -61,10 +61,10 @@ pub fn list_versions<W: Write, S: Alter>(
 ///
 /// # Errors
 ///
-/// `Store` if the store fails, also for lack of memory. `OutOfMemory` if an allocation for the
-/// output fails. After either, a number of whole lines was written, from the header on. `Write` if
-/// a write fails; then part of a line may have been written. The registry stays the same in every
-/// case.
+/// `Store` if the store fails or runs out of memory. `OutOfMemory` if an allocation for the output
+/// fails. After either, what was written is the first lines of the listing, each of them whole;
+/// perhaps none. `Write` if a write fails; then part of a line may have been written. The registry
+/// stays the same in every case.
 pub fn list_schemas<W: Write, S: Alter>(
     alloc: Global,
     store: &mut Store<S>,
@@ -79,10 +79,10 @@ pub fn list_schemas<W: Write, S: Alter>(
 ///
 /// # Errors
 ///
-/// `Store` if the store fails, also for lack of memory. `OutOfMemory` if an allocation for the
-/// output fails. After either, a number of whole lines was written, from the header on. `Write` if
-/// a write fails; then part of a line may have been written. The registry stays the same in every
-/// case.
+/// `Store` if the store fails or runs out of memory. `OutOfMemory` if an allocation for the output
+/// fails. After either, what was written is the first lines of the listing, each of them whole;
+/// perhaps none. `Write` if a write fails; then part of a line may have been written. The registry
+/// stays the same in every case.
 pub fn list<W: Write, S: Alter>(
     alloc: Global,
     store: &mut Store<S>,
@@ -99,10 +99,10 @@ pub fn list<W: Write, S: Alter>(
 ///
 /// # Errors
 ///
-/// `Store` if the store fails, also for lack of memory. `OutOfMemory` if an allocation for the
-/// output fails. After either, a number of whole lines was written, from the header on. `Write` if
-/// a write fails; then part of a line may have been written. The registry stays the same in every
-/// case.
+/// `Store` if the store fails or runs out of memory. `OutOfMemory` if an allocation for the output
+/// fails. After either, what was written is the first lines of the listing, each of them whole;
+/// perhaps none. `Write` if a write fails; then part of a line may have been written. The registry
+/// stays the same in every case.
 pub fn list_in_pieces<W: Write, S: Alter>(
     alloc: Global,
     store: &mut Store<S>,

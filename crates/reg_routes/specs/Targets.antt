@@ -22,14 +22,14 @@ valid_utf8 bytes = if is_utf8 bytes then Some bytes else None
 abbrev pub decoded_part : List ℕ → Option (List ℕ)
 decoded_part part = valid_utf8 (percent_decode part)
 
--- the text of the part after this number of slashes
+-- the text of the path segment after this number of slashes
 abbrev pub path_text : ℕ → List ℕ → Option (List ℕ)
-path_text n path = decoded_part (part_at n path)
+path_text slashes path = decoded_part (part_at slashes path)
 
 -- the text if it is a valid subject
 abbrev pub valid_subject : List ℕ → Option (List ℕ)
 valid_subject text = if is_subject text then Some text else None
 
--- the subject in the part after this number of slashes
+-- the subject in the path segment after this number of slashes
 abbrev pub path_subject : ℕ → List ℕ → Option (List ℕ)
-path_subject n path = option_and_then valid_subject (path_text n path)
+path_subject slashes path = option_and_then valid_subject (path_text slashes path)

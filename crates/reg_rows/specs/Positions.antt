@@ -1,4 +1,4 @@
--- The rows of `against`: the ids that a version was tested against, by position.
+-- The rows of `against`: the ids that a version was checked against, by position.
 use Rattle.std.specs.Prelude.{ℕ, ◌<◌, ◌≤◌, ◌↔◌, List, Contains}
 use Rattle.std.specs.Borrow.{Bor}
 use Rattle.reg_core.specs.Registry.{RowKey}

@@ -45,8 +45,8 @@ pub record AreTexts (rows : List (ℕ × Text)) : Type 0 where
 -- ---- versions
 
 -- a valid subject, and a version number from 1 to the maximum
-pub record FitsVersions (name : List ℕ) (number : ℕ) : Type 0 where
-  pub subject : IsTrue (is_subject name)
+pub record FitsVersions (subject_text : List ℕ) (number : ℕ) : Type 0 where
+  pub subject : IsTrue (is_subject subject_text)
   pub within : (0 < number) × (number ≤ max_number)
 
 abbrev pub IsVersionRow : Text × ℕ × ℕ × Bool → Type 0
@@ -55,9 +55,9 @@ IsVersionRow row = FitsVersions (string_bytes row.0) row.1
 -- ---- levels
 
 -- Schema Registry API reference, Config: a valid subject, and the name of one of the seven levels
-pub record FitsLevels (name text : List ℕ) : Type 0 where
-  pub subject : IsTrue (is_subject name)
-  pub level : IsTrue (is_some (level_of text))
+pub record FitsLevels (subject_text level_text : List ℕ) : Type 0 where
+  pub subject : IsTrue (is_subject subject_text)
+  pub level : IsTrue (is_some (level_of level_text))
 
 abbrev pub IsLevelRow : Text × Text → Type 0
 IsLevelRow row = FitsLevels (string_bytes row.0) (string_bytes row.1)
@@ -65,9 +65,9 @@ IsLevelRow row = FitsLevels (string_bytes row.0) (string_bytes row.1)
 -- ---- kept replies
 
 -- a valid retry key, and a status whose replies are kept; the command and the body may be any texts
-pub record FitsKept (name : List ℕ) (number : ℕ) : Type 0 where
-  pub key : IsKey name
-  pub status : IsKeptStatus number
+pub record FitsKept (key_text : List ℕ) (status_code : ℕ) : Type 0 where
+  pub key : IsKey key_text
+  pub status : IsKeptStatus status_code
 
 abbrev pub IsKeptRow : Text × Text × ℕ × Text → Type 0
 IsKeptRow row = FitsKept (string_bytes row.0) row.2
@@ -75,21 +75,22 @@ IsKeptRow row = FitsKept (string_bytes row.0) row.2
 -- ---- modes
 
 -- Schema Registry API reference, Mode: a valid subject, and the name of one of the two modes
-pub record FitsModes (name text : List ℕ) : Type 0 where
-  pub subject : IsTrue (is_subject name)
-  pub mode : IsTrue (is_some (mode_of text))
+pub record FitsModes (subject_text mode_text : List ℕ) : Type 0 where
+  pub subject : IsTrue (is_subject subject_text)
+  pub mode : IsTrue (is_some (mode_of mode_text))
 
 abbrev pub IsModeRow : Text × Text → Type 0
 IsModeRow row = FitsModes (string_bytes row.0) (string_bytes row.1)
 
--- ---- evidence, and the ids that a version was tested against
+-- ---- evidence, and the ids that a version was checked against
 
--- the name of one of the seven levels; the table enforces that the version exists
-abbrev pub FitsEvidence : List ℕ → Type 0
-FitsEvidence text = IsTrue (is_some (level_of text))
+-- the text is the name of one of the seven levels
+abbrev pub IsLevelName : List ℕ → Type 0
+IsLevelName text = IsTrue (is_some (level_of text))
 
+-- the third column is the name of a level; subject and number are free, and the table enforces that the version exists
 abbrev pub IsEvidenceRow : Text × ℕ × Text → Type 0
-IsEvidenceRow row = FitsEvidence (string_bytes row.2)
+IsEvidenceRow row = IsLevelName (string_bytes row.2)
 
 abbrev pub version_of : Text × ℕ × Text → RowKey
 version_of row = (string_bytes row.0, row.1)

@@ -33,7 +33,7 @@ pub fn layout_of(rows: &[(String, String)]) -> Option<u32>
     parse_number(MAX_LAYOUT, value_of(rows, "layout")?.as_bytes())
 }
 
-fn is_name(name: &str) -> bool
+fn is_layout_one_name(name: &str) -> bool
     ensures { result ≡ is_name layout_one_names name.now }
 {
     name == "format" || name == "layout" || name == "global"
@@ -42,15 +42,15 @@ fn is_name(name: &str) -> bool
 fn is_layout_two_name(name: &str) -> bool
     ensures { result ≡ is_name layout_two_names name.now }
 {
-    name == "mode" || is_name(name)
+    name == "mode" || is_layout_one_name(name)
 }
 
 /// Whether each row has a name of layout 1.
-fn has_only_known_names(rows: &[(String, String)]) -> bool
+fn has_only_layout_one_names(rows: &[(String, String)]) -> bool
     ensures { result ≡ has_only_known_names layout_one_names (map meta_pair rows.now) }
 {
     for row in rows {
-        if !is_name(row.0.as_str()) {
+        if !is_layout_one_name(row.0.as_str()) {
             return false;
         }
     }
@@ -86,7 +86,7 @@ fn has_common(rows: &[(String, String)], number: &str) -> bool
 pub fn is_layout_one_meta(rows: &[(String, String)]) -> bool
     ensures { result ≡ is_layout_one_meta (map meta_pair rows.now) }
 {
-    has_common(rows, "1") && has_only_known_names(rows)
+    has_common(rows, "1") && has_only_layout_one_names(rows)
 }
 
 /// Whether the rows are a `meta` table of layout 2: the format, the layout number, a global level

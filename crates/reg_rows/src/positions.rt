@@ -1,4 +1,6 @@
-//! The rows of `against`: the ids that each version was tested against, by position.
+//! The rows of `against`: the ids that each version was checked against, by position. In a list of
+//! positions, an item is a subject, a version's number, and a position. In a list of versions, an
+//! item is a subject and a version's number.
 
 ghost use Rattle.std.specs.Prelude.{◌≡◌, ◌↔◌, Any, IsSorted, IsTrue, map};
 ghost use Rattle.std.specs.List.{AllByRecursion};
@@ -35,14 +37,18 @@ fn have_versions<'a>(sorted: &[(&'a str, u32)], positions: &[(&'a str, u32, u32)
     true
 }
 
-/// Whether each version with a position has a row of evidence. Both lists may be in any order.
-pub fn have_evidence<'a>(evidence: Vec<(&'a str, u32)>, positions: &[(&'a str, u32, u32)]) -> bool
+/// Whether each version with a position is one with a row of evidence. Both lists may be in any
+/// order.
+pub fn have_evidence<'a>(
+    versions_with_evidence: Vec<(&'a str, u32)>,
+    positions: &[(&'a str, u32, u32)],
+) -> bool
     ensures { IsTrue result
-        ↔ HaveEvidence (map version_view evidence.entry.items) (map position_view positions.now) }
+        ↔ HaveEvidence (map version_view versions_with_evidence.entry.items) (map position_view positions.now) }
 {
-    let mut versions = evidence;
-    versions.sort_unstable();
-    have_versions(&versions, positions)
+    let mut sorted = versions_with_evidence;
+    sorted.sort_unstable();
+    have_versions(&sorted, positions)
 }
 
 /// Whether the position is 1, or the sorted positions contain its predecessor.

@@ -3,7 +3,7 @@
 ghost use Rattle.std.specs.Prelude.{IsTrue, ◌↔◌, ◌≡◌};
 ghost use Rattle.std.specs.List.{AllByRecursion};
 ghost use Rattle.reg_core.specs.Replies.{IsKeptStatus};
-ghost use Rattle.reg_rows.specs.Spelling.{FitsVersions, FitsLevels, FitsKept, FitsModes, FitsEvidence, IsVersionRow, IsLevelRow, IsKeptRow, IsModeRow, IsEvidenceRow};
+ghost use Rattle.reg_rows.specs.Spelling.{FitsVersions, FitsLevels, FitsKept, FitsModes, IsLevelName, IsVersionRow, IsLevelRow, IsKeptRow, IsModeRow, IsEvidenceRow};
 
 use reg_core::{Key, Level, MAX_NUMBER, Mode, is_subject};
 
@@ -123,7 +123,7 @@ pub(crate) fn are_mode_rows(rows: &[(String, String)]) -> bool
 
 /// Whether a row of `evidence` may have this level: the name of one of the seven levels.
 pub fn fits_evidence(level: &str) -> bool
-    ensures { IsTrue result ↔ FitsEvidence level.now }
+    ensures { IsTrue result ↔ IsLevelName level.now }
 {
     Level::parse(level).is_some()
 }

@@ -29,10 +29,10 @@ pub struct Tables {
     pub meta: Vec<(String, String)>,
     /// A subject, and its own mode.
     pub modes: Vec<(String, String)>,
-    /// A subject, a version's number, and the level that it was tested under.
+    /// A subject, a version's number, and the level that it was checked under.
     pub evidence: Vec<(String, u32, String)>,
     /// A subject, a version's number, a position, and the id at this position, which the version
-    /// was tested against.
+    /// was checked against.
     pub against: Vec<(String, u32, u32, u32)>,
 }
 

@@ -51,8 +51,8 @@ abbrev pub PreservesService : {S : Type 0} {g : Ghosts S} → Service S g → Se
 PreservesService old new OnlyFaultReplies = PreservesStore (store_in old) (store_in new) OnlyFaultReplies
 
 -- This project's choice: the list splits at one exchange. `old` and `new` are the service before and after the list. `reached` and `left`
--- are two services with the guarantees of calls between them; they needn't be the services before and after that exchange. The clause
--- `each` of `Service::run` says more: it names the service before and after each exchange.
+-- are some two services such that the steps from `old` to `reached`, on to `left`, and on to `new` have the guarantees of calls. They needn't
+-- be the services before and after that exchange. The clause `each` of `Service::run` says more: it names those.
 pub record SplitAt {S : Type 0} {g : Ghosts S} (old new : Service S g) (xs : List Exchange) : Type 0 where
   pub before : List Exchange
   pub exchange : Exchange

@@ -13,7 +13,7 @@ use std::alloc::Global;
 use std::hash::{FoldHasher, Hasher};
 
 /// The number of hashes of recently sent texts.
-const RECENT: usize = 256;
+const RECENT_HASHES: usize = 256;
 
 /// Two caches of parsed schemas: of versions by their id, and of texts that clients sent by the
 /// text's hash. When a schema becomes a version, it goes from the second to the first. If a client
@@ -22,7 +22,7 @@ const RECENT: usize = 256;
 pub(crate) struct SchemaCaches {
     pub registered: SchemaCache,
     sent: SchemaCache,
-    recent: [u32; RECENT],
+    recent_hashes: [u32; RECENT_HASHES],
 }
 
 impl SchemaCaches {
@@ -31,12 +31,13 @@ impl SchemaCaches {
         SchemaCaches {
             registered: SchemaCache::new(),
             sent: SchemaCache::new(),
-            recent: [0; RECENT],
+            recent_hashes: [0; RECENT_HASHES],
         }
     }
 
-    /// The schema that the command sends, if its text has a supported type and denotes a schema. A
-    /// cached schema isn't parsed again; it leaves the cache until `keep` stores it.
+    /// The schema that the command sends, if the type that it names is supported, and its text
+    /// denotes a schema. A cached schema isn't parsed again. It is taken out of the cache; `keep`
+    /// puts it into a cache again.
     pub fn take(&mut self, alloc: Global, command: &Command) -> Result<Option<Schema>, OutOfMemory>
         ensures { IfOk result (λ schema. option_map nodes_view schema ≡ command_schema command.now) }
     {
@@ -50,30 +51,34 @@ impl SchemaCaches {
         }
     }
 
-    /// Stores the schema that the command sent; `canonical` is its identity text. If the changes add
-    /// a version with it, its key is the version's id, so that the next version is compared without
-    /// parsing it. Otherwise its key is the hash of the sent text.
+    /// Stores the schema that the command sent; `schema_identity` is its identity text. If the
+    /// changes add a version with this schema, it is stored under the version's id, so the next
+    /// version is compared without parsing this one. Otherwise it is stored under the hash of the
+    /// sent text.
     pub fn keep(
         &mut self,
         alloc: Global,
         command: &Command,
         changes: &[Change],
         schema: Option<Schema>,
-        canonical: Option<String>,
+        schema_identity: Option<String>,
     )
         requires sent { option_map nodes_view schema ≡ command_schema command.now }
-        requires canonical { option_map string_bytes canonical
+        requires schema_identity { option_map string_bytes schema_identity
             ≡ option_map identity (option_map nodes_view schema) }
     {
-        let (Some(schema), Some(text), Some(canonical)) = (schema, command.schema_text(), canonical)
-        else {
+        let (Some(schema), Some(text), Some(schema_identity)) = (
+            schema,
+            command.schema_text(),
+            schema_identity,
+        ) else {
             return;
         };
         match id_added(changes) {
             Some(id) => {
-                let text = canonical.as_str();
+                let text = schema_identity.as_str();
                 self.registered
-                    .put(alloc, id, text, schema, EvictionPolicy::Replace);
+                    .put(alloc, id, text, schema, EvictionPolicy::EvictIfFull);
             }
             None => self.keep_sent(alloc, text.as_str(), schema),
         }
@@ -85,13 +90,13 @@ impl SchemaCaches {
         requires { denoted_nodes text.now ≡ Some (nodes_view schema) }
     {
         let hash = hash_of(text);
-        let slot = hash as usize % RECENT;
-        let eviction_policy = if self.recent[slot] == hash {
-            EvictionPolicy::Replace
+        let slot = hash as usize % RECENT_HASHES;
+        let eviction_policy = if self.recent_hashes[slot] == hash {
+            EvictionPolicy::EvictIfFull
         } else {
-            EvictionPolicy::Keep
+            EvictionPolicy::NeverEvict
         };
-        self.recent[slot] = hash;
+        self.recent_hashes[slot] = hash;
         self.sent.put(alloc, hash, text, schema, eviction_policy);
     }
 }

@@ -68,7 +68,8 @@ impl<S: Alter> Service<S> {
     /// reply, or 42290 for another command.
     ///
     /// If an allocation or the store fails, the reply is 50001 and nothing has changed. One
-    /// exception: if a disk fault closed the connection, a crash may leave the delivery executed.
+    /// exception: if a disk fault closed the database connection, a crash may leave the delivery
+    /// executed.
     pub fn answer(&mut self, delivery: &Delivery) -> Reply
         ensures { Processes self.old self.new (delivery.now, result) }
     {
@@ -79,7 +80,8 @@ impl<S: Alter> Service<S> {
     }
 
     /// Processes each delivery in order, as `answer` does. A crash preserves every acknowledged
-    /// delivery. It may also preserve one that got 50001; then every later one got 50001 too.
+    /// delivery. It may also preserve one delivery that got 50001. In that case all deliveries
+    /// after it got 50001, too.
     ///
     /// # Errors
     ///
@@ -90,8 +92,10 @@ impl<S: Alter> Service<S> {
         // Each delivery is processed as by `answer`, in the state that the previous one left.
         ensures each { IfOk result (λ replies. ProcessesEach self.old self.new (zip list.now replies.items)) }
 
-        // If the store had failed, every reply is 50001. So it is if the connection was closed, on a
-        // clean disk.
+        // If the store had failed, every reply is 50001. The same is true on a clean disk if the
+        // database connection was closed before the call; then a crash can leave nothing new. A
+        // failed store stays failed, an unclean disk stays unclean. On a clean disk, a closed
+        // connection stays closed, and only a disk fault closes one.
         ensures frame { PreservesService self.old self.new (IfOk result (λ replies. AreBackendFaults replies.items)) }
 
         // If the store failed during this call, every reply from some delivery on is 50001. The
@@ -99,16 +103,25 @@ impl<S: Alter> Service<S> {
         ensures fails { IfOk result (λ replies. IsTrue (has_failed (store_in self.new))
             → IsTrue (has_failed (store_in self.old)) ⊎ FailsAt self.old self.new (zip list.now replies.items)) }
 
-        // Apart from replies 50001, each reply is due, and each first delivery was applied once. The
-        // evidence of versions is what the registry named; if all of it was true, it still is.
+        // Apart from replies 50001, each reply is the abstract machine's, or the reply kept for its
+        // key, or 42290 for a key with another command. Each first delivery was applied once. Each
+        // added version has the evidence that its decision named. If all evidence was true, it
+        // still is.
         ensures exactly_once { HasCleanDisk (state_in self.new) → IfOk result (λ replies.
             ServesOver (state_in self.old) (state_in self.new) (served (zip list.now replies.items))) }
+
+        // Two writes with the same key and the same command got the same reply, apart from replies
+        // 50001.
         ensures repeats { HasCleanDisk (state_in self.new) → IfOk result (λ replies.
             (was : Stored) → SpellsWhileOpen (state_in self.old) was
             → RepeatsAgree (served (zip list.now replies.items))) }
-        ensures only { HasCleanDisk (state_in self.new) → IfOk result (λ replies.
+
+        // No other replies are due to the deliveries whose reply isn't 50001.
+        ensures no_other_replies { HasCleanDisk (state_in self.new) → IfOk result (λ replies.
             (was : Stored) → SpellsWhileOpen (state_in self.old) was
             → NoOtherAnswers was (served (zip list.now replies.items))) }
+
+        // An error changes nothing.
         ensures err { OnErr result (self.new ≡ self.old) }
 
         // Each added version was admitted by its subject's level at that time.
@@ -116,12 +129,13 @@ impl<S: Alter> Service<S> {
             (was : Stored) → IsOpenOver (state_in self.old) was
             → AllAdmitted was (served (zip list.now replies.items))) }
 
-        // A crash preserves every acknowledged delivery, with or without one that got 50001:
-        // version, reply and evidence together.
+        // After a crash, the tables have every acknowledged delivery, and perhaps one that got
+        // 50001. A delivery's version, reply and evidence survive together.
         ensures crash { HasCleanDisk (state_in self.new) → IfOk result (λ replies.
             (was : Stored) → IsOpenOver (state_in self.old) was
             → RecoversAcknowledged self.old self.new was (zip list.now replies.items)) }
 
+        // If the connection is open after the call, a crash leaves what the tables spell.
         ensures crash_while_open { RecoversSpelled (state_in self.new) }
     {
         let mut replies = Vec::with_capacity(self.alloc, list.len())?;

@@ -14,7 +14,7 @@ use Rattle.reg_tables.proofs.KeyedTables.{version_order}
 use Rattle.reg_tables.proofs.ListMembers.{has_mapped, maps_had}
 use Rattle.reg_tables.proofs.ListingLemmas.{found_first, find_had}
 use Rattle.reg_tables.proofs.Keys.{position_order}
-use Rattle.reg_rows.specs.Spelling.{FitsEvidence}
+use Rattle.reg_rows.specs.Spelling.{IsLevelName}
 use Rattle.reg_store.specs.Inside.Evidence.{IsEvidence}
 use Rattle.reg_store.specs.Inside.TableChecks.{evidence_fits, against_fits, version_at, position_at, AreInSequence}
 
@@ -100,7 +100,7 @@ module _ (evidence : List RawEvidence) (against : List RawAgainst) (versions_apa
     evidence_if_fits fits positions_fit placed = record {
       levels = λ key level there.
           let l = level_line key level (ap (λ m. get m key) (sym same_evidence) ∙ there) in
-          subst FitsEvidence l.3 (all_has evidence_fits evidence l.0 fits l.1);
+          subst IsLevelName l.3 (all_has evidence_fits evidence l.0 fits l.1);
       owners = λ position id there.
           let l = id_line position id (ap (λ m. get m position) (sym same_against) ∙ there) in
           let here = contains_had (map position_at against) (position_at l.0) (maps_had position_at against l.0 l.1) in

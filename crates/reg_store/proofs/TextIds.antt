@@ -12,7 +12,7 @@ use Rattle.avro_nodes.specs.Identity.{identity}
 use Rattle.reg_core.specs.Registry.{schema_at, max_number}
 use Rattle.reg_core.specs.Stored.{Stored}
 use Rattle.reg_tables.specs.Layout.{texts}
-use Rattle.reg_tables.specs.Listings.{ListsIds}
+use Rattle.reg_tables.specs.Listings.{ListsTextIds}
 use Rattle.reg_tables.proofs.KeyedTables.{int_order}
 use Rattle.reg_tables.proofs.Tables.{five}
 use Rattle.reg_tables.proofs.ListingLemmas.{same_id, same_id_swaps, distinct_if_apart, ints_distinct}
@@ -36,10 +36,10 @@ distinct_numbers (n ∷ ns) h = (each ns h.0, distinct_numbers ns h.1)
     each [] all = tt
     each (m ∷ ms) all = (sym (ap is_eq (int_order n m)) ∙ all.0, each ms all.1)
 
-pub ids_sorted : (db : Database) (old new : List ℕ) → IsPermutation old new → ListsIds db old → ListsIds db new
+pub ids_sorted : (db : Database) (old new : List ℕ) → IsPermutation old new → ListsTextIds db old → ListsTextIds db new
 ids_sorted db old new same lists = IsPermutation-trans _ _ _ lists (IsPermutation-map int_of old new same)
 
-module _ (db : Database) (was : Stored) (s : SpellsBase db was) (ids : List ℕ) (lists : ListsIds db ids) where
+module _ (db : Database) (was : Stored) (s : SpellsBase db was) (ids : List ℕ) (lists : ListsTextIds db ids) where
   ids_apart : IsDistinct (eq_by_cmp nat_cmp) ids
   ids_apart =
       let rows = db.trees texts.tree in

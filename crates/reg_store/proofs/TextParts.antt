@@ -17,7 +17,7 @@ use Rattle.sqlite_rules.specs.Lists.{Has}
 use Rattle.reg_tables.specs.declared.raw_texts.RawText.{RawText}
 use Rattle.reg_tables.specs.Layout.{texts}
 use Rattle.reg_tables.specs.Contents.{text_form}
-use Rattle.reg_tables.specs.Listings.{RowParts, parts_of, entry_parts, text_entry, is_between, ListsIds, ListsTexts, ListsTextsBetween}
+use Rattle.reg_tables.specs.Listings.{RowParts, parts_of, entry_parts, text_entry, is_between, ListsTextIds, ListsTexts, ListsTextsBetween}
 use Rattle.reg_tables.proofs.ListMembers.{has_mapped, maps_had, has_permuted}
 use Rattle.reg_tables.proofs.RawTexts.{between_tests}
 use Rattle.reg_rows.specs.Spelling.{AreConsecutive}
@@ -31,7 +31,7 @@ HaveIds rows = (row : Row) → Has rows row → (id : ℕ) × (rowid row ≡ Int
 abbrev pub int_of : ℕ → Value
 int_of id = Int (pos id)
 
-pub have_ids : (db : Database) (ids : List ℕ) → ListsIds db ids → HaveIds (db.trees texts.tree)
+pub have_ids : (db : Database) (ids : List ℕ) → ListsTextIds db ids → HaveIds (db.trees texts.tree)
 have_ids db ids lists row there =
     let it = has_mapped int_of ids (rowid row) (has_permuted (map rowid (db.trees texts.tree)) (map int_of ids) (rowid row) lists (maps_had rowid (db.trees texts.tree) row there)) in
     (it.0, it.2)

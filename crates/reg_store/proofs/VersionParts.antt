@@ -19,7 +19,7 @@ use Rattle.sqlite_rules.proofs.ListLemmas.{all_has, has_contained, contains_had,
 use Rattle.sqlite_value.proofs.OrderLemmas.{value_cmp_total}
 use Rattle.reg_core.specs.Registry.{RowKey}
 use Rattle.reg_tables.specs.declared.evidence.RawAgainst.{RawAgainst}
-use Rattle.reg_tables.specs.TableMaps.{HaveOwnRowids}
+use Rattle.reg_tables.specs.TableMaps.{HaveDifferentRowids}
 use Rattle.reg_tables.specs.Contents.{version_cmp, against_form, position_cells}
 use Rattle.reg_tables.specs.Listings.{RowParts, parts_of, entry_parts, Lists, against_entry, against_rows, is_of, ListsAgainst, ListsAgainstOf}
 use Rattle.reg_tables.proofs.KeyedTables.{version_order}
@@ -48,7 +48,7 @@ between [] x there = absurd there
 between (a ∷ xs) x (inl is) = ([], xs, ap (λ y. y ∷ xs) (sym is))
 between (a ∷ xs) x (inr there) = let it = between xs x there in (a ∷ it.0, it.1, ap (λ l. a ∷ l) it.2)
 
-all_rows_are : (xs ys : List Row) → IsAscending HaveOwnRowids xs → ((x : Row) → Has xs x → Has ys x) → length ys ≤ length xs → IsPermutation ys xs
+all_rows_are : (xs ys : List Row) → IsAscending HaveDifferentRowids xs → ((x : Row) → Has xs x → Has ys x) → length ys ≤ length xs → IsPermutation ys xs
 all_rows_are [] [] up among few = IsPermutation-refl []
 all_rows_are [] (y ∷ ys) up among few = absurd (omega (arith, few))
 all_rows_are (x ∷ xs) ys up among few =
@@ -60,7 +60,7 @@ all_rows_are (x ∷ xs) ys up among few =
     IsPermutation-trans ys (x ∷ rest) (x ∷ xs) moved (IsPermutation-cons x rest xs (all_rows_are xs rest up.1 others (omega (arith, few, long))))
   where
     other : (l : List Row) (y : Row) → Has xs y → Has (x ∷ l) y → Has l y
-    other l y there (inl is) = absurd (both_ways _ (all_has (HaveOwnRowids x) xs y up.0 there) (ap (λ (r : Row). is_eq (value_cmp (rowid x) (rowid r))) is ∙ ap is_eq (tied_itself value_cmp_total (rowid x))))
+    other l y there (inl is) = absurd (both_ways _ (all_has (HaveDifferentRowids x) xs y up.0 there) (ap (λ (r : Row). is_eq (value_cmp (rowid x) (rowid r))) is ∙ ap is_eq (tied_itself value_cmp_total (rowid x))))
     other l y there (inr later) = later
 
 -- ---- rows and lines
@@ -123,7 +123,7 @@ module _ (rows : List Row) (lines : List RawAgainst) (lists : Lists against_form
       let right = length-map (rowids_in lines) Int in
       omega (arith, same, left, right)
 
-  pub rows_apart : AreDistinct (rowids_in lines) → IsAscending HaveOwnRowids rows
+  pub rows_apart : AreDistinct (rowids_in lines) → IsAscending HaveDifferentRowids rows
   rows_apart apart = apart_if_distinct rows (IsDistinct-IsPermutation same_id same_id_swaps (map Int (rowids_in lines)) (map rowid rows) (IsPermutation-sym (map rowid rows) (map Int (rowids_in lines)) lines_rowids) (distinct_ints (rowids_in lines) apart))
 
 -- ---- the rows of a version

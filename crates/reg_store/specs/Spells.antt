@@ -106,7 +106,7 @@ pub record SpellsIn (IsAllowed : Schema → Type 0) (Spelled : Contents → Stor
 abbrev pub Spells : Database → Stored → Type 0
 Spells = SpellsIn IsLayoutTwo IsSpelledLayoutTwo
 
--- this project's choice: the same before `open`, when the index may be missing
+-- this project's choice: the tables are those of layout 2, with or without the index, and spell the stored state
 abbrev pub SpellsUnopened : Database → Stored → Type 0
 SpellsUnopened = SpellsIn IsOpenable IsSpelledLayoutTwo
 
@@ -114,16 +114,16 @@ SpellsUnopened = SpellsIn IsOpenable IsSpelledLayoutTwo
 abbrev pub SpellsLayoutOne : Database → Stored → Type 0
 SpellsLayoutOne = SpellsIn IsLayoutOne IsSpelledLayoutOne
 
--- this project's choice: a crash leaves tables of one of these schemas, which spell the stored state
-pub record RecoversToIn (IsAllowed : Schema → Type 0) (Spelled : Contents → Stored → Type 0) (db : Trees) (was : Stored) : Type 0 where
+-- this project's choice: what a crash may leave: trees that, as tables of one of these schemas, spell the stored state
+pub record RecoversToIn (IsAllowed : Schema → Type 0) (Spelled : Contents → Stored → Type 0) (trees : Trees) (was : Stored) : Type 0 where
   pub schema : Schema
-  pub spells : SpellsIn IsAllowed Spelled (record { schema = schema; trees = db }) was
+  pub spells : SpellsIn IsAllowed Spelled (record { schema = schema; trees = trees }) was
 
--- this project's choice: a crash leaves the tables of layout 2, and they spell the stored state
+-- this project's choice: what a crash may leave: trees that, as tables of layout 2, spell the stored state
 abbrev pub RecoversTo : Trees → Stored → Type 0
 RecoversTo = RecoversToIn IsLayoutTwo IsSpelledLayoutTwo
 
--- this project's choice: the same for layout 1
+-- this project's choice: what a crash may leave: trees that, as tables of layout 1, spell the stored state
 abbrev pub RecoversToLayoutOne : Trees → Stored → Type 0
 RecoversToLayoutOne = RecoversToIn IsLayoutOne IsSpelledLayoutOne
 
@@ -135,11 +135,11 @@ pub record IsOpenIn (Spelled : Database → Stored → Type 0) (s : State) (was 
   pub settled : s.committed ≡ s.now
   pub spells : Spelled s.now was
 
--- SQLite, transactions: the same for layout 2
+-- SQLite, transactions: the connection is open outside a transaction, and its last commit spells the stored state in layout 2
 abbrev pub IsOpenOver : State → Stored → Type 0
 IsOpenOver = IsOpenIn Spells
 
--- SQLite, transactions: the same for layout 1
+-- SQLite, transactions: the connection is open outside a transaction, and its last commit spells the stored state in layout 1
 abbrev pub IsOpenOverLayoutOne : State → Stored → Type 0
 IsOpenOverLayoutOne = IsOpenIn SpellsLayoutOne
 

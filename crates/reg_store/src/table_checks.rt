@@ -117,8 +117,8 @@ fn pass<L: CheckedRow>(alloc: Global, lines: &[L]) -> Result<bool, AllocError>
     Ok(are_distinct(&mut rowids))
 }
 
-/// `NotARegistry` unless the check passed.
-fn allow(passes: bool) -> Result<(), StoreError>
+/// `Ok` if the check passed, else `NotARegistry`.
+fn require(passes: bool) -> Result<(), StoreError>
     ensures ok { OnOk result (IsTrue passes) }
     ensures err { IfErr result (λ e. (e ≡ StoreError.NotARegistry) × (passes ≡ false)) }
 {
@@ -135,7 +135,7 @@ fn check_versions<S: Alter>(alloc: Global, db: &mut Conn<S>) -> Result<u64, Stor
     ensures plain { IfErr result HasNoLayoutNumber }
 {
     let lines = raw_versions(alloc, &mut db.idle)?;
-    allow(pass(alloc, &lines)?)?;
+    require(pass(alloc, &lines)?)?;
     Ok(lines.len() as u64)
 }
 
@@ -144,7 +144,7 @@ fn check_levels<S: Alter>(alloc: Global, db: &mut Conn<S>) -> Result<(), StoreEr
     ensures plain { IfErr result HasNoLayoutNumber }
 {
     let lines = raw_levels(alloc, &mut db.idle)?;
-    allow(pass(alloc, &lines)?)
+    require(pass(alloc, &lines)?)
 }
 
 fn check_kept<S: Alter>(alloc: Global, db: &mut Conn<S>) -> Result<(), StoreError>
@@ -152,7 +152,7 @@ fn check_kept<S: Alter>(alloc: Global, db: &mut Conn<S>) -> Result<(), StoreErro
     ensures plain { IfErr result HasNoLayoutNumber }
 {
     let lines = raw_kept(alloc, &mut db.idle)?;
-    allow(pass(alloc, &lines)?)
+    require(pass(alloc, &lines)?)
 }
 
 /// Reads and checks the tables of both layouts except `meta`, and returns the number of rows of
@@ -183,7 +183,7 @@ pub(crate) fn check_layout_one<S: Alter>(alloc: Global, db: &mut Conn<S>) -> Res
     let _idle = db.idle.conn.is_autocommit();
     let known = has_layout_one(&db.idle.conn) || is_unindexed_one(&db.idle.conn);
     check_meta(alloc, db, Layout::One)?;
-    allow(known)?;
+    require(known)?;
     check_rest(alloc, db)
 }
 
@@ -198,7 +198,7 @@ pub(crate) fn check_layout_two<S: Alter>(alloc: Global, db: &mut Conn<S>) -> Res
     let _idle = db.idle.conn.is_autocommit();
     let known = has_layout_two(&db.idle.conn) || is_unindexed_two(&db.idle.conn);
     check_meta(alloc, db, Layout::Two)?;
-    allow(known)?;
+    require(known)?;
     check_all(alloc, db)
 }
 

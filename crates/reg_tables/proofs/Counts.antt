@@ -10,7 +10,7 @@ use Rattle.reg_tables.specs.Layout.{HasEightTables}
 use Rattle.reg_tables.specs.Contents.{Against}
 use Rattle.reg_tables.specs.Listings.{against_rows, greatest_integer, HasAgainstRows}
 use Rattle.reg_tables.specs.Inside.ReadableRows.{IsReadableCount}
-use Rattle.reg_tables.specs.Inside.Statements.{all_rows, IsSelect, TakesSelect}
+use Rattle.reg_tables.specs.Inside.Statements.{no_limit, IsSelect, TakesSelect}
 use Rattle.reg_tables.proofs.KeyedTables.{with_nothing, select_answered}
 use Rattle.reg_tables.proofs.ListMembers.{has_permuted}
 use Rattle.reg_tables.proofs.Faults.{Asks}
@@ -32,7 +32,7 @@ count_query tree = record {
   distinct = false;
   collations = [];
   order = [];
-  limit = all_rows;
+  limit = no_limit;
   offset = lit (Int (pos 0));
 }
 

@@ -2,7 +2,7 @@
 use Rattle.std.proofs.Common.{◌≡◌, ◌≢◌, inl, inr, ℤ, List, [], ◌∷◌, map, Option, Some, None, Bool, false, cond, refl, sym, ap, subst, ◌∙◌, Ordering, Less, Equal, Greater}
 use Rattle.reg_tables.proofs.Kit.{is_eq, int_cmp, eq_by_cmp, ordering_reverse, FinMap, get, from_entries, get-from_entries, find, same_map, AllByRecursion, IsPermutation, IsPermutation-sym, IsPermutation-map, IsDistinct-IsPermutation, tied_itself, int_cmp_total, cases_Bool, both_ways, map-map, Value, Int, Row, value_cmp, IsAscending, rowid, is_int, value_cmp_total, value_cmp-Int, Has, all_from, all_has}
 use Rattle.std.specs.List.{IsDistinct}
-use Rattle.reg_tables.specs.TableMaps.{Form, HaveOwnRowids, HaveRowids, ShowsMap}
+use Rattle.reg_tables.specs.TableMaps.{Form, HaveDifferentRowids, HaveRowids, ShowsMap}
 use Rattle.reg_tables.specs.Listings.{RowParts, parts_of, entry_parts, Lists, HasNoDuplicates, without_rowid}
 use Rattle.reg_tables.specs.Inside.KeyedLaws.{IsKeyOrder}
 use Rattle.reg_tables.proofs.ListMembers.{has_mapped, maps_had, has_permuted}
@@ -22,15 +22,15 @@ same_id_swaps a b = sym (ap is_eq (value_cmp_total.antisymm b a) ∙ turned (val
     turned Equal = refl
     turned Greater = refl
 
-pub apart_if_distinct : (rows : List Row) → IsDistinct same_id (map rowid rows) → IsAscending HaveOwnRowids rows
+pub apart_if_distinct : (rows : List Row) → IsDistinct same_id (map rowid rows) → IsAscending HaveDifferentRowids rows
 unfolding IsDistinct
 apart_if_distinct [] h = tt
-apart_if_distinct (r ∷ rows) h = (all_from (HaveOwnRowids r) rows (λ x there. all_has (λ v. same_id (rowid r) v ≡ false) (map rowid rows) (rowid x) h.0 (maps_had rowid rows x there)), apart_if_distinct rows h.1)
+apart_if_distinct (r ∷ rows) h = (all_from (HaveDifferentRowids r) rows (λ x there. all_has (λ v. same_id (rowid r) v ≡ false) (map rowid rows) (rowid x) h.0 (maps_had rowid rows x there)), apart_if_distinct rows h.1)
 
-pub distinct_if_apart : (rows : List Row) → IsAscending HaveOwnRowids rows → IsDistinct same_id (map rowid rows)
+pub distinct_if_apart : (rows : List Row) → IsAscending HaveDifferentRowids rows → IsDistinct same_id (map rowid rows)
 unfolding IsDistinct
 distinct_if_apart [] h = tt
-distinct_if_apart (r ∷ rows) h = (all_from (λ v. same_id (rowid r) v ≡ false) (map rowid rows) (λ v there. let x = has_mapped rowid rows v there in ap (same_id (rowid r)) x.2 ∙ all_has (HaveOwnRowids r) rows x.0 h.0 x.1), distinct_if_apart rows h.1)
+distinct_if_apart (r ∷ rows) h = (all_from (λ v. same_id (rowid r) v ≡ false) (map rowid rows) (λ v there. let x = has_mapped rowid rows v there in ap (same_id (rowid r)) x.2 ∙ all_has (HaveDifferentRowids r) rows x.0 h.0 x.1), distinct_if_apart rows h.1)
 
 pub distinct_ints : (ids : List ℤ) → IsDistinct (eq_by_cmp int_cmp) ids → IsDistinct same_id (map Int ids)
 unfolding IsDistinct

@@ -4,7 +4,7 @@ use Rattle.reg_tables.proofs.Kit.{IsTotalOrder, FinMap, entries, entries_sorted,
 use Rattle.std.specs.List.{IsDistinct}
 use Rattle.sqlite.specs.Query.{output}
 use Rattle.sqlite_value.specs.Order.{column, value_cmp}
-use Rattle.reg_tables.specs.TableMaps.{Form, IsEntry, HaveOwnRowids, ShowsMap}
+use Rattle.reg_tables.specs.TableMaps.{Form, IsEntry, HaveDifferentRowids, ShowsMap}
 use Rattle.reg_tables.specs.Inside.KeyedLaws.{IsKeyOrder}
 use Rattle.reg_tables.specs.Inside.Statements.{ordered_query}
 use Rattle.reg_tables.proofs.ListMembers.{has_mapped, maps_had}
@@ -167,7 +167,7 @@ module _ {K V : Type 0} (form : Form K V) (R : K → K → Ordering) (tree : ℕ
           cc)
       one_entry (z ∷ xs) x y up (inr h) (inr k) tie = one_entry xs x y up.1 h k tie
 
-  no_ties : (rows : List Row) → IsAscending HaveOwnRowids rows → ((r s : Row) → Has rows r → Has rows s → passes tests params r ≡ true → passes tests params s ≡ true → cmp (put_out r) (put_out s) ≡ Equal → r ≡ s)
+  no_ties : (rows : List Row) → IsAscending HaveDifferentRowids rows → ((r s : Row) → Has rows r → Has rows s → passes tests params r ≡ true → passes tests params s ≡ true → cmp (put_out r) (put_out s) ≡ Equal → r ≡ s)
       → IsDistinct (λ x y. is_eq (cmp x y)) (map (output query) (passing tests params rows))
   unfolding IsDistinct
   no_ties [] apart one = tt
@@ -181,7 +181,7 @@ module _ {K V : Type 0} (form : Form K V) (R : K → K → Ordering) (tree : ℕ
             let e = has_mapped (output query) (passing tests params rows) o h in
             let s = passing_has tests params rows e.0 e.1 in
             let same : r ≡ s.0 = one r s.0 (inl refl) (inr s.1) is s.2 (ap (cmp (put_out r)) (sym (e.2 ∙ ap (output query) s.3)) ∙ equal_of _ tie) in
-            both_ways _ (all_has (HaveOwnRowids r) rows s.0 apart.0 s.1) (ap (λ (x : Row). is_eq (value_cmp (rowid r) (rowid x))) (sym same) ∙ ap is_eq (tied_itself value_cmp_total (rowid r))))),
+            both_ways _ (all_has (HaveDifferentRowids r) rows s.0 apart.0 s.1) (ap (λ (x : Row). is_eq (value_cmp (rowid r) (rowid x))) (sym same) ∙ ap is_eq (tied_itself value_cmp_total (rowid r))))),
         later,
       )
 

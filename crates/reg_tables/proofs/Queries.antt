@@ -1,8 +1,8 @@
 -- The result of a query on one table: the columns of each row that passes.
 use Rattle.std.proofs.Common.{arith, lit≤, length, ◌≤◌, ◌≡◌, inl, inr, ℕ, List, [], ◌∷◌, ◌++◌, map, filter, flat_map, Bool, true, false, cond, refl, sym, ap, subst, ◌∙◌}
 use Rattle.reg_tables.proofs.Kit.{list_all, IsPermutation, IsPermutation-sym, IsPermutation-map, length_permutation, length-map, both_ways, tied_itself, is_eq, value_cmp_total, all_has, Key, Row, value_cmp, Trees, IsAscending, rowid, Term, Env, eval_all, holds, Output, IsAnswer, Has}
-use Rattle.reg_tables.specs.TableMaps.{HaveOwnRowids}
-use Rattle.reg_tables.specs.Inside.Statements.{all_rows, ordered_query, plain_query}
+use Rattle.reg_tables.specs.TableMaps.{HaveDifferentRowids}
+use Rattle.reg_tables.specs.Inside.Statements.{no_limit, ordered_query, plain_query}
 use Rattle.sqlite.specs.Query.{output}
 use Rattle.reg_tables.proofs.ListMembers.{has_mapped, maps_had, has_permuted}
 
@@ -38,13 +38,13 @@ module _ (tests : List Term) (params : Row) where
       go false is later = later
 
   -- if all rows that pass are one row, it passes once
-  pub one_passing : (rows : List Row) → IsAscending HaveOwnRowids rows → ((a b : Row) → Has rows a → Has rows b → passes a ≡ true → passes b ≡ true → a ≡ b) → length (passing rows) ≤ 1
+  pub one_passing : (rows : List Row) → IsAscending HaveDifferentRowids rows → ((a b : Row) → Has rows a → Has rows b → passes a ≡ true → passes b ≡ true → a ≡ b) → length (passing rows) ≤ 1
   one_passing [] up same = lit≤ tt
   one_passing (r ∷ rows) up same = go (passes r) refl (one_passing rows up.1 (λ a b x y. same a b (inr x) (inr y)))
     where
       alone : passes r ≡ true → (s : Row) → Has rows s → passes s ≡ true → ⊥
       alone is s there also =
-          both_ways _ (all_has (HaveOwnRowids r) rows s up.0 there)
+          both_ways _ (all_has (HaveDifferentRowids r) rows s up.0 there)
           (ap (λ (x : Row). is_eq (value_cmp (rowid r) (rowid x))) (same s r (inr there) (inl refl) also is) ∙ ap is_eq (tied_itself value_cmp_total (rowid r)))
 
       go : (b : Bool) → passes r ≡ b → length (passing rows) ≤ 1 → length (cond b ((params ∷ r ∷ []) ∷ []) [] ++ passing rows) ≤ 1
@@ -72,17 +72,17 @@ module _ (tests : List Term) (params : Row) where
 
     pub found_count : length found ≡ length (passing (db tree))
     found_count =
-        ap length a.shown ∙ length-map a.ordered (λ (o : Output). o.1) ∙ length_permutation outputs a.ordered (ordered_outputs tree shown [] all_rows db found a)
+        ap length a.shown ∙ length-map a.ordered (λ (o : Output). o.1) ∙ length_permutation outputs a.ordered (ordered_outputs tree shown [] no_limit db found a)
         ∙ length-map (passing (db tree)) (output (plain_query tree tests shown))
 
     pub answer_has : (x : Row) → Has found x → (row : Row) × Has (db tree) row × (passes row ≡ true) × (x ≡ eval_all shown (params ∷ row ∷ []))
     answer_has x h =
         let o = has_mapped (λ (o : Output). o.1) a.ordered x (subst (λ l. Has l x) a.shown h) in
-        let r = ordered_has tree shown [] all_rows db found a o.0 o.1 in
+        let r = ordered_has tree shown [] no_limit db found a o.0 o.1 in
         (r.0, r.1, r.2, o.2 ∙ ap (λ (p : Output). p.1) r.3)
 
     pub has_answer : (row : Row) → Has (db tree) row → passes row ≡ true → Has found (eval_all shown (params ∷ row ∷ []))
-    has_answer r h is = subst (λ l. Has l (eval_all shown (params ∷ r ∷ []))) (sym a.shown) (maps_had (λ (p : Output). p.1) a.ordered _ (has_ordered tree shown [] all_rows db found a r h is))
+    has_answer r h is = subst (λ l. Has l (eval_all shown (params ∷ r ∷ []))) (sym a.shown) (maps_had (λ (p : Output). p.1) a.ordered _ (has_ordered tree shown [] no_limit db found a r h is))
 
 -- the result has the columns of each row that passes
 module _ (tests : List Term) (params : Row) (tree : ℕ) (shown : List Term) (db : Trees) (found : List Row) (a : IsAnswer (plain_query tree tests shown) db params found) where

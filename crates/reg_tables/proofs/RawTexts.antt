@@ -7,7 +7,7 @@ use Rattle.reg_tables.specs.declared.raw_texts.RawText.{RawText}
 use Rattle.reg_tables.specs.Layout.{HasFiveTables}
 use Rattle.reg_tables.specs.Reads.{HoldsReadable}
 use Rattle.reg_tables.specs.Contents.{text_form}
-use Rattle.reg_tables.specs.Listings.{parts_of, entry_parts, text_entry, ListsIds, ListsTextsBetween, is_between}
+use Rattle.reg_tables.specs.Listings.{parts_of, entry_parts, text_entry, ListsTextIds, ListsTextsBetween, is_between}
 use Rattle.reg_tables.specs.Inside.ReadableRows.{IsReadableId, IsReadableText}
 use Rattle.reg_tables.specs.Inside.Statements.{plain_query}
 use Rattle.reg_tables.proofs.Queries.{passes, answer_has, answer_all, answer_passing}
@@ -27,7 +27,7 @@ module _ (old new : State) (found : List Row) where
     ids_answer : HasFiveTables old.now.schema → IsAnswer (plain_query 0 [] all_ids.shown) (overlay old.now.trees []) [] found
     ids_answer laid = answered all_ids [] old new (asks_all_ids.is old.now.schema laid) found h
 
-    pub lists_ids : (ids : List ℕ) → map (λ (row : Row). column row 0) found ≡ map (λ id. Int (pos id)) ids → HasFiveTables old.now.schema → ListsIds old.now ids
+    pub lists_ids : (ids : List ℕ) → map (λ (row : Row). column row 0) found ≡ map (λ id. Int (pos id)) ids → HasFiveTables old.now.schema → ListsTextIds old.now ids
     lists_ids ids read laid =
         let show = λ (row : Row). eval_all all_ids.shown ([] ∷ row ∷ []) in
         let rows = old.now.trees 0 in

@@ -2,7 +2,7 @@
 use Rattle.std.proofs.Common.{◌≡◌, ◌≢◌, inl, inr, ℤ, List, [], ◌∷◌, Option, Some, None, option_map, Bool, true, false, not, IsTrue, Ordering, Less, Equal, Greater, refl, sym, ap, subst, ◌∙◌}
 use Rattle.reg_tables.proofs.Kit.{AllByRecursion, is_eq, match_ordering, ordering_reverse, FinMap, get, remove, empty, get-empty, tied_itself, tied_back, false_from_ne_true, both_ways, or_parts, and_parts, not-true, Int, Row, value_cmp, without_all, id_in, is_taken, put_all, are_fresh, have_rowids, IsAscending, rowid, has_rowid, put_row, without_rowid, is_int, value_cmp_total, ids_of, Has, has_filtered, has_kept, all_has, int_is, without_all_has, has_put, put_has, put_all_has, put_all_keeps, put_all_adds, all-put_row, ascending-filter, all-filter}
 use Rattle.std.specs.FinMap.{insert}
-use Rattle.reg_tables.specs.TableMaps.{Form, HaveOwnRowids, HaveRowids, IsEntry, ShowsMap}
+use Rattle.reg_tables.specs.TableMaps.{Form, HaveDifferentRowids, HaveRowids, IsEntry, ShowsMap}
 use Rattle.reg_tables.specs.Changes.{altered}
 use Rattle.reg_tables.specs.Inside.KeyedLaws.{IsKeyOrder}
 use Rattle.reg_tables.proofs.ListMembers.{has_mapped, maps_had}
@@ -13,24 +13,24 @@ use Rattle.reg_tables.proofs.MapLemmas.{equal_of, same_key, tied_key, other_key,
 pub rowids_put : (new : Row) (rows : List Row) → IsTrue (is_int (rowid new)) → is_taken rows new ≡ false → HaveRowids rows → HaveRowids (put_row new rows)
 rowids_put new rows int fresh h = (apart_put new rows fresh h.0, all-put_row _ new rows int h.1)
   where
-    swapped : (a b : Row) → HaveOwnRowids a b → HaveOwnRowids b a
+    swapped : (a b : Row) → HaveDifferentRowids a b → HaveDifferentRowids b a
     swapped a b h = go (value_cmp (rowid a) (rowid b)) refl h
       where
-        go : (o : Ordering) → value_cmp (rowid a) (rowid b) ≡ o → is_eq o ≡ false → HaveOwnRowids b a
+        go : (o : Ordering) → value_cmp (rowid a) (rowid b) ≡ o → is_eq o ≡ false → HaveDifferentRowids b a
         go Less e h = ap is_eq (value_cmp_total.antisymm (rowid b) (rowid a) ∙ ap ordering_reverse e)
         go Equal e h = absurd (cc)
         go Greater e h = ap is_eq (value_cmp_total.antisymm (rowid b) (rowid a) ∙ ap ordering_reverse e)
 
-    first_apart : (new : Row) (rows : List Row) → is_taken rows new ≡ false → AllByRecursion (HaveOwnRowids new) rows
+    first_apart : (new : Row) (rows : List Row) → is_taken rows new ≡ false → AllByRecursion (HaveDifferentRowids new) rows
     first_apart new [] h = tt
     first_apart new (r ∷ rows) h = let parts = or_parts _ _ h in (swapped r new parts.0, first_apart new rows parts.1)
 
-    apart_put : (new : Row) (rows : List Row) → is_taken rows new ≡ false → IsAscending HaveOwnRowids rows → IsAscending HaveOwnRowids (put_row new rows)
+    apart_put : (new : Row) (rows : List Row) → is_taken rows new ≡ false → IsAscending HaveDifferentRowids rows → IsAscending HaveDifferentRowids (put_row new rows)
     apart_put new [] h up = (tt, tt)
     apart_put new (r ∷ rows) h up = go (value_cmp (rowid r) (rowid new)) refl (or_parts _ _ h).0 (apart_put new rows (or_parts _ _ h).1 up.1)
       where
-        go : (o : Ordering) → value_cmp (rowid r) (rowid new) ≡ o → is_eq o ≡ false → IsAscending HaveOwnRowids (put_row new rows)
-            → IsAscending HaveOwnRowids (match_ordering o (r ∷ put_row new rows) (new ∷ rows) (new ∷ r ∷ rows))
+        go : (o : Ordering) → value_cmp (rowid r) (rowid new) ≡ o → is_eq o ≡ false → IsAscending HaveDifferentRowids (put_row new rows)
+            → IsAscending HaveDifferentRowids (match_ordering o (r ∷ put_row new rows) (new ∷ rows) (new ∷ r ∷ rows))
         go Less e other later = (all-put_row _ new rows (or_parts _ _ h).0 up.0, later)
         go Equal e other later = absurd (cc)
         go Greater e other later = (first_apart new (r ∷ rows) h, up)
@@ -52,7 +52,7 @@ same_if_tied (r ∷ rows) a b up (inr h) (inr k) tie = same_if_tied rows a b (up
 
 pub rowids_left : (rows : List Row) (ids : List ℤ) → HaveRowids rows → HaveRowids (without_all rows ids)
 rowids_left rows [] h = h
-rowids_left rows (id ∷ ids) h = rowids_left (without_rowid id rows) ids (ascending-filter HaveOwnRowids (λ r. not (has_rowid id r)) rows h.0, all-filter _ (λ r. not (has_rowid id r)) rows h.1)
+rowids_left rows (id ∷ ids) h = rowids_left (without_rowid id rows) ids (ascending-filter HaveDifferentRowids (λ r. not (has_rowid id r)) rows h.0, all-filter _ (λ r. not (has_rowid id r)) rows h.1)
 
 left_lacks : (ids : List ℤ) (rows : List Row) (x : Row) (id : ℤ) → Has (without_all rows ids) x → Has ids id → has_rowid id x ≡ false
 left_lacks [] rows x id h there = absurd there

@@ -5,7 +5,7 @@ use Rattle.reg_tables.specs.Contents.{flag_cell, Contents, HoldsContents}
 use Rattle.sqlite.specs.Listing.{understood}
 use Rattle.sqlite_tied.specs.Compute.{everything}
 use Rattle.reg_tables.specs.Layout.{no_schema, partial_layout_one, five_tables_then, layout_one, layout_one_unindexed, HasFiveTables, IsLayoutOne, texts, versions, levels, kept, meta, modes, evidence, against, partial_layout_two}
-use Rattle.reg_tables.specs.Inside.Statements.{by_key, by_version, IsCommand, TableQuery, IsQuery, Takes, all_rows, plain_query}
+use Rattle.reg_tables.specs.Inside.Statements.{by_key, by_version, IsCommand, TableQuery, IsQuery, Takes, no_limit, plain_query}
 
 -- ---- CREATE TABLE
 
@@ -142,7 +142,7 @@ asked : {q : TableQuery} {params : Row} → ((tables : List Table) (indexes : Li
 asked {q} {params} each = record { is = λ schema first. (with_any_tables (λ s. IsQuery q s × Takes q params s) each schema first).0; takes = λ schema first. (with_any_tables (λ s. IsQuery q s × Takes q params s) each schema first).1 }
 
 abbrev pub find_id : TableQuery
-find_id = record { sql = codes "SELECT id FROM texts WHERE text = ?1"; tree = 0; tests = by_text; shown = col 1 0 ∷ []; names = codes "id" ∷ []; order = []; limit = all_rows }
+find_id = record { sql = codes "SELECT id FROM texts WHERE text = ?1"; tree = 0; tests = by_text; shown = col 1 0 ∷ []; names = codes "id" ∷ []; order = []; limit = no_limit }
 
 pub asks_id : (text : List ℕ) → IsAsked find_id (Text text ∷ [])
 unfolding understood everything
@@ -175,7 +175,7 @@ abbrev pub versions_query : List ℕ → List Term → List (Term × Key) → Te
 versions_query sql tests order limit = record { sql = sql; tree = 2; tests = tests; shown = col 1 1 ∷ col 1 2 ∷ col 1 3 ∷ col 1 4 ∷ []; names = codes "subject" ∷ codes "version" ∷ codes "id" ∷ codes "deleted" ∷ []; order = order; limit = limit }
 
 abbrev pub find_versions : TableQuery
-find_versions = numbers_query (codes "SELECT version, id, deleted FROM versions WHERE subject = ?1 ORDER BY subject, version") by_key in_order all_rows
+find_versions = numbers_query (codes "SELECT version, id, deleted FROM versions WHERE subject = ?1 ORDER BY subject, version") by_key in_order no_limit
 
 pub asks_versions : (subject : List ℕ) → IsAsked find_versions (Text subject ∷ [])
 unfolding understood everything
@@ -230,7 +230,7 @@ abbrev pub by_its_id : List Term
 by_its_id = op2 (Compare Eq Binary) (col 1 3) (col 0 0) ∷ []
 
 abbrev pub find_of_id : TableQuery
-find_of_id = versions_query (codes "SELECT subject, version, id, deleted FROM versions WHERE id = ?1 ORDER BY subject, version") by_its_id in_order all_rows
+find_of_id = versions_query (codes "SELECT subject, version, id, deleted FROM versions WHERE id = ?1 ORDER BY subject, version") by_its_id in_order no_limit
 
 pub asks_of_id : (id : ℕ) → IsAsked find_of_id (Int (pos id) ∷ [])
 unfolding understood everything
@@ -265,14 +265,14 @@ unfolding understood everything
 asks_last_with_id subject id deleted = asked (λ tables indexes. (record { command = record { is = refl; plain = (refl, refl) }; unlisted = refl }, record { whole = (lit≤ tt, refl); typed = refl }))
 
 abbrev pub list_versions : TableQuery
-list_versions = versions_query (codes "SELECT subject, version, id, deleted FROM versions ORDER BY subject, version") [] in_order all_rows
+list_versions = versions_query (codes "SELECT subject, version, id, deleted FROM versions ORDER BY subject, version") [] in_order no_limit
 
 pub asks_list : IsAsked list_versions []
 unfolding understood everything
 asks_list = asked (λ tables indexes. (record { command = record { is = refl; plain = (refl, refl) }; unlisted = refl }, record { whole = (lit≤ tt, refl); typed = refl }))
 
 abbrev pub all_ids : TableQuery
-all_ids = record { sql = codes "SELECT id FROM texts"; tree = 0; tests = []; shown = col 1 0 ∷ []; names = codes "id" ∷ []; order = []; limit = all_rows }
+all_ids = record { sql = codes "SELECT id FROM texts"; tree = 0; tests = []; shown = col 1 0 ∷ []; names = codes "id" ∷ []; order = []; limit = no_limit }
 
 pub asks_all_ids : IsAsked all_ids []
 unfolding understood everything
@@ -290,7 +290,7 @@ texts_between = record {
   shown = col 1 0 ∷ col 1 0 ∷ col 1 2 ∷ [];
   names = codes "id" ∷ codes "id" ∷ codes "text" ∷ [];
   order = [];
-  limit = all_rows;
+  limit = no_limit;
 }
 
 pub asks_between : (low high : ℕ) → IsAsked texts_between (Int (pos low) ∷ Int (pos high) ∷ [])
@@ -298,28 +298,28 @@ unfolding understood everything
 asks_between low high = asked (λ tables indexes. (record { command = record { is = refl; plain = (refl, refl) }; unlisted = refl }, record { whole = (lit≤ tt, refl); typed = refl }))
 
 abbrev pub all_versions : TableQuery
-all_versions = record { sql = codes "SELECT rowid, subject, version, id, deleted FROM versions"; tree = 2; tests = []; shown = col 1 0 ∷ col 1 1 ∷ col 1 2 ∷ col 1 3 ∷ col 1 4 ∷ []; names = codes "rowid" ∷ codes "subject" ∷ codes "version" ∷ codes "id" ∷ codes "deleted" ∷ []; order = []; limit = all_rows }
+all_versions = record { sql = codes "SELECT rowid, subject, version, id, deleted FROM versions"; tree = 2; tests = []; shown = col 1 0 ∷ col 1 1 ∷ col 1 2 ∷ col 1 3 ∷ col 1 4 ∷ []; names = codes "rowid" ∷ codes "subject" ∷ codes "version" ∷ codes "id" ∷ codes "deleted" ∷ []; order = []; limit = no_limit }
 
 pub asks_all_versions : IsAsked all_versions []
 unfolding understood everything
 asks_all_versions = asked (λ tables indexes. (record { command = record { is = refl; plain = (refl, refl) }; unlisted = refl }, record { whole = (lit≤ tt, refl); typed = refl }))
 
 abbrev pub all_levels : TableQuery
-all_levels = record { sql = codes "SELECT rowid, subject, level FROM levels"; tree = 4; tests = []; shown = col 1 0 ∷ col 1 1 ∷ col 1 2 ∷ []; names = codes "rowid" ∷ codes "subject" ∷ codes "level" ∷ []; order = []; limit = all_rows }
+all_levels = record { sql = codes "SELECT rowid, subject, level FROM levels"; tree = 4; tests = []; shown = col 1 0 ∷ col 1 1 ∷ col 1 2 ∷ []; names = codes "rowid" ∷ codes "subject" ∷ codes "level" ∷ []; order = []; limit = no_limit }
 
 pub asks_all_levels : IsAsked all_levels []
 unfolding understood everything
 asks_all_levels = asked (λ tables indexes. (record { command = record { is = refl; plain = (refl, refl) }; unlisted = refl }, record { whole = (lit≤ tt, refl); typed = refl }))
 
 abbrev pub all_kept : TableQuery
-all_kept = record { sql = codes "SELECT rowid, key, command, status, body FROM kept"; tree = 6; tests = []; shown = col 1 0 ∷ col 1 1 ∷ col 1 2 ∷ col 1 3 ∷ col 1 4 ∷ []; names = codes "rowid" ∷ codes "key" ∷ codes "command" ∷ codes "status" ∷ codes "body" ∷ []; order = []; limit = all_rows }
+all_kept = record { sql = codes "SELECT rowid, key, command, status, body FROM kept"; tree = 6; tests = []; shown = col 1 0 ∷ col 1 1 ∷ col 1 2 ∷ col 1 3 ∷ col 1 4 ∷ []; names = codes "rowid" ∷ codes "key" ∷ codes "command" ∷ codes "status" ∷ codes "body" ∷ []; order = []; limit = no_limit }
 
 pub asks_all_kept : IsAsked all_kept []
 unfolding understood everything
 asks_all_kept = asked (λ tables indexes. (record { command = record { is = refl; plain = (refl, refl) }; unlisted = refl }, record { whole = (lit≤ tt, refl); typed = refl }))
 
 abbrev pub all_meta : TableQuery
-all_meta = record { sql = codes "SELECT rowid, name, value FROM meta"; tree = 8; tests = []; shown = col 1 0 ∷ col 1 1 ∷ col 1 2 ∷ []; names = codes "rowid" ∷ codes "name" ∷ codes "value" ∷ []; order = []; limit = all_rows }
+all_meta = record { sql = codes "SELECT rowid, name, value FROM meta"; tree = 8; tests = []; shown = col 1 0 ∷ col 1 1 ∷ col 1 2 ∷ []; names = codes "rowid" ∷ codes "name" ∷ codes "value" ∷ []; order = []; limit = no_limit }
 
 pub asks_all_meta : IsAsked all_meta []
 unfolding understood everything

@@ -14,7 +14,7 @@ use Rattle.reg_tables.specs.Contents.{version_form, pair_form, kept_form, Positi
 use Rattle.reg_tables.specs.Listings.{parts_of, entry_parts, Lists}
 use Rattle.reg_tables.specs.Inside.ReadableRows.{IsReadableVersion, IsReadablePair, IsReadableKept, IsReadableEvidence, IsReadableAgainst}
 use Rattle.reg_tables.specs.Inside.FailedLists.{FailsToList}
-use Rattle.reg_tables.specs.Inside.Statements.{all_rows, plain_query, TableQuery, IsQuery, Takes}
+use Rattle.reg_tables.specs.Inside.Statements.{no_limit, plain_query, TableQuery, IsQuery, Takes}
 use Rattle.reg_tables.proofs.Queries.{answer_has, answer_all}
 use Rattle.reg_tables.proofs.KeyedTables.{with_nothing, answered}
 use Rattle.reg_tables.proofs.Statements.{IsAsked, laid_out, all_versions, asks_all_versions, all_levels, asks_all_levels, all_kept, asks_all_kept, all_meta, asks_all_meta}
@@ -27,7 +27,7 @@ use Rattle.reg_tables.proofs.Tables.{at_both, shown_by}
 
 -- the query of these terms over all rows of a table
 abbrev pub all_of : List ℕ → ℕ → List Term → List (List ℕ) → TableQuery
-all_of sql tree shown names = record { sql = sql; tree = tree; tests = []; shown = shown; names = names; order = []; limit = all_rows }
+all_of sql tree shown names = record { sql = sql; tree = tree; tests = []; shown = shown; names = names; order = []; limit = no_limit }
 
 -- ---- why a query of rows fails
 

@@ -11,7 +11,7 @@ use Rattle.reg_tables.specs.Reads.{HoldsReadableIn}
 use Rattle.reg_tables.specs.Listings.{against_entry, is_of, ListsAgainstOf, parts_of, entry_parts}
 use Rattle.reg_tables.specs.declared.evidence.RawAgainst.{RawAgainst}
 use Rattle.reg_tables.specs.Inside.ReadableRows.{IsReadableAgainst}
-use Rattle.reg_tables.specs.Inside.Statements.{by_version, all_rows, TableQuery, IsQuery, Takes}
+use Rattle.reg_tables.specs.Inside.Statements.{by_version, no_limit, TableQuery, IsQuery, Takes}
 use Rattle.reg_tables.proofs.KeyedTables.{by_version_test, with_nothing, answered}
 use Rattle.reg_tables.proofs.Queries.{passes, answer_has, answer_passing}
 use Rattle.reg_tables.proofs.Faults.{Asks, asks}
@@ -22,7 +22,7 @@ abbrev pub ids_sql : List ℕ
 ids_sql = codes "SELECT rowid, subject, version, position, id FROM against WHERE subject = ?1 AND version = ?2"
 
 abbrev ids_query : Schema → TableQuery
-ids_query schema = record { sql = ids_sql; tree = tree_of Against schema; tests = by_version; shown = against_shown; names = against_names; order = []; limit = all_rows }
+ids_query schema = record { sql = ids_sql; tree = tree_of Against schema; tests = by_version; shown = against_shown; names = against_names; order = []; limit = no_limit }
 
 abbrev pub of_version : List ℕ × ℕ → Row
 of_version version = Text version.0 ∷ Int (pos version.1) ∷ []

@@ -7,7 +7,7 @@ use Rattle.reg_tables.specs.TableMaps.{IsEntry, ShowsMap}
 use Rattle.reg_tables.specs.Contents.{version_cmp, VersionEntryView, version_cells, version_key_cells, version_form, text_cmp, Contents, AreReadable, HoldsContents}
 use Rattle.reg_tables.specs.Entries.{SubjectVersionView, subject_version_view, subject_version_cells, subject_versions, IsReadableSubjectVersion}
 use Rattle.reg_tables.specs.declared.listed.SubjectVersion.{SubjectVersion}
-use Rattle.reg_tables.specs.Inside.Statements.{all_rows, ordered_query, TableQuery, body_of, IsQuery, by_key}
+use Rattle.reg_tables.specs.Inside.Statements.{no_limit, ordered_query, TableQuery, body_of, IsQuery, by_key}
 use Rattle.reg_tables.proofs.KeyedTables.{int_order, text_order, version_order, by_key_test, with_nothing, answered}
 use Rattle.reg_tables.proofs.ListMembers.{has_mapped}
 use Rattle.reg_tables.proofs.MapLemmas.{same_key, tied_key}
@@ -44,10 +44,10 @@ same_cells f distinct (x ∷ xs) (y ∷ ys) h =
     λ i. distinct x y first i ∷ same_cells f distinct xs ys rest i
 
 -- the query returns its columns of the versions that pass, in order
-module _ (q : TableQuery) (ordered : body_of q ≡ ordered_query 2 q.tests q.shown in_order all_rows) (params : Row) (old new : State) (it : IsQuery q old.now.schema) (found : List Row) (h : Shown q.sql params old new found) (contents : Contents)
+module _ (q : TableQuery) (ordered : body_of q ≡ ordered_query 2 q.tests q.shown in_order no_limit) (params : Row) (old new : State) (it : IsQuery q old.now.schema) (found : List Row) (h : Shown q.sql params old new found) (contents : Contents)
     (shows : ShowsMap version_form (old.now.trees 2) (get contents.versions)) (p : Entry → Bool) (test : (row : Row) (e : Entry) → IsEntry version_form row e.0 e.1 → passes q.tests params row ≡ p e) (cells : Entry → Row)
     (whole : (row : Row) (e : Entry) → IsEntry version_form row e.0 e.1 → eval_all q.shown (params ∷ row ∷ []) ≡ cells e) where
-  answer : IsAnswer (ordered_query 2 q.tests q.shown in_order all_rows) (overlay old.now.trees []) params found
+  answer : IsAnswer (ordered_query 2 q.tests q.shown in_order no_limit) (overlay old.now.trees []) params found
   answer = subst (λ b. IsAnswer b (overlay old.now.trees []) params found) ordered (answered q params old new it found h)
 
   abbrev out : Entry → Output
@@ -56,7 +56,7 @@ module _ (q : TableQuery) (ordered : body_of q ≡ ordered_query 2 q.tests q.sho
   pub lists_versions : found ≡ map cells (filter p (entries contents.versions))
   lists_versions =
       let es = filter p (entries contents.versions) in
-      let as_ordered = in_order_as version_form version_cmp 2 q.tests q.shown in_order all_rows params (overlay old.now.trees []) found answer contents.versions
+      let as_ordered = in_order_as version_form version_cmp 2 q.tests q.shown in_order no_limit params (overlay old.now.trees []) found answer contents.versions
       (subst (λ l. ShowsMap version_form l (get contents.versions)) (sym (with_nothing old.now.trees 2)) shows) es out
       (λ row e is i. (is.0 i, whole row e is i))
       (λ row e is got on. has_kept p (entries contents.versions) e (got_entry version_cmp version_order contents.versions e.0 e.1 got) (sym (test row e is) ∙ on))

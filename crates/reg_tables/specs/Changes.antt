@@ -40,7 +40,7 @@ with_version key version contents = record contents { versions = insert contents
 abbrev pub without_positions : FinMap position_cmp ℕ → List ℕ × ℕ → FinMap position_cmp ℕ
 without_positions places key = retain_keys places (λ place. not (is_eq (version_cmp place.0 key)))
 
--- a version is deleted together with its evidence
+-- a version is removed together with its evidence
 abbrev pub without_version : List ℕ × ℕ → Contents → Contents
 without_version key contents = record contents {
   versions = remove contents.versions key;

@@ -96,8 +96,8 @@ ListsAgainst db lines = Lists against_form (db.trees (table_at db.schema 7).tree
 -- ---- parts of `texts`
 
 -- the ids of all texts, which are the rowids
-abbrev pub ListsIds : Database → List ℕ → Type 0
-ListsIds db ids = IsPermutation (map rowid (db.trees texts.tree)) (map (λ id. Int (pos id)) ids)
+abbrev pub ListsTextIds : Database → List ℕ → Type 0
+ListsTextIds db ids = IsPermutation (map rowid (db.trees texts.tree)) (map (λ id. Int (pos id)) ids)
 
 -- the rowid is at least `low` and at most `high`
 abbrev pub is_between : ℕ → ℕ → Row → Bool

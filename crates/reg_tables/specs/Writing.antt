@@ -16,11 +16,11 @@ use Rattle.reg_tables.specs.Frames.{state_in, RunsInTransaction}
 abbrev pub ForHeldContents : State → (Contents → Type 0) → Type 0
 ForHeldContents s P = (schema : Schema) → IsLayoutTwo schema → (contents : Contents) → HoldsContents schema s.now contents → P contents
 
--- if the old contents satisfied `Was`, the tables now hold the changed contents, in the same schema
+-- if the tables had contents in layout 2 that satisfied `Was`, they now have the changed contents, in the same schema
 abbrev pub ChangesIf : State → State → (Contents → Type 0) → (Contents → Contents) → Type 0
 ChangesIf old new Was change = (schema : Schema) → IsLayoutTwo schema → (contents : Contents) → HoldsContents schema old.now contents → Was contents → HoldsContents schema new.now (change contents)
 
--- the same for any old contents
+-- whatever contents the tables had in layout 2, they now have the changed contents, in the same schema
 abbrev pub Changes : State → State → (Contents → Contents) → Type 0
 Changes old new change = (schema : Schema) → IsLayoutTwo schema → (contents : Contents) → HoldsContents schema old.now contents → HoldsContents schema new.now (change contents)
 

@@ -101,7 +101,7 @@ pub(crate) fn put<S: Alter, T: FilledTable>(
 }
 
 /// Deletes the row of a key, if it exists.
-pub(crate) fn drop<S: Alter, T: ChangedTable>(
+pub(crate) fn delete<S: Alter, T: ChangedTable>(
     tx: &mut Transaction<'_, S>,
     values: &[ValueRef<'_>],
 ) -> Result<(), Error>
@@ -137,7 +137,7 @@ pub(crate) fn set<S: Alter, T: ChangedTable>(
         → IsTrue (refers_to T.name (without_entry T.name key contents) key value)
         → IsInsertFault (state_in S.Store tx.old) (state_in S.Store tx.new) e) }
 {
-    drop::<S, T>(tx, key_values)?;
+    delete::<S, T>(tx, key_values)?;
     put::<S, T>(tx, values)
 }
 

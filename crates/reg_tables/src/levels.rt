@@ -13,7 +13,7 @@ ghost use Rattle.reg_tables.specs.Inside.ReadableRows.{IsReadablePair};
 ghost use Rattle.reg_tables.specs.Reads.{CanBeRead};
 
 use crate::autocommit::AutocommitConnection;
-use crate::keyed::{ChangedTable, FilledTable, KeyedTable, drop, find, set};
+use crate::keyed::{ChangedTable, FilledTable, KeyedTable, delete, find, set};
 use crate::statement::{FromRow, list};
 use sqlite::{Alter, Error, Row, Transaction, params};
 use std::alloc::Global;
@@ -80,7 +80,7 @@ impl FromRow for RawLevel {
 pub fn drop_level<S: Alter>(tx: &mut Transaction<'_, S>, subject: &str) -> Result<(), Error>
     ensures { AppliesChange IsWriteFault S.Store tx.old tx.new result (without_level subject.now) }
 {
-    drop::<S, Levels>(tx, params![subject])
+    delete::<S, Levels>(tx, params![subject])
 }
 
 /// Sets or replaces the own level of a subject.

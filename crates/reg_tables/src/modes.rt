@@ -15,7 +15,7 @@ ghost use Rattle.reg_tables.specs.Inside.ReadableRows.{IsReadablePair};
 ghost use Rattle.reg_tables.specs.Lookups.{Finds};
 
 use crate::autocommit::AutocommitConnection;
-use crate::keyed::{ChangedTable, FilledTable, KeyedTable, drop, find, set};
+use crate::keyed::{ChangedTable, FilledTable, KeyedTable, delete, find, set};
 use crate::statement::{FromRow, list};
 use sqlite::{Alter, Error, Row, Transaction, params};
 use std::alloc::Global;
@@ -82,7 +82,7 @@ impl FromRow for RawMode {
 pub fn drop_mode<S: Alter>(tx: &mut Transaction<'_, S>, subject: &str) -> Result<(), Error>
     ensures { AppliesChange IsWriteFault S.Store tx.old tx.new result (without_mode subject.now) }
 {
-    drop::<S, Modes>(tx, params![subject])
+    delete::<S, Modes>(tx, params![subject])
 }
 
 /// Sets or replaces the own mode of a subject.

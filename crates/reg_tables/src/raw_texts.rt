@@ -6,7 +6,7 @@ ghost use Rattle.sqlite.specs.declared.types.Value.TheVariants.{Int};
 ghost use Rattle.sqlite.specs.Order.{column};
 ghost use Rattle.reg_tables.specs.Layout.{HasFiveTables};
 ghost use Rattle.reg_tables.specs.Lookups.{ListsTable};
-ghost use Rattle.reg_tables.specs.Listings.{ListsIds, ListsTextsBetween, RowParts, parts_of, entry_parts, text_entry};
+ghost use Rattle.reg_tables.specs.Listings.{ListsTextIds, ListsTextsBetween, RowParts, parts_of, entry_parts, text_entry};
 ghost use Rattle.reg_tables.specs.Inside.ReadableRows.{IsReadableId, IsReadableText};
 ghost use Rattle.reg_tables.specs.Reads.{CanBeRead};
 ghost use Rattle.reg_tables.specs.Contents.{text_form};
@@ -63,7 +63,7 @@ pub fn text_ids<S: Alter>(
     alloc: Global,
     db: &mut AutocommitConnection<S>,
 ) -> Result<Vec<u32>, Error>
-    ensures { ListsTable db.old db.new result HasFiveTables CanBeRead ListsIds }
+    ensures { ListsTable db.old db.new result HasFiveTables CanBeRead ListsTextIds }
 {
     list(alloc, db, "SELECT id FROM texts", &[])
 }

@@ -16,9 +16,9 @@ abbrev pub entry_code : Coded EntryView
 entry_code = code_by (List ℕ × List Node) (coded× (coded_list coded_ℕ) (coded_list the_row.coded)) (λ r. (r.text, r.nodes)) (λ p. record { text = p.0; nodes = p.1 }) (λ _. refl)
 
 -- the bytes of the texts of these entries
-abbrev pub total : List (ℕ × EntryView) → ℕ
-total [] = 0
-total (e ∷ es) = length e.1.text + total es
+abbrev pub text_bytes : List (ℕ × EntryView) → ℕ
+text_bytes [] = 0
+text_bytes (e ∷ es) = length e.1.text + text_bytes es
 
 -- the bytes of an entry's text, or 0 without an entry
 abbrev pub size : Option (ℕ × EntryView) → ℕ
@@ -30,8 +30,8 @@ abbrev pub max_entries : ℕ
 max_entries = 256
 
 -- the maximum length of all texts together: 384 KiB
-abbrev pub max_total : ℕ
-max_total = 393216
+abbrev pub max_text_bytes : ℕ
+max_text_bytes = 393216
 
 -- the maximum length of a text: 64 KiB
 abbrev pub max_cached_text : ℕ

@@ -6,11 +6,11 @@ ghost use Rattle.avro_nodes.specs.Nodes.{NodeView, nodes_view};
 ghost use Rattle.avro_schema.specs.Texts.{TextDenotes};
 ghost use Rattle.avro_schema.specs.DenotedNodes.{denoted_nodes};
 ghost use Rattle.schema_cache.specs.Answers.{IsSchemaOf, found_schema};
-ghost use Rattle.schema_cache.specs.Entries.{total, max_entries, max_cached_text, max_total};
+ghost use Rattle.schema_cache.specs.Entries.{text_bytes, max_entries, max_cached_text, max_text_bytes};
 
 use crate::cache_lookup::CacheLookup;
 use crate::entry::Entry;
-use crate::lru_entries::{LruEntries, MAX_ENTRIES, MAX_TOTAL};
+use crate::lru_entries::{LruEntries, MAX_ENTRIES, MAX_TEXT_BYTES};
 use avro_schema::{Schema, SchemaError};
 use std::alloc::Global;
 use std::marker::Model;
@@ -22,20 +22,20 @@ const MAX_CACHED_TEXT: usize = 65536;
 #[derive(Clone, Copy, Debug, PartialEq, Eq)]
 pub enum EvictionPolicy {
     /// Evict the least recently used schemas.
-    Replace,
+    EvictIfFull,
     /// Keep the cached schemas, and don't cache a new one.
-    Keep,
+    NeverEvict,
 }
 
 impl EvictionPolicy {
-    /// Returns the policy for a scan that reads this many schemas, with this many bytes of texts. If
-    /// they don't all fit, it is `Keep`: each schema would be evicted before its next use. Else it
-    /// is `Replace`.
+    /// Returns the policy for a scan that reads this many schemas, with this many bytes of texts.
+    /// If they don't all fit, it is `NeverEvict`: each schema would be evicted before its next use.
+    /// Else it is `EvictIfFull`.
     pub fn for_scan(schemas: usize, bytes: usize) -> EvictionPolicy {
-        if schemas > MAX_ENTRIES || bytes > MAX_TOTAL {
-            EvictionPolicy::Keep
+        if schemas > MAX_ENTRIES || bytes > MAX_TEXT_BYTES {
+            EvictionPolicy::NeverEvict
         } else {
-            EvictionPolicy::Replace
+            EvictionPolicy::EvictIfFull
         }
     }
 }
@@ -71,9 +71,9 @@ impl SchemaCache {
     /// Returns the number of cached schemas, and the bytes of their texts.
     pub fn sizes(&self) -> (usize, usize)
         ensures schemas { result.0 ≡ length self.now }
-        ensures bytes { result.1 ≡ total self.now }
+        ensures bytes { result.1 ≡ text_bytes self.now }
         ensures few { result.0 ≤ max_entries }
-        ensures small { result.1 ≤ max_total }
+        ensures small { result.1 ≤ max_text_bytes }
     {
         match &self.lru_entries {
             Some(lru_entries) => lru_entries.sizes(),
@@ -83,8 +83,8 @@ impl SchemaCache {
 
     /// Returns the schema that is cached under the id, if it was parsed from this text. Otherwise
     /// parses the text as `Schema::read` does, and caches the schema in place of any other one of
-    /// the id. A schema isn't cached if its text has more than 64 KiB, if the policy is `Keep` and
-    /// there is no room, or if an allocation fails.
+    /// the id. A schema isn't cached if its text has more than 64 KiB, if the policy is
+    /// `NeverEvict` and there is no room, or if an allocation fails.
     ///
     /// # Errors
     ///
@@ -230,7 +230,7 @@ impl SchemaCache {
             return false;
         }
         match (eviction_policy, &self.lru_entries) {
-            (EvictionPolicy::Keep, Some(lru_entries)) => lru_entries.has_room(bytes),
+            (EvictionPolicy::NeverEvict, Some(lru_entries)) => lru_entries.has_room(bytes),
             _ => true,
         }
     }

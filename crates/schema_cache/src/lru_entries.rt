@@ -3,7 +3,7 @@
 ghost use Rattle.std.specs.Prelude.{◌≡◌, ◌+◌, ◌-◌, ◌≤◌, ◌<◌, [], IfOk, IfErr, OnOk, length, take, option_copied, nat_eq};
 ghost use Rattle.std.specs.Map.{lookup};
 ghost use Rattle.lru.specs.LruCache.{promoted};
-ghost use Rattle.schema_cache.specs.Entries.{size, total, max_total, max_entries};
+ghost use Rattle.schema_cache.specs.Entries.{size, text_bytes, max_text_bytes, max_entries};
 
 use crate::entry::Entry;
 use lru::LruCache;
@@ -13,7 +13,7 @@ use std::num::NonZeroUsize;
 
 /// The maximum length of all cached texts together: 384 KiB. Parsed texts full of small objects
 /// take about 130 times their length, so a cache takes at most 50 MB.
-pub const MAX_TOTAL: usize = 393216;
+pub const MAX_TEXT_BYTES: usize = 393216;
 
 /// The maximum number of entries.
 pub const MAX_ENTRIES: usize = 256;
@@ -41,11 +41,11 @@ impl Model for LruEntries {
     ghost invariant = { λ s. IsCounted s.cache s.bytes };
 }
 
-/// Drops an evicted entry, and returns the length of its text; 0 for `None`.
-fn freed_bytes(gone: Option<(u32, Entry)>) -> usize
-    ensures { result ≡ size gone }
+/// Drops a removed entry, and returns the length of its text; 0 for `None`.
+fn freed_bytes(removed: Option<(u32, Entry)>) -> usize
+    ensures { result ≡ size removed }
 {
-    match gone {
+    match removed {
         Some((_, entry)) => entry.text().len(),
         None => 0,
     }
@@ -63,9 +63,9 @@ impl LruEntries {
     /// Returns the number of entries, and the bytes of their texts.
     pub fn sizes(&self) -> (usize, usize)
         ensures entries { result.0 ≡ length self.now }
-        ensures bytes { result.1 ≡ total self.now }
+        ensures bytes { result.1 ≡ text_bytes self.now }
         ensures few { result.0 ≤ max_entries }
-        ensures small { result.1 ≤ max_total }
+        ensures small { result.1 ≤ max_text_bytes }
     {
         (self.cache.len(), self.bytes)
     }
@@ -95,25 +95,25 @@ impl LruEntries {
 
     /// Whether there is room for another entry with a text of this many bytes.
     pub fn has_room(&self, more: usize) -> bool {
-        self.cache.len() < MAX_ENTRIES && self.bytes.saturating_add(more) <= MAX_TOTAL
+        self.cache.len() < MAX_ENTRIES && self.bytes.saturating_add(more) <= MAX_TEXT_BYTES
     }
 
     /// Evicts the least recently used entry.
     fn evict(&mut self)
         ensures { self.new ≡ take (length self.old - 1) self.old }
     {
-        let gone = self.cache.pop_lru();
-        self.bytes -= freed_bytes(gone);
+        let evicted = self.cache.pop_lru();
+        self.bytes -= freed_bytes(evicted);
     }
 
     /// Evicts the least recently used entries until there is room for another text of this many
     /// bytes.
     fn make_room(&mut self, more: usize)
-        requires { more ≤ max_total }
-        ensures total { total self.new + more ≤ max_total }
+        requires { more ≤ max_text_bytes }
+        ensures text_bytes { text_bytes self.new + more ≤ max_text_bytes }
         ensures few { length self.new < max_entries }
     {
-        while self.cache.len() >= MAX_ENTRIES || self.bytes > MAX_TOTAL - more {
+        while self.cache.len() >= MAX_ENTRIES || self.bytes > MAX_TEXT_BYTES - more {
             self.evict();
         }
     }
@@ -127,8 +127,8 @@ impl LruEntries {
         let more = entry.text().len();
         self.make_room(more);
         match self.cache.push(id, entry) {
-            Ok(gone) => {
-                self.bytes = self.bytes + more - freed_bytes(gone);
+            Ok(replaced) => {
+                self.bytes = self.bytes + more - freed_bytes(replaced);
                 Ok(())
             }
             Err(failed) => Err(failed.value.1),

@@ -41,23 +41,23 @@ type Reads = (
 #[rattlefmt::skip]
 const READS: [Reads; 13] = [
     // an id has one text
-    (7, 8, " \"int\"", 0, EvictionPolicy::Replace, "\"int\"", true, 1, 6),
-    (7, 8, " \"int\"", 0, EvictionPolicy::Replace, "\"int\"", true, 1, 6),
-    (7, 8, "\"string\"", 0, EvictionPolicy::Replace, "\"string\"", true, 1, 8),
-    (7, 8, "\"int", 0, EvictionPolicy::Replace, "NotJson", false, 1, 8),
-    (7, 8, "\"string\"", 0, EvictionPolicy::Replace, "\"string\"", true, 1, 8),
+    (7, 8, " \"int\"", 0, EvictionPolicy::EvictIfFull, "\"int\"", true, 1, 6),
+    (7, 8, " \"int\"", 0, EvictionPolicy::EvictIfFull, "\"int\"", true, 1, 6),
+    (7, 8, "\"string\"", 0, EvictionPolicy::EvictIfFull, "\"string\"", true, 1, 8),
+    (7, 8, "\"int", 0, EvictionPolicy::EvictIfFull, "NotJson", false, 1, 8),
+    (7, 8, "\"string\"", 0, EvictionPolicy::EvictIfFull, "\"string\"", true, 1, 8),
     // a long text isn't cached
-    (8, 9, "\"int\"", 65532, EvictionPolicy::Replace, "\"int\"", false, 1, 8),
+    (8, 9, "\"int\"", 65532, EvictionPolicy::EvictIfFull, "\"int\"", false, 1, 8),
     // the least recently used schemas are evicted
-    (1000, 1256, "\"int\"", 0, EvictionPolicy::Replace, "\"int\"", true, 256, 1280),
-    (7, 8, "\"int\"", 0, EvictionPolicy::Replace, "\"int\"", true, 256, 1280),
+    (1000, 1256, "\"int\"", 0, EvictionPolicy::EvictIfFull, "\"int\"", true, 256, 1280),
+    (7, 8, "\"int\"", 0, EvictionPolicy::EvictIfFull, "\"int\"", true, 256, 1280),
     // or the cached schemas stay
-    (2000, 2001, "\"int\"", 0, EvictionPolicy::Keep, "\"int\"", false, 256, 1280),
-    (1000, 1001, "\"int\"", 0, EvictionPolicy::Keep, "\"int\"", false, 256, 1280),
-    (1001, 1256, "\"int\"", 0, EvictionPolicy::Keep, "\"int\"", true, 256, 1280),
+    (2000, 2001, "\"int\"", 0, EvictionPolicy::NeverEvict, "\"int\"", false, 256, 1280),
+    (1000, 1001, "\"int\"", 0, EvictionPolicy::NeverEvict, "\"int\"", false, 256, 1280),
+    (1001, 1256, "\"int\"", 0, EvictionPolicy::NeverEvict, "\"int\"", true, 256, 1280),
     // texts of 64 KiB
-    (7, 12, "\"long\"", 65530, EvictionPolicy::Replace, "\"long\"", true, 256, 328_935),
-    (12, 32, "\"long\"", 65530, EvictionPolicy::Replace, "\"long\"", true, 6, 393_216),
+    (7, 12, "\"long\"", 65530, EvictionPolicy::EvictIfFull, "\"long\"", true, 256, 328_935),
+    (12, 32, "\"long\"", 65530, EvictionPolicy::EvictIfFull, "\"long\"", true, 6, 393_216),
 ];
 
 /// Checks the reads of a row.
@@ -92,8 +92,14 @@ fn repeated_texts_are_cached(rt: HostRuntime) -> Result<(), Fail> {
 fn long_scans_keep_the_cache(rt: HostRuntime) {
     assert_eq!(rt;
         EvictionPolicy::for_scan(256, 393_216),
-        EvictionPolicy::Replace
+        EvictionPolicy::EvictIfFull
     );
-    assert_eq!(rt; EvictionPolicy::for_scan(257, 0), EvictionPolicy::Keep);
-    assert_eq!(rt; EvictionPolicy::for_scan(1, 393_217), EvictionPolicy::Keep);
+    assert_eq!(rt;
+        EvictionPolicy::for_scan(257, 0),
+        EvictionPolicy::NeverEvict
+    );
+    assert_eq!(rt;
+        EvictionPolicy::for_scan(1, 393_217),
+        EvictionPolicy::NeverEvict
+    );
 }

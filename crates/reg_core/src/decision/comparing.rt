@@ -50,7 +50,7 @@ pub fn is_compatible_with(
     ensures none { IfOk result (λ yes. denoted_nodes text.now ≡ None → yes ≡ false) }
 {
     let mut cache = Some(cache);
-    let read = read_earlier(alloc, id, text, &mut cache, EvictionPolicy::Replace);
+    let read = read_earlier(alloc, id, text, &mut cache, EvictionPolicy::EvictIfFull);
     match if_denoted(read)? {
         Some(found) => is_compatible(alloc, level, found.schema(), new),
         None => Ok(false),

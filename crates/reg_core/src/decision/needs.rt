@@ -101,21 +101,21 @@ fn version_ids(
     alloc: Global,
     view: &View,
     version: &str,
-    deleted: bool,
+    shows_deleted: bool,
 ) -> Result<Vec<u32>, OutOfMemory>
     ensures { IfOk result (λ ids. ids.items ≡ map (λ row. row.1.id)
-        (found_as_list (found_row (parse_choice version.now) (shown_rows deleted view.now.rows.items)))) }
+        (found_as_list (found_row (parse_choice version.now) (shown_rows shows_deleted view.now.rows.items)))) }
 {
-    let shown = shown_rows(alloc, deleted, &view.rows)?;
+    let shown = shown_rows(alloc, shows_deleted, &view.rows)?;
     found_ids(alloc, found_row(parse_choice(version), &shown))
 }
 
 /// The id of the version that Lookup shows, if it is found.
-fn lookup_ids(alloc: Global, view: &View, deleted: bool) -> Result<Vec<u32>, OutOfMemory>
+fn lookup_ids(alloc: Global, view: &View, shows_deleted: bool) -> Result<Vec<u32>, OutOfMemory>
     ensures { IfOk result (λ ids. ids.items ≡ map (λ row. row.1.id)
-        (found_as_list (lookup_row view.now.known (shown_rows deleted view.now.rows.items)))) }
+        (found_as_list (lookup_row view.now.known (shown_rows shows_deleted view.now.rows.items)))) }
 {
-    let shown = shown_rows(alloc, deleted, &view.rows)?;
+    let shown = shown_rows(alloc, shows_deleted, &view.rows)?;
     found_ids(alloc, lookup_row(view.known, &shown))
 }
 

@@ -31,10 +31,10 @@ pub fn types(alloc: Global) -> Result<Reply, OutOfMemory>
 }
 
 /// The reply with the subjects of the shown versions.
-pub fn subjects(alloc: Global, deleted: bool, rows: &[Row]) -> Result<Reply, OutOfMemory>
-    ensures { IfOk result (λ reply. reply ≡ subjects_reply (shown_rows deleted rows.now)) }
+pub fn subjects(alloc: Global, shows_deleted: bool, rows: &[Row]) -> Result<Reply, OutOfMemory>
+    ensures { IfOk result (λ reply. reply ≡ subjects_reply (shown_rows shows_deleted rows.now)) }
 {
-    let shown = shown_rows(alloc, deleted, rows)?;
+    let shown = shown_rows(alloc, shows_deleted, rows)?;
     let subjects = subjects_of(alloc, shown.as_slice())?;
     texts_reply(alloc, subjects.as_slice())
 }
@@ -53,10 +53,10 @@ fn subjects_of<'a>(alloc: Global, rows: &[&'a Row]) -> Result<Vec<&'a str>, OutO
 }
 
 /// The reply with the numbers of the subject's shown versions.
-pub fn versions(alloc: Global, deleted: bool, rows: &[Row]) -> Result<Reply, OutOfMemory>
-    ensures { IfOk result (λ reply. reply ≡ versions_reply (shown_rows deleted rows.now)) }
+pub fn versions(alloc: Global, shows_deleted: bool, rows: &[Row]) -> Result<Reply, OutOfMemory>
+    ensures { IfOk result (λ reply. reply ≡ versions_reply (shown_rows shows_deleted rows.now)) }
 {
-    let shown = shown_rows(alloc, deleted, rows)?;
+    let shown = shown_rows(alloc, shows_deleted, rows)?;
     if shown.is_empty() {
         return Ok(Reply::fault(Code::SubjectNotFound));
     }
@@ -64,11 +64,16 @@ pub fn versions(alloc: Global, deleted: bool, rows: &[Row]) -> Result<Reply, Out
 }
 
 /// The reply with the version that the text chooses, and its schema.
-pub fn version(alloc: Global, view: &View, text: &str, deleted: bool) -> Result<Reply, OutOfMemory>
+pub fn version(
+    alloc: Global,
+    view: &View,
+    text: &str,
+    shows_deleted: bool,
+) -> Result<Reply, OutOfMemory>
     ensures { IfOk result (λ reply. reply ≡ version_reply (view_text view.now)
-        (found_row (parse_choice text.now) (shown_rows deleted view.now.rows.items))) }
+        (found_row (parse_choice text.now) (shown_rows shows_deleted view.now.rows.items))) }
 {
-    let shown = shown_rows(alloc, deleted, view.rows.as_slice())?;
+    let shown = shown_rows(alloc, shows_deleted, view.rows.as_slice())?;
     match found_row(parse_choice(text), shown.as_slice()) {
         Ok(row) => shown_version(alloc, view, row),
         Err(code) => Ok(Reply::fault(code)),
@@ -80,12 +85,12 @@ pub fn version_text(
     alloc: Global,
     view: &View,
     text: &str,
-    deleted: bool,
+    shows_deleted: bool,
 ) -> Result<Reply, OutOfMemory>
     ensures { IfOk result (λ reply. reply ≡ version_text_reply (view_text view.now)
-        (found_row (parse_choice text.now) (shown_rows deleted view.now.rows.items))) }
+        (found_row (parse_choice text.now) (shown_rows shows_deleted view.now.rows.items))) }
 {
-    let shown = shown_rows(alloc, deleted, view.rows.as_slice())?;
+    let shown = shown_rows(alloc, shows_deleted, view.rows.as_slice())?;
     match found_row(parse_choice(text), shown.as_slice()) {
         Ok(row) => shown_text(view, row.id()),
         Err(code) => Ok(Reply::fault(code)),
@@ -97,16 +102,16 @@ pub fn lookup(
     alloc: Global,
     view: &View,
     schema: Option<&Schema>,
-    deleted: bool,
+    shows_deleted: bool,
 ) -> Result<Reply, OutOfMemory>
     ensures { IfOk result (λ reply. reply ≡ lookup_reply (view_text view.now)
         (option_map nodes_view (option_copied schema.entry)) view.now.known
-        (shown_rows deleted view.now.rows.items)) }
+        (shown_rows shows_deleted view.now.rows.items)) }
 {
     if schema.is_none() {
         return Ok(Reply::fault(Code::InvalidSchema));
     }
-    let shown = shown_rows(alloc, deleted, view.rows.as_slice())?;
+    let shown = shown_rows(alloc, shows_deleted, view.rows.as_slice())?;
     match lookup_row(view.known, shown.as_slice()) {
         Ok(row) => shown_version(alloc, view, row),
         Err(code) => Ok(Reply::fault(code)),
@@ -121,17 +126,17 @@ pub fn lookup_row<'a>(known: Option<u32>, rows: &[&'a Row]) -> Result<&'a Row, C
     if rows.is_empty() {
         return Err(Code::SubjectNotFound);
     }
-    match last_with(known, rows) {
+    match last_with_id(known, rows) {
         Some(row) => Ok(row),
         None => Err(Code::SchemaNotFound),
     }
 }
 
-/// The last of these versions that has the id, or `None`.
-fn last_with<'a>(known: Option<u32>, rows: &[&'a Row]) -> Option<&'a Row>
-    ensures { option_copied result ≡ last_or None (rows_with_id known (map (λ row. row.now) rows.now)) }
+/// The last of these versions that has the id, or `None`. Without an id there is no such version.
+fn last_with_id<'a>(schema_id: Option<u32>, rows: &[&'a Row]) -> Option<&'a Row>
+    ensures { option_copied result ≡ last_or None (rows_with_id schema_id (map (λ row. row.now) rows.now)) }
 {
-    let id = known?;
+    let id = schema_id?;
     let mut last = None;
     for row in rows {
         if row.id() == id {
@@ -154,16 +159,16 @@ pub fn by_id(alloc: Global, view: &View, id: &str) -> Result<Reply, OutOfMemory>
 /// The reply with the shown versions of an id that some version has, perhaps a soft-deleted one.
 pub fn versions_of_id(
     alloc: Global,
-    deleted: bool,
+    shows_deleted: bool,
     rows: &[Row],
     id: &str,
 ) -> Result<Reply, OutOfMemory>
-    ensures { IfOk result (λ reply. reply ≡ id_versions_reply (parse_id id.now) deleted rows.now) }
+    ensures { IfOk result (λ reply. reply ≡ id_versions_reply (parse_id id.now) shows_deleted rows.now) }
 {
     if parse_id(id).is_none() || rows.is_empty() {
         return Ok(Reply::fault(Code::SchemaNotFound));
     }
-    let shown = shown_rows(alloc, deleted, rows)?;
+    let shown = shown_rows(alloc, shows_deleted, rows)?;
     subject_versions_reply(alloc, shown.as_slice())
 }
 

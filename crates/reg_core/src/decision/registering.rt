@@ -91,8 +91,8 @@ pub fn check_all(
         return Ok(Reply::fault(Code::InvalidSchema));
     };
     let live = shown_rows(alloc, false, &view.rows)?;
-    let fits = admits_after(alloc, view, level_in_force(view), &live, new, cache)?;
-    verdict_reply(alloc, fits)
+    let compatible = admits_after(alloc, view, level_in_force(view), &live, new, cache)?;
+    verdict_reply(alloc, compatible)
 }
 
 /// The reply that says whether the subject's level would admit the schema, compared with the chosen
@@ -118,8 +118,8 @@ pub fn check(
     let live = shown_rows(alloc, false, &view.rows)?;
     match found_row(Some(choice), &live) {
         Ok(row) => {
-            let fits = admits_after(alloc, view, level_in_force(view), &[row], new, cache)?;
-            verdict_reply(alloc, fits)
+            let compatible = admits_after(alloc, view, level_in_force(view), &[row], new, cache)?;
+            verdict_reply(alloc, compatible)
         }
         Err(code) => Ok(Reply::fault(code)),
     }
@@ -210,9 +210,9 @@ fn id_reply(alloc: Global, id: u32) -> Result<Reply, OutOfMemory>
 }
 
 /// The reply with a verdict.
-fn verdict_reply(alloc: Global, fits: bool) -> Result<Reply, OutOfMemory>
-    ensures { IfOk result (λ reply. reply ≡ answer (verdict_body fits)) }
+fn verdict_reply(alloc: Global, compatible: bool) -> Result<Reply, OutOfMemory>
+    ensures { IfOk result (λ reply. reply ≡ answer (verdict_body compatible)) }
 {
-    let object = json!(in alloc; {"is_compatible": fits})?;
+    let object = json!(in alloc; {"is_compatible": compatible})?;
     Ok(Reply::answer(object.to_string(alloc)?))
 }

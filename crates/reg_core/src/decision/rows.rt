@@ -11,17 +11,17 @@ use crate::row::Row;
 use avro_nodes::OutOfMemory;
 use std::alloc::Global;
 
-/// The versions that a command shows: all if `deleted` is on, else those that aren't soft-deleted.
+/// The versions that a command shows: all if `shows_deleted`, else those that aren't soft-deleted.
 pub fn shown_rows<'a>(
     alloc: Global,
-    deleted: bool,
+    shows_deleted: bool,
     rows: &'a [Row],
 ) -> Result<Vec<&'a Row>, OutOfMemory>
-    ensures { IfOk result (λ shown. map (λ row. row.now) shown.items ≡ shown_rows deleted rows.now) }
+    ensures { IfOk result (λ shown. map (λ row. row.now) shown.items ≡ shown_rows shows_deleted rows.now) }
 {
     let shown = rows
         .iter()
-        .filter(|row| deleted || !row.deleted())
+        .filter(|row| shows_deleted || !row.deleted())
         .collect(alloc)?;
     Ok(shown)
 }

@@ -8,7 +8,7 @@ use Rattle.reg_http.specs.declared.answering.Stop.TheVariants.{Waiting, AtClose,
 use Rattle.reg_http.specs.declared.answering.Next.{Next}
 use Rattle.reg_http.specs.declared.answering.Next.TheVariants.{Answered as AnsweredNext, Stopped}
 use Rattle.reg_http.specs.declared.writing.WriteOutcome.{WriteOutcome}
-use Rattle.reg_http.specs.declared.writing.WriteOutcome.TheVariants.{Whole, CutShort, OutOfMemory as Unsent}
+use Rattle.reg_http.specs.declared.writing.WriteOutcome.TheVariants.{Whole, CutShort, OutOfMemory as NoMemory}
 use Rattle.reg_messages.specs.Messages.{Follows, Part, Faulty}
 use Rattle.reg_messages.specs.Closing.{closes}
 use Rattle.reg_messages.specs.Responses.{fault_response}
@@ -21,22 +21,23 @@ pub record Waits (bytes : List ℕ) (needs : ℕ) : Type 0 where
   pub fits : needs ≤ 1064960
   pub part : (more : List ℕ) → length (bytes ++ more) < needs → (bytes ++ more ≡ []) ⊎ Follows (bytes ++ more) Part
 
--- The facts at each stop: `rest` follows the messages xs, and `out` was written for all of it. If the session waits for more bytes, `rest`
--- is in the buffer.
+-- The facts at each stop: `rest` follows the messages xs, and `out` was written for these messages and for a fault that follows them. If the
+-- session waits for more bytes, `rest` is in the buffer.
 abbrev pub StopsAs : List AnsweredMessage → List ℕ → List ℕ → List ℕ → Stop → Type 0
-StopsAs xs rest held out (Waiting needs) = StayOpen xs × (rest ≡ held) × Waits rest needs × (out ≡ responses xs)
-StopsAs xs rest held out AtClose = LastCloses xs × (out ≡ responses xs)
-StopsAs xs rest held out AtFault = (code : Code) × StayOpen xs × Follows rest (Faulty code) × (out ≡ responses xs ++ fault_response code)
-StopsAs xs rest held out NotWritten = IsCutShort xs rest out
-StopsAs xs rest held out OutOfMemory = (StayOpen xs × (out ≡ responses xs)) ⊎ IsCutShort xs rest out
+StopsAs xs rest buffered out (Waiting needs) = StayOpen xs × (rest ≡ buffered) × Waits rest needs × (out ≡ responses xs)
+StopsAs xs rest buffered out AtClose = LastCloses xs × (out ≡ responses xs)
+StopsAs xs rest buffered out AtFault = (code : Code) × StayOpen xs × Follows rest (Faulty code) × (out ≡ responses xs ++ fault_response code)
+StopsAs xs rest buffered out NotWritten = IsCutShort xs rest out
+StopsAs xs rest buffered out OutOfMemory = (StayOpen xs × (out ≡ responses xs)) ⊎ IsCutShort xs rest out
 
--- The messages at the front of the bytes were processed, up to a stop.
-pub record AnswersAs (AreServed : List Exchange → Type 0) (old new : Option (List ℕ)) (bytes held : List ℕ) (stop : Stop) : Type 0 where
+-- The messages at the front of the bytes were processed, up to a stop. `old` and `new` are what the writer had before and after; `buffered` are
+-- the bytes in the buffer.
+pub record AnswersAs (AreServed : List Exchange → Type 0) (old new : Option (List ℕ)) (bytes buffered : List ℕ) (stop : Stop) : Type 0 where
   pub answered : List AnsweredMessage
   pub rest : List ℕ
   pub out : List ℕ
   pub processes : ProcessesMessages AreServed old new bytes answered rest out
-  pub stops : StopsAs answered rest held out stop
+  pub stops : StopsAs answered rest buffered out stop
 
 -- One message of `size` bytes got its response, and the connection stays open.
 pub record AnswersOne (AreServed : List Exchange → Type 0) (old new : Option (List ℕ)) (bytes : List ℕ) (size : ℕ) : Type 0 where
@@ -49,12 +50,13 @@ abbrev pub NextAs : (List Exchange → Type 0) → Option (List ℕ) → Option 
 NextAs AreServed old new bytes (AnsweredNext size) = AnswersOne AreServed old new bytes size
 NextAs AreServed old new bytes (Stopped stop) = AnswersAs AreServed old new bytes bytes stop
 
--- if the stop is `Waiting`, there are fewer bytes than needed
+-- if the stop is `Waiting`, there are fewer bytes than needed, the buffer has room for as many as needed, and until then no whole message is
+-- at the front
 abbrev pub WaitsAt : List ℕ → Stop → Type 0
 WaitsAt bytes (Waiting needs) = Waits bytes needs
 WaitsAt bytes other = Unit {0}
 
--- the processed message has at least one byte, and at most all of the bytes
+-- the processed message has at least one byte, and at most all of the bytes; or processing stopped, and if it waits, too few bytes are there
 abbrev pub IsWithin : List ℕ → Next → Type 0
 IsWithin bytes (AnsweredNext size) = (0 < size) × (size ≤ length bytes)
 IsWithin bytes (Stopped stop) = WaitsAt bytes stop
@@ -64,7 +66,7 @@ abbrev pub next_after : WriteOutcome → Bool → ℕ → Next
 next_after Whole true size = Stopped AtClose
 next_after Whole false size = AnsweredNext size
 next_after CutShort close size = Stopped NotWritten
-next_after Unsent close size = Stopped OutOfMemory
+next_after NoMemory close size = Stopped OutOfMemory
 
 -- what was written of the response to a fault, at each stop
 abbrev pub FaultAs : Option (List ℕ) → Option (List ℕ) → Code → Stop → Type 0
@@ -75,7 +77,7 @@ FaultAs old new code AtClose = ⊥
 FaultAs old new code (Waiting needs) = ⊥
 
 -- the messages so far got their responses and keep the connection open, and the bytes in the buffer follow them
-pub record AnsweredSoFar (AreServed : List Exchange → Type 0) (old new : Option (List ℕ)) (bytes held : List ℕ) : Type 0 where
+pub record AnsweredSoFar (AreServed : List Exchange → Type 0) (old new : Option (List ℕ)) (bytes buffered : List ℕ) : Type 0 where
   pub answered : List AnsweredMessage
   pub stay : StayOpen answered
-  pub processes : ProcessesMessages AreServed old new bytes answered held (responses answered)
+  pub processes : ProcessesMessages AreServed old new bytes answered buffered (responses answered)

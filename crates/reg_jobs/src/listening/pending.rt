@@ -16,7 +16,7 @@ use std::marker::Model;
 const MAX_READ_BYTES: usize = 16_384;
 
 /// The maximum length of an empty line: CR LF, or LF alone.
-const EMPTY_LINE: usize = 2;
+const MAX_EMPTY_LINE_BYTES: usize = 2;
 
 /// How much of the current request was passed on.
 #[derive(Clone, Copy)]
@@ -45,23 +45,24 @@ fn line_length(bytes: &[u8]) -> usize
 }
 
 /// The length of the lines up to the first empty one, or of all bytes if none is empty, and the
-/// progress after them. `given` bytes of the first line were passed on before. A line of one other
-/// byte counts as empty: then the rest of the head is passed on line by line.
-fn head_part(bytes: &[u8], given: usize) -> (usize, Progress)
+/// progress after them. `passed` bytes of the first line were passed on before. A line of one byte
+/// and LF counts as empty, even if that byte isn't CR. Then the rest of the head is passed on line
+/// by line, which does no harm.
+fn head_part(bytes: &[u8], passed: usize) -> (usize, Progress)
     ensures { result.0 ≤ length bytes.now }
 {
-    let mut line = given;
+    let mut line_bytes = passed;
     for (at, byte) in bytes.iter().enumerate() {
-        line = line.saturating_add(1);
+        line_bytes = line_bytes.saturating_add(1);
         if *byte != b'\n' {
             continue;
         }
-        if line <= EMPTY_LINE {
+        if line_bytes <= MAX_EMPTY_LINE_BYTES {
             return (at + 1, Progress::Body);
         }
-        line = 0;
+        line_bytes = 0;
     }
-    (bytes.len(), Progress::Head(line))
+    (bytes.len(), Progress::Head(line_bytes))
 }
 
 /// The length of the next part, and the progress after it.
@@ -69,7 +70,7 @@ fn next_part(bytes: &[u8], progress: Progress) -> (usize, Progress)
     ensures { result.0 ≤ length bytes.now }
 {
     match progress {
-        Progress::Head(given) => head_part(bytes, given),
+        Progress::Head(passed) => head_part(bytes, passed),
         Progress::Body => (line_length(bytes), Progress::Body),
     }
 }
@@ -78,8 +79,8 @@ fn next_part(bytes: &[u8], progress: Progress) -> (usize, Progress)
 #[derive(Drop)]
 pub struct Pending {
     bytes: [u8; MAX_READ_BYTES],
-    first: usize,
-    last: usize,
+    start: usize,
+    end: usize,
 }
 
 impl Model for Pending {
@@ -90,9 +91,9 @@ impl Model for Pending {
 
     ghost coded = { coded_list coded_ℕ };
 
-    ghost view = { λ r. slice_range r.bytes r.first r.last };
+    ghost view = { λ r. slice_range r.bytes r.start r.end };
 
-    ghost invariant = { λ r. (r.first ≤ r.last) × (r.last ≤ 16384) };
+    ghost invariant = { λ r. (r.start ≤ r.end) × (r.end ≤ 16384) };
 }
 
 impl Pending {
@@ -102,8 +103,8 @@ impl Pending {
     {
         Pending {
             bytes: [0; MAX_READ_BYTES],
-            first: 0,
-            last: 0,
+            start: 0,
+            end: 0,
         }
     }
 
@@ -111,14 +112,14 @@ impl Pending {
     pub fn is_empty(&self) -> bool
         ensures { IsTrue result ↔ self.now ≡ [] }
     {
-        self.first == self.last
+        self.start == self.end
     }
 
     /// The pending bytes.
     fn held(&self) -> &[u8]
         ensures { result.now ≡ self.now }
     {
-        &self.bytes[self.first..self.last]
+        &self.bytes[self.start..self.end]
     }
 
     /// Reads once. If it returns 0, the input has ended.
@@ -130,10 +131,10 @@ impl Pending {
         requires { self.old ≡ [] }
         ensures { IfOk result (λ n. (length self.new ≡ n) × Consumes (R.remaining reader.old) (R.remaining reader.new) self.new) }
     {
-        self.first = 0;
-        self.last = 0;
-        self.last = reader.read(&mut self.bytes)?;
-        Ok(self.last)
+        self.start = 0;
+        self.end = 0;
+        self.end = reader.read(&mut self.bytes)?;
+        Ok(self.end)
     }
 
     /// Copies `count` bytes to `room`, or the bytes that fit, and removes them. Returns their
@@ -146,7 +147,7 @@ impl Pending {
     {
         let count = count.min(room.len());
         room[..count].copy_from_slice(&self.held()[..count]);
-        self.first += count;
+        self.start += count;
         count
     }
 

@@ -26,11 +26,11 @@ use Rattle.reg_store.specs.Changes.{IsNewTo, stored_after_changes, stored_after_
 abbrev pub StoresChange : State → State → Change → Type 0
 StoresChange old new change = (was : Stored) → Spells old.now was → ChangeFits change was.registry → Spells new.now (stored_after_changes (change ∷ []) was)
 
--- the same for several changes, each of which fits after those before it
+-- if the tables spelled a registry that the changes fit, one after another, they now spell the state after them
 abbrev pub StoresChanges : State → State → List Change → Type 0
 StoresChanges old new changes = (was : Stored) → Spells old.now was → ChangesFit changes was.registry → Spells new.now (stored_after_changes changes was)
 
--- the same for a reply, if any
+-- if the tables spelled a state in which the reply, if any, had a new key, they now spell the state with the reply
 abbrev pub StoresReply : State → State → Option Keep → Type 0
 StoresReply old new keep = (was : Stored) → Spells old.now was → IsNewTo was.replies keep → Spells new.now (stored_after_apply [] keep was)
 
@@ -38,10 +38,11 @@ StoresReply old new keep = (was : Stored) → Spells old.now was → IsNewTo was
 abbrev pub IsFaultOfChange : State → State → Change → Error → Type 0
 IsFaultOfChange old new change e = (was : Stored) → SpellsInTransaction old was → ChangeFits change was.registry → IsInsertFault old new e
 
+-- changes that fit the registry, one after another, fail only for a reason that every write has
 abbrev pub IsFaultOfChanges : State → State → List Change → Error → Type 0
 IsFaultOfChanges old new changes e = (was : Stored) → SpellsInTransaction old was → ChangesFit changes was.registry → IsInsertFault old new e
 
--- the same for a reply with a new key
+-- a reply with a new key fails only for a reason that every write has
 abbrev pub IsFaultOfReply : State → State → Option Keep → Error → Type 0
 IsFaultOfReply old new keep e = (was : Stored) → SpellsInTransaction old was → IsNewTo was.replies keep → IsInsertFault old new e
 

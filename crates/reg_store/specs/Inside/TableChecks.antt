@@ -16,9 +16,9 @@ use Rattle.reg_tables.specs.declared.modes.RawMode.{RawMode}
 use Rattle.reg_tables.specs.declared.evidence.RawEvidence.{RawEvidence}
 use Rattle.reg_tables.specs.declared.evidence.RawAgainst.{RawAgainst}
 use Rattle.reg_tables.specs.Layout.{HasFiveTables, HasEightTables}
-use Rattle.reg_tables.specs.Listings.{ListsIds, ListsTexts, ListsVersions, ListsLevels, ListsKept, ListsMeta, ListsModes, ListsEvidence, ListsAgainst, ListsAgainstOf, HasAgainstRows}
+use Rattle.reg_tables.specs.Listings.{ListsTextIds, ListsTexts, ListsVersions, ListsLevels, ListsKept, ListsMeta, ListsModes, ListsEvidence, ListsAgainst, ListsAgainstOf, HasAgainstRows}
 use Rattle.reg_tables.specs.Frames.{ReadsInAutocommit}
-use Rattle.reg_rows.specs.Spelling.{meta_pair, IsIdentity, AreConsecutive, AreTexts, FitsVersions, FitsLevels, FitsKept, FitsModes, FitsEvidence}
+use Rattle.reg_rows.specs.Spelling.{meta_pair, IsIdentity, AreConsecutive, AreTexts, FitsVersions, FitsLevels, FitsKept, FitsModes, IsLevelName}
 use Rattle.reg_rows.specs.Meta.{MetaPair, is_layout_one_meta, is_layout_two_meta, layout_in}
 use Rattle.reg_rows.specs.Positions.{VersionPosition, HaveEvidence, AreContiguous}
 use Rattle.reg_core.specs.Registry.{RowKey, max_number}
@@ -105,7 +105,7 @@ abbrev pub mode_fits : RawMode → Type 0
 mode_fits line = FitsModes (string_bytes line.subject) (string_bytes line.mode)
 
 abbrev pub evidence_fits : RawEvidence → Type 0
-evidence_fits line = FitsEvidence (string_bytes line.level)
+evidence_fits line = IsLevelName (string_bytes line.level)
 
 abbrev pub against_fits : RawAgainst → Type 0
 against_fits line = line.position < 2 ^ 32
@@ -136,6 +136,7 @@ pub record EvidencePasses (db : Database) : Type 0 where
   pub lists : ListsEvidence db evidence × ListsAgainst db against
   pub fits : EvidenceFits evidence against
 
+-- the tables that layout 2 added pass their checks: `modes` by itself, `evidence` and `against` together
 pub record AddedTablesPass (db : Database) : Type 0 where
   pub modes : ModesPass db
   pub evidence : EvidencePasses db
@@ -149,7 +150,7 @@ pub record AllTablesPass (db : Database) : Type 0 where
 -- the ids of all rows are the numbers from 1 to `count`
 pub record NumbersTexts (db : Database) (count : ℕ) : Type 0 where
   pub ids : List ℕ
-  pub lists : ListsIds db ids
+  pub lists : ListsTextIds db ids
   pub numbered : AreConsecutive 1 ids
   pub is : length ids ≡ count
   pub few : count ≤ max_number
@@ -176,7 +177,7 @@ pub record JudgesVersion (version : RowKey) (db : Database) (rowids : List ℤ) 
   pub have : rowids_in lines ≡ rowids
   pub judged : IsTrue fit ↔ ArePositionsInOrder lines
 
--- the same for several versions
+-- the rowids of the ids of several versions, and whether the positions of each are consecutive
 pub record JudgesVersions (versions : List RowKey) (db : Database) (rowids : List ℤ) (fit : Bool) : Type 0 where
   pub parts : List (List RawAgainst)
   pub lists : AllZip (λ version lines. ListsAgainstOf version db lines) versions parts

@@ -41,14 +41,14 @@ impl<S: Alter> Store<S> {
         if self.failed {
             return Err(StoreError::Disk);
         }
-        let yes = all_true(self.alloc, &mut self.db);
+        let yes = all_evidence_true(self.alloc, &mut self.db);
         self.failed = matches!(yes, Err(StoreError::Disk));
         yes
     }
 }
 
 /// Whether the evidence of all versions is true.
-fn all_true<S: Alter>(alloc: Global, db: &mut Conn<S>) -> Result<bool, StoreError>
+fn all_evidence_true<S: Alter>(alloc: Global, db: &mut Conn<S>) -> Result<bool, StoreError>
     ensures { Reads db.old db.new result (λ was yes. IsTrue yes ↔ HasTrueEvidence was) }
 {
     let mut cache = SchemaCache::new();
@@ -57,17 +57,17 @@ fn all_true<S: Alter>(alloc: Global, db: &mut Conn<S>) -> Result<bool, StoreErro
         let Some(row) = next_version(db, last.as_ref())? else {
             return Ok(true);
         };
-        if !holds(alloc, db, &mut cache, &row)? {
+        if !evidence_is_true(alloc, db, &mut cache, &row)? {
             return Ok(false);
         }
         last = Some(row);
     }
-    // No file has room for 2^64 versions.
+    // No file has room for `u64::MAX` versions.
     Err(StoreError::Memory)
 }
 
 /// Whether the evidence of the version, if any, is true.
-fn holds<S: Alter>(
+fn evidence_is_true<S: Alter>(
     alloc: Global,
     db: &mut Conn<S>,
     cache: &mut SchemaCache,

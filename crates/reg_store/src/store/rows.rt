@@ -125,11 +125,11 @@ fn rows_under(
 }
 
 /// The row as a version of the subject.
-pub(crate) fn row_under(subject: &Subject, line: SubjectVersion) -> Result<Row, OutOfMemory>
-    ensures { IfOk result (λ row. row ≡ row_numbered subject.now (subject_version_view line)) }
+pub(crate) fn row_under(subject: &Subject, version: SubjectVersion) -> Result<Row, OutOfMemory>
+    ensures { IfOk result (λ row. row ≡ row_numbered subject.now (subject_version_view version)) }
 {
     let owner = subject.try_clone()?;
-    Ok(Row::new(owner, line.number, line.id, line.deleted))
+    Ok(Row::new(owner, version.number, version.id, version.deleted))
 }
 
 fn rows_in(alloc: Global, lines: Vec<ListedVersion>) -> Result<Vec<Row>, StoreError>

@@ -10,7 +10,7 @@ ghost use Rattle.reg_store.specs.Inside.TableChecks.{AreDistinct, mode_fits, evi
 use crate::conn::Conn;
 use crate::error::StoreError;
 use crate::rowids::are_distinct;
-use crate::table_checks::{CheckedRow, all_fit, allow, pass};
+use crate::table_checks::{CheckedRow, all_fit, pass, require};
 use reg_rows::{are_contiguous, fits_evidence, fits_modes};
 use reg_tables::{
     RawAgainst, RawEvidence, RawMode, against_count, against_of, raw_evidence, raw_modes,
@@ -70,7 +70,7 @@ fn check_modes<S: Alter>(alloc: Global, db: &mut Conn<S>) -> Result<(), StoreErr
     ensures plain { IfErr result HasNoLayoutNumber }
 {
     let lines = raw_modes(alloc, &mut db.idle)?;
-    allow(pass(alloc, &lines)?)
+    require(pass(alloc, &lines)?)
 }
 
 fn read_evidence<S: Alter>(alloc: Global, db: &mut Conn<S>) -> Result<Vec<RawEvidence>, StoreError>
@@ -213,7 +213,7 @@ fn check_evidence<S: Alter>(alloc: Global, db: &mut Conn<S>) -> Result<(), Store
     let _idle = db.idle.conn.is_autocommit();
     let evidence = read_evidence(alloc, db)?;
     let ids = read_ids(alloc, db, &evidence)?;
-    allow(pass_evidence(alloc, &evidence, ids)?)
+    require(pass_evidence(alloc, &evidence, ids)?)
 }
 
 pub(crate) fn check_added<S: Alter>(alloc: Global, db: &mut Conn<S>) -> Result<(), StoreError>

@@ -14,7 +14,7 @@ use crate::error::StoreError;
 use crate::layout::Layout;
 use crate::open_connection::require_open;
 use crate::rowids::are_distinct;
-use crate::table_checks::{CheckedRow, allow, rowids_of};
+use crate::table_checks::{CheckedRow, require, rowids_of};
 use reg_rows::{is_layout_one_meta, is_layout_two_meta, layout_of};
 use reg_tables::{RawMeta, raw_meta};
 use sqlite::Alter;
@@ -77,7 +77,7 @@ fn allow_layout(own: u32, named: Option<u32>, passes: bool) -> Result<(), StoreE
     match named {
         Some(number) if number < own => Err(StoreError::OldLayout(number)),
         Some(number) if number > own => Err(StoreError::NewerLayout(number)),
-        _ => allow(passes),
+        _ => require(passes),
     }
 }
 

@@ -10,7 +10,7 @@ ghost use Rattle.reg_store.specs.Inside.TableChecks.{text_fits, Judges, NumbersT
 
 use crate::conn::Conn;
 use crate::error::StoreError;
-use crate::table_checks::allow;
+use crate::table_checks::require;
 use reg_core::OutOfMemory;
 use reg_rows::{are_ids, is_identity};
 use reg_tables::{RawText, text_ids, texts_between};
@@ -40,7 +40,7 @@ fn count_texts<S: Alter>(alloc: Global, db: &mut Conn<S>) -> Result<u32, StoreEr
 {
     let mut ids = text_ids(alloc, &mut db.idle)?;
     ids.sort_unstable();
-    allow(are_ids(&ids))?;
+    require(are_ids(&ids))?;
     Ok(ids.len() as u32)
 }
 
@@ -84,5 +84,5 @@ pub(crate) fn check_texts<S: Alter>(alloc: Global, db: &mut Conn<S>) -> Result<(
 {
     let _idle = db.idle.conn.is_autocommit();
     let count = count_texts(alloc, db)?;
-    allow(judge_all(alloc, db, count)?)
+    require(judge_all(alloc, db, count)?)
 }

@@ -29,7 +29,7 @@ use Rattle.sqlite_typing.specs.Types.{accepts_program, accepts_terms}
 use Rattle.reg_tables.specs.TableMaps.{IsEntry, ShowsMap, Form}
 use Rattle.reg_tables.specs.Contents.{TableName, ordinal_of, table_in, KeyOf, ValueOf, form_of, Contents, HoldsContents}
 use Rattle.reg_tables.specs.Inside.Keyed.{tests_of, refers_to, cells_of}
-use Rattle.reg_tables.specs.Inside.Statements.{IsCommand, IsOneStatement, TableQuery, IsQuery, Takes, all_rows, plain_query}
+use Rattle.reg_tables.specs.Inside.Statements.{IsCommand, IsOneStatement, TableQuery, IsQuery, Takes, no_limit, plain_query}
 
 -- a total order in which only equal keys tie
 pub record IsKeyOrder {K : Type 0} (R : K → K → Ordering) : Type 0 where
@@ -128,7 +128,7 @@ pub record IsKeyed (schema : Schema) (name : TableName) : Type 0 where
 
 -- the query of the value under a key
 abbrev pub find_query : Table → List Term → List Term → List (List ℕ) → List ℕ → TableQuery
-find_query table tests shown names sql = record { sql = sql; tree = table.tree; tests = tests; shown = shown; names = names; order = []; limit = all_rows }
+find_query table tests shown names sql = record { sql = sql; tree = table.tree; tests = tests; shown = shown; names = names; order = []; limit = no_limit }
 
 -- in this schema the SQL text is a SELECT of the value under a key
 pub record FindsRow (schema : Schema) (name : TableName) (sql : List ℕ) : Type 0 where

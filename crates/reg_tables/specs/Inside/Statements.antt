@@ -23,9 +23,9 @@ pub record IsCommand (schema : Schema) (sql : List ℕ) (command : Command) : Ty
   pub is : command_of (understood schema sql) ≡ command
   pub plain : IsPlain (understood schema sql)
 
--- without LIMIT
-abbrev pub all_rows : Term
-all_rows = lit (Int (negsuc 0))
+-- the LIMIT of a SELECT that has none: -1, which returns all rows
+abbrev pub no_limit : Term
+no_limit = lit (Int (negsuc 0))
 
 -- SELECT of terms from one table, with ORDER BY and LIMIT
 abbrev pub ordered_query : ℕ → List Term → List Term → List (Term × Key) → Term → Query
@@ -43,7 +43,7 @@ ordered_query tree tests shown order limit = record {
 
 -- the same without ORDER BY and LIMIT
 abbrev pub plain_query : ℕ → List Term → List Term → Query
-plain_query tree tests shown = ordered_query tree tests shown [] all_rows
+plain_query tree tests shown = ordered_query tree tests shown [] no_limit
 
 -- a row passes the tests
 abbrev pub passes_tests : List Term → Row → Row → Bool

@@ -22,6 +22,7 @@ pub fn are_version_checks(checks: &Terms) -> bool
     }
 }
 
+/// Whether the expression at this node is `deleted = 0 OR deleted = 1`.
 fn is_check(nodes: &[Op], at: usize) -> bool
     ensures { IsTrue result ↔ IsCheckAt nodes.now at }
 {
@@ -33,6 +34,7 @@ fn is_check(nodes: &[Op], at: usize) -> bool
     }
 }
 
+/// Whether the expression at this node is `deleted` = this number.
 fn is_test(nodes: &[Op], at: usize, number: i64) -> bool
     ensures { IsTrue result ↔ IsTestAt nodes.now at number }
 {

@@ -21,8 +21,8 @@ pub fn is_one_name(names: &Items<Bytes>, expected: &[u8]) -> bool
     }
 }
 
-/// Whether `first` and `second` are the only names.
-pub fn are_two_names(names: &Items<Bytes>, first: &[u8], second: &[u8]) -> bool
+/// Whether the names are exactly `first` and `second`, in this order.
+pub fn are_exactly(names: &Items<Bytes>, first: &[u8], second: &[u8]) -> bool
     ensures { IsTrue result ↔ (names.now ≡ first.now ∷ second.now ∷ []) }
 {
     match names.as_slice() {

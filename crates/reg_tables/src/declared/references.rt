@@ -5,7 +5,7 @@ ghost use Rattle.reg_tables.specs.Layout.{to_texts, to_versions};
 ghost use Rattle.reg_tables.specs.Inside.Forms.{reference_of};
 
 use crate::declared::forms::ReferenceForm;
-use crate::declared::keys::{are_numbers, are_two_names, is_one_name};
+use crate::declared::keys::{are_exactly, are_numbers, is_one_name};
 use crate::declared::listed_forms::Form;
 use sqlite_schema::schema::{Action, Reference};
 
@@ -36,7 +36,7 @@ fn is_to_version(reference: &Reference) -> bool
 {
     are_numbers(&reference.columns, &[1, 2])
         && reference.parent.as_slice() == b"versions".as_slice()
-        && are_two_names(&reference.parent_columns, b"subject", b"version")
+        && are_exactly(&reference.parent_columns, b"subject", b"version")
         && reference.on_delete == Action::Cascade
         && reference.on_update == Action::NoAction
         && !reference.is_deferred

@@ -2,7 +2,7 @@ use Rattle.std.proofs.Common.{◌≡◌, subst, rules}
 use Rattle.reg_service.specs.Services.{state_in}
 use Rattle.reg_service.proofs.CrashLemmas.{leaves_open}
 use Rattle.reg_http.specs.Transitions.{StoredTransition}
-use Rattle.reg_jobs.specs.Listening.{ServesUpTo, ReportsAcceptFailures}
+use Rattle.reg_jobs.specs.Listening.{ServesRounds, ReportsAcceptFailures}
 use Rattle.reg_jobs.proofs.ListeningLemmas.{StoredTransition-none, StoredTransition-next, ReportsAcceptFailures-none, ReportsAcceptFailures-next}
 use Rattle.reg_jobs.proofs.listening.serve_with_clock.Goals as goal
 
@@ -21,7 +21,7 @@ loop-number-preserved g c =
 pub returns-clause-sessions : goal.returns-clause-sessions
 returns-clause-sessions g c clean =
     let all : c.loop-number.number ≡ c.args.connections = search rules in
-    subst (λ count. StoredTransition (state_in c.args.service.now) (state_in c.loop-number.service) (ServesUpTo count c.args.service.now c.loop-number.service)) all (c.loop-number.invariant.served clean)
+    subst (λ count. StoredTransition (state_in c.args.service.now) (state_in c.loop-number.service) (ServesRounds count c.args.service.now c.loop-number.service)) all (c.loop-number.invariant.served clean)
 
 pub returns-clause-reports : goal.returns-clause-reports
 returns-clause-reports g c =

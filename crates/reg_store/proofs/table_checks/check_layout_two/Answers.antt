@@ -23,11 +23,11 @@ returns-clause-disk_cause g c clean =
     let known : IsOpenable (state g.S.Store c.args.db.now.idle.conn).now.schema = search rules in
     if_err c.check_all.result (λ e told. told (λ _. openable_has_eight (state g.S.Store c.args.db.now.idle.conn).now.schema known)) ((returns-clause-tests g c).disk_cause clean)
 
-pub returns-in_err-allow-clause-disk_cause : goal.returns-in_err-allow-clause-disk_cause
-returns-in_err-allow-clause-disk_cause g c clean =
+pub returns-in_err-require-clause-disk_cause : goal.returns-in_err-require-clause-disk_cause
+returns-in_err-require-clause-disk_cause g c clean =
     let old = state g.S.Store c.args.db.now.idle.conn in
     let new = state g.S.Store c.check_meta.new.db.idle.conn in
-    passed (HasDiskCause old new) c.from_residual-in_err-allow.result c.in_err-allow.field-0.0 c.from_residual-in_err-allow.ensures.1 (subst (HasDiskCause old new) (sym c.in_err-allow.ensures.err.0) tt)
+    passed (HasDiskCause old new) c.from_residual-in_err-require.result c.in_err-require.field-0.0 c.from_residual-in_err-require.ensures.1 (subst (HasDiskCause old new) (sym c.in_err-require.ensures.err.0) tt)
 
 pub returns-clause-other : goal.returns-clause-other
 returns-clause-other g c clean =
@@ -35,6 +35,6 @@ returns-clause-other g c clean =
     if_err_each c.check_all.result (λ e number is_open out.
     absurd (not_other Two (state g.S.Store c.args.db.now.idle.conn).now number (c.in_ok-check_meta.ensures.tests.tells mid out.holds.first) out))
 
-pub returns-in_err-allow-clause-other : goal.returns-in_err-allow-clause-other
-returns-in_err-allow-clause-other g c clean =
-    if_err_each c.from_residual-in_err-allow.result (λ e number is_open out. absurd (not_other Two (state g.S.Store c.args.db.now.idle.conn).now number (c.in_ok-check_meta.ensures.tests.tells clean out.holds.first) out))
+pub returns-in_err-require-clause-other : goal.returns-in_err-require-clause-other
+returns-in_err-require-clause-other g c clean =
+    if_err_each c.from_residual-in_err-require.result (λ e number is_open out. absurd (not_other Two (state g.S.Store c.args.db.now.idle.conn).now number (c.in_ok-check_meta.ensures.tests.tells clean out.holds.first) out))

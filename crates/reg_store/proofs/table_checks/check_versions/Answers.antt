@@ -19,13 +19,13 @@ returns-in_err-lines-clause-tests g c =
 pub returns-in_err-lines-clause-plain : goal.returns-in_err-lines-clause-plain
 returns-in_err-lines-clause-plain g c = passed HasNoLayoutNumber c.from_residual.result _ c.from_residual.ensures.1 (numberless c.in_err-lines.field-0.0)
 
-pub returns-in_err-allow-clause-tests : goal.returns-in_err-allow-clause-tests
-returns-in_err-allow-clause-tests g c =
+pub returns-in_err-require-clause-tests : goal.returns-in_err-require-clause-tests
+returns-in_err-require-clause-tests g c =
     let a = c.args.db.now.idle.conn in
     let b = c.raw_versions.new.db.conn in
     let judged = test_lines {Declared = HasFiveTables} {Spelled = SpellsSome SpellsBase} {Lists = ListsVersions} {rowid_of = λ (line : RawVersion). line.rowid} {fits = version_fits} g.S.Store a b c.in_ok-lines.lines c.in_ok-lines.ensures.frame c.in_ok-lines.ensures.listed _ c.deref.ensures.value c.in_ok-pass.field-0 c.in_ok-pass.ensures
-    (Err c.in_err-allow.field-0.0) tt c.in_err-allow.ensures.err some_known (λ db s lists. versions_pass db s.stored s.spells _ lists) in
-    test_fails g.S.Store a b c.from_residual-in_err-allow.result _ judged c.from_residual-in_err-allow.ensures.1
+    (Err c.in_err-require.field-0.0) tt c.in_err-require.ensures.err some_known (λ db s lists. versions_pass db s.stored s.spells _ lists) in
+    test_fails g.S.Store a b c.from_residual-in_err-require.result _ judged c.from_residual-in_err-require.ensures.1
 
 pub returns-clause-tests : goal.returns-clause-tests
 returns-clause-tests g c =
@@ -35,5 +35,5 @@ returns-clause-tests g c =
     let Passes : List RawVersion → Type 0 = λ l. AreDistinct (map (λ (line : RawVersion). line.rowid) l) × AllByRecursion version_fits l in
     test_tells g.S.Store a b {P = λ l d. ListsVersions d l.items} (test_read g.S.Store a b c.in_ok-lines.lines c.in_ok-lines.ensures.frame c.in_ok-lines.ensures.listed) c.len.result
     (λ db lists.
-    let both = subst Passes c.deref.ensures.value (c.in_ok-pass.ensures.0 c.in_ok-allow.ensures.ok) in
+    let both = subst Passes c.deref.ensures.value (c.in_ok-pass.ensures.0 c.in_ok-require.ensures.ok) in
     (record { lines = lines; lists = lists; apart = both.0; fit = both.1 }, subst (HasVersionRows db) (sym c.in_ok-lines.lines.ok.0 ∙ sym c.len.ensures) (versions_counted db lines lists)))

@@ -42,10 +42,10 @@ returns-in-Ok-clause-reply c =
     let live : map (λ (r : Bor Row). r.now) c.deref-2.result.now ≡ live_rows view.rows.items =
     ap (map (λ (r : Bor Row). r.now)) c.deref-2.ensures.value ∙ (c.in_ok-live.ensures ∙ ap live_rows c.deref.ensures.value) in
     let found = c.in-Ok.ensures ∙ ap (found_row (Some c.in-Some.choice)) live in
-    let fits = verdict_of view new c.level_in_force.result (row ∷ []) (row ∷ []) c.level_in_force.ensures refl c.in_ok-fits-in-Ok.fits c.in_ok-fits-in-Ok.ensures in
+    let compatible = verdict_of view new c.level_in_force.result (row ∷ []) (row ∷ []) c.level_in_force.ensures refl c.in_ok-compatible-in-Ok.compatible c.in_ok-compatible-in-Ok.ensures in
     IfOk-weaker c.verdict_reply.result _ _
     (λ reply h g subject text supported input.
-    h ∙ (ap (λ (b : Bool). answer (verdict_body b)) fits
+    h ∙ (ap (λ (b : Bool). answer (verdict_body b)) compatible
     ∙ ap (λ (s : Registry × ReplyView). s.1) (sym (check_shown g subject c.args.version.now text supported view _ input c.in-Some.choice chosen new some row found))))
     c.verdict_reply.ensures
 

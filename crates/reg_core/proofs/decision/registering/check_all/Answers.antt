@@ -27,9 +27,9 @@ returns-clause-reply c =
     let some : option_map nodes_view (option_copied c.args.schema) ≡ Some new = rw c.in-Some.is refl in
     let live : map (λ (row : Bor Row). row.now) c.deref-2.result.now ≡ live_rows view.rows.items =
     ap (map (λ (row : Bor Row). row.now)) c.deref-2.ensures.value ∙ (c.in_ok-live.ensures ∙ ap live_rows c.deref.ensures.value) in
-    let fits = verdict_of view new c.level_in_force.result (map (λ (row : Bor Row). row.now) c.deref-2.result.now) (live_rows view.rows.items) c.level_in_force.ensures live c.in_ok-fits.fits c.in_ok-fits.ensures in
+    let compatible = verdict_of view new c.level_in_force.result (map (λ (row : Bor Row). row.now) c.deref-2.result.now) (live_rows view.rows.items) c.level_in_force.ensures live c.in_ok-compatible.compatible c.in_ok-compatible.ensures in
     IfOk-weaker c.verdict_reply.result _ _
     (λ reply h g subject text supported input.
-    h ∙ (ap (λ (b : Bool). answer (verdict_body b)) fits
+    h ∙ (ap (λ (b : Bool). answer (verdict_body b)) compatible
     ∙ ap (λ (s : Registry × ReplyView). s.1) (sym (check_all_shown g subject text supported view _ input new some))))
     c.verdict_reply.ensures

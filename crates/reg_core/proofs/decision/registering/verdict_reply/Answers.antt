@@ -8,6 +8,6 @@ use Rattle.reg_core.proofs.decision.registering.verdict_reply.Goals as goal
 pub returns : goal.returns
 unfolding serde_json_on_literals
 returns c =
-    let built : view c.in_ok-object.object ≡ object (member (codes "is_compatible") (boolean c.args.fits) no_members) =
+    let built : view c.in_ok-object.object ≡ object (member (codes "is_compatible") (boolean c.args.compatible) no_members) =
     search (rules, the_lemmas) in
     search rules

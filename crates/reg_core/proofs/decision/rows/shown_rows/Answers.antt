@@ -7,6 +7,6 @@ use Rattle.reg_core.proofs.decision.rows.shown_rows.Goals as goal
 
 pub returns : goal.returns
 returns c =
-    let road : IfOk c.collect.result (λ w. map (λ row. row.now) (vec_items w) ≡ shown_rows c.args.deleted c.args.rows.now) =
+    let road : IfOk c.collect.result (λ w. map (λ row. row.now) (vec_items w) ≡ shown_rows c.args.shows_deleted c.args.rows.now) =
     map_from_collect _ c.collect.ensures.ran (YieldsList-from_filter _ _ (YieldsList-from_slice c.args.rows.now cc) c.filter.ensures.closure (λ x b q k. search (rules, tests))) in
-    subst (λ r. IfOk r (λ w. map (λ row. row.now) (vec_items w) ≡ shown_rows c.args.deleted c.args.rows.now)) c.in_ok-shown.was road
+    subst (λ r. IfOk r (λ w. map (λ row. row.now) (vec_items w) ≡ shown_rows c.args.shows_deleted c.args.rows.now)) c.in_ok-shown.was road

@@ -42,7 +42,7 @@ loop-field-preserved c =
           let yes : is_named name (view field) ≡ true = ap (λ t. str_eq_ignore_ascii_case t name) (sym c.of.ensures) ∙ (sym c.is_name.ensures ∙ w.if-is_name.true) in
           let value = ap (λ t. before ++ t) (ap (λ t. t ∷ []) w.of-then-is_name.ensures ∙ sym (named name (view field) yes)) in
           let P : List (List ℕ) × FieldLookup → Type 0 = λ s. FindsField s.0 s.1 in
-          subst P (λ j. (value j, sym w.found-is j)) (w.and-found.ensures before c.loop-field.invariant)
+          subst P (λ j. (value j, sym w.found-is j)) (w.with_value-found.ensures before c.loop-field.invariant)
       | else-is_name w ↦
           let no : is_named name (view field) ≡ false = ap (λ t. str_eq_ignore_ascii_case t name) (sym c.of.ensures) ∙ (sym c.is_name.ensures ∙ w.if-is_name.false) in
           let value = sym (append-nil before) ∙ ap (λ t. before ++ t) (sym (unnamed name (view field) no)) in

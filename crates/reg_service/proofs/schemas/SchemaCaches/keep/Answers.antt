@@ -10,5 +10,5 @@ pub put-requires : goal.put-requires
 put-requires c =
     let sent = c.in-Some-Some-Some in
     let denoted : denoted_nodes sent.text.now ≡ Some (nodes_view sent.schema) = search rules in
-    let is_identity : string_bytes sent.canonical ≡ identity (nodes_view sent.schema) = search rules in
+    let is_identity : string_bytes sent.schema_identity ≡ identity (nodes_view sent.schema) = search rules in
     ap denoted_nodes (c.as_str-text.ensures.value ∙ is_identity) ∙ identity_denoted _ (sent.text.now, computed_denotes sent.text.now _ denoted)

@@ -70,8 +70,8 @@ pub returns-clause-repeats : goal.returns-clause-repeats
 returns-clause-repeats g c clean was over =
     repeats_agree _ (served (zip c.args.list.now c.loop-delivery.replies.items)) (returns-clause-exactly_once g c clean was over).serves.replies
 
-pub returns-clause-only : goal.returns-clause-only
-returns-clause-only g c clean was over =
+pub returns-clause-no_other_replies : goal.returns-clause-no_other_replies
+returns-clause-no_other_replies g c clean was over =
     no_other_answers _ (served (zip c.args.list.now c.loop-delivery.replies.items)) (returns-clause-exactly_once g c clean was over).serves.replies
 
 pub returns-clause-crash : goal.returns-clause-crash

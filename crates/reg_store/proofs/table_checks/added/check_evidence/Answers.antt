@@ -39,6 +39,6 @@ returns-clause-tests g c =
     let few = c.in_ok-pass_evidence.ensures.few in
     let verdict = subst (λ (l : List RawEvidence). IsTrue b ↔ AllPass l ids.rowids.items ids.fit ids.count) c.deref-2.ensures.value c.in_ok-pass_evidence.ensures.passes in
     let told = λ (db : Database) (it : JudgesIds (map version_at c.deref.result.now) db ids.rowids.items ids.fit ids.count). subst (λ (l : List RawEvidence). JudgesIds (map version_at l) db ids.rowids.items ids.fit ids.count) c.deref.ensures.value it in
-    test_judged g.S.Store a end (tests_then g.S.Store a mid end (c.is_autocommit-idle.ensures.settled idle) _ c.in_ok-evidence.ensures.tests c.in_ok-ids.ensures.tests) c.allow.result b c.allow.ensures.ok c.allow.ensures.err all_tables_known
+    test_judged g.S.Store a end (tests_then g.S.Store a mid end (c.is_autocommit-idle.ensures.settled idle) _ c.in_ok-evidence.ensures.tests c.in_ok-ids.ensures.tests) c.require.result b c.require.ensures.ok c.require.ensures.err all_tables_known
     (λ db p sure. all_passed db evidence p.0 ids.rowids.items ids.fit ids.count (told db p.1) few (verdict.0 sure))
     (λ db p refused s. both_ways _ refused (verdict.1 (none_refused db evidence p.0 ids.rowids.items ids.fit ids.count (told db p.1) few s)))

@@ -15,4 +15,4 @@ returns-in_err-lines-clause-plain g c = passed HasNoLayoutNumber c.from_residual
 pub returns-clause-tests : goal.returns-clause-tests
 returns-clause-tests g c =
     test_lines g.S.Store c.args.db.now.idle.conn c.raw_modes.new.db.conn c.in_ok-lines.lines c.in_ok-lines.ensures.frame c.in_ok-lines.ensures.listed _ c.deref.ensures.value c.in_ok-pass.field-0 c.in_ok-pass.ensures
-    c.allow.result c.allow.ensures.ok c.allow.ensures.err all_tables_known (λ db s lists. modes_pass db s _ lists)
+    c.require.result c.require.ensures.ok c.require.ensures.err all_tables_known (λ db s lists. modes_pass db s _ lists)

@@ -24,6 +24,6 @@ returns-clause-tests g c =
     let count = c.in_ok-count.count in
     let fit = c.in_ok-judge_all.field-0 in
     let read = test_of g.S.Store b end _ (λ schema first. first) readable_if_spelled c.in_ok-judge_all.ensures.tests in
-    test_judged g.S.Store a end (tests_then g.S.Store a b end (c.is_autocommit-idle.ensures.settled idle) _ c.in_ok-count.ensures.tests read) c.allow.result fit c.allow.ensures.ok c.allow.ensures.err some_known
+    test_judged g.S.Store a end (tests_then g.S.Store a b end (c.is_autocommit-idle.ensures.settled idle) _ c.in_ok-count.ensures.tests read) c.require.result fit c.require.ensures.ok c.require.ensures.err some_known
     (λ db p yes. texts_passed db count p.0 fit (p.1 p.0) yes)
     (λ db p no s. texts_allowed db count p.0 fit (p.1 p.0) s no)

@@ -1,17 +1,17 @@
 use Rattle.std.proofs.Common.{◌+◌, ◌≤◌, ◌<◌, ap, ◌∙◌, arith, length, nat_eq}
 use Rattle.std.specs.Cmp.{nat_eq_equiv}
 use Rattle.lru.proofs.CallerLemmas.{lookup-put_entries}
-use Rattle.schema_cache.specs.Entries.{size, total, max_total, max_entries}
-use Rattle.schema_cache.proofs.Totals.{total-put}
+use Rattle.schema_cache.specs.Entries.{size, text_bytes, max_text_bytes, max_entries}
+use Rattle.schema_cache.proofs.Totals.{text_bytes-put}
 use Rattle.schema_cache.proofs.lru_entries.LruEntries.add.Goals as goal
 
 pub overflow_sub-self : goal.overflow_sub-self
 overflow_sub-self c =
     let cache = c.self.inside.cache in
-    let cap = c.self.invariant.few in
+    let cap = c.self.invariant.capacity in
     let few : length cache.entries < max_entries = rw c.self.view_is c.make_room.ensures.few in
-    let all = total-put nat_eq cache c.args.id c.args.entry (omega arith) (omega arith) in
-    let gone = c.freed_bytes.ensures ∙ ap size c.in-Ok.ensures.old in
+    let all = text_bytes-put nat_eq cache c.args.id c.args.entry (omega arith) (omega arith) in
+    let replaced = c.freed_bytes.ensures ∙ ap size c.in-Ok.ensures.old in
     let kept = c.self.invariant.counted in
     let text = ap length c.text-more.ensures.text in
     omega arith
@@ -19,14 +19,14 @@ overflow_sub-self c =
 pub invariant_of-self : goal.invariant_of-self
 invariant_of-self c =
     let cache = c.self.inside.cache in
-    let cap = c.self.invariant.few in
+    let cap = c.self.invariant.capacity in
     let few : length cache.entries < max_entries = rw c.self.view_is c.make_room.ensures.few in
-    let room : total cache.entries + length c.text-more.result.now ≤ max_total = rw c.self.view_is c.make_room.ensures.total in
-    let all = total-put nat_eq cache c.args.id c.args.entry (omega arith) (omega arith) in
-    let gone = c.freed_bytes.ensures ∙ ap size c.in-Ok.ensures.old in
+    let room : text_bytes cache.entries + length c.text-more.result.now ≤ max_text_bytes = rw c.self.view_is c.make_room.ensures.text_bytes in
+    let all = text_bytes-put nat_eq cache c.args.id c.args.entry (omega arith) (omega arith) in
+    let replaced = c.freed_bytes.ensures ∙ ap size c.in-Ok.ensures.old in
     let kept = c.self.invariant.counted in
     let text = ap length c.text-more.ensures.text in
-    rw c.in-Ok.ensures.entries (record { counted = omega arith; small = omega arith; few = cap })
+    rw c.in-Ok.ensures.entries (record { counted = omega arith; small = omega arith; capacity = cap })
 
 pub returns-in-Ok-clause-ok : goal.returns-in-Ok-clause-ok
 returns-in-Ok-clause-ok c = rw c.in-Ok.ensures.entries (lookup-put_entries nat_eq c.self.inside.cache c.args.id c.args.entry nat_eq_equiv)

@@ -2,7 +2,7 @@ use Rattle.sqlite.specs.Held.{state}
 use Rattle.reg_tables.proofs.KeyedWrites.{drops, drop_fails}
 use Rattle.reg_tables.proofs.Transactions.{on_ok, if_err}
 use Rattle.reg_tables.proofs.WriteFaults.{as_write_fault}
-use Rattle.reg_tables.proofs.keyed.drop.Goals as goal
+use Rattle.reg_tables.proofs.keyed.delete.Goals as goal
 
 pub returns-clause-dropped : goal.returns-clause-dropped
 returns-clause-dropped g c clean =

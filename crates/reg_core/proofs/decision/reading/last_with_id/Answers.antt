@@ -5,8 +5,8 @@ use Rattle.std.proofs.lemmas.List.{map_more}
 use Rattle.std.proofs.lemmas.List.Elements.{filter-append}
 use Rattle.reg_core.specs.Registry.{Row}
 use Rattle.reg_core.specs.Rows.{rows_with}
-use Rattle.reg_core.proofs.decision.reading.last_with.Goals as goal
-use Rattle.reg_core.proofs.decision.reading.last_with.Goals.{then-id, else-id}
+use Rattle.reg_core.proofs.decision.reading.last_with_id.Goals as goal
+use Rattle.reg_core.proofs.decision.reading.last_with_id.Goals.{then-id, else-id}
 
 last_pushed : {X : Type 0} (o : Option X) (xs : List X) (y : X) → last_or o (xs ++ (y ∷ [])) ≡ Some y
 last_pushed o [] y = refl

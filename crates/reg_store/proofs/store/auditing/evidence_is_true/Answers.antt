@@ -2,7 +2,7 @@ use Rattle.std.proofs.Common.{refl}
 use Rattle.reg_store.proofs.AuditLemmas.{true_without, true_under_none, true_by_level}
 use Rattle.reg_store.proofs.EvidenceOwners.{has_schemas}
 use Rattle.reg_store.proofs.ReadLemmas.{fail, tell, go_on, match_each}
-use Rattle.reg_store.proofs.store.auditing.holds.Goals as goal
+use Rattle.reg_store.proofs.store.auditing.evidence_is_true.Goals as goal
 
 pub returns-in_err-evidence_level : goal.returns-in_err-evidence_level
 returns-in_err-evidence_level g c = fail c.in_err-evidence_level.ensures c.from_residual.ensures.1
