@@ -22,7 +22,7 @@ use Rattle.avro_resolve.specs.Inside.Agreeing.{fields_of}
 use Rattle.avro_resolve.specs.Inside.Referrers.{element_place, AreReferrers, GivenBy, CanMatchLinks, HasBranch, IsOfNode, MayDepend}
 use Rattle.avro_resolve.specs.Inside.Remaining.{DependsOn}
 use Rattle.avro_resolve.specs.Inside.Lists.{IsListedAt}
-use Rattle.avro_resolve.specs.Inside.Schemas.{columns, names_of, rows, IsSchemaPair}
+use Rattle.avro_resolve.specs.Inside.Schemas.{columns, names_of, rows, IsValidSchemaPair}
 use Rattle.avro_resolve.specs.Inside.Sources.{source_entry, entry_at, field_at}
 use Rattle.avro_resolve.proofs.LinkLemmas.{zip_got}
 use Rattle.avro_resolve.proofs.RankMaps.{ranks_decide_names}
@@ -166,7 +166,7 @@ module _ (names : List (List ℕ)) (rank_map : Option (List (Option ℕ))) (numb
         given = subst (GivenBy rank_map numbered index y x) e given;
       }
 
-module _ (schemas : SchemaPair) (is : IsSchemaPair schemas) (writer_links reader_links : Links) (sources : List (Vec ℕ Global)) (are_referrers : AreReferrers schemas writer_links reader_links sources) (p q : ℕ) (x y : Link) (R : Pairs) (out : R p q ≡ false)
+module _ (schemas : SchemaPair) (is : IsValidSchemaPair schemas) (writer_links reader_links : Links) (sources : List (Vec ℕ Global)) (are_referrers : AreReferrers schemas writer_links reader_links sources) (p q : ℕ) (x y : Link) (R : Pairs) (out : R p q ≡ false)
     (a b : NodeView) (ea : slice_get (rows schemas) x.referrer ≡ Some a) (eb : slice_get (columns schemas) y.referrer ≡ Some b) (fits : Fits R x.referrer y.referrer a b) (one : x.label ≡ y.label) where
   abbrev Mine : LinkKind → Type 0
   Mine kind = Field (names_of schemas.writer) (Some schemas.rank_map.ranks.items) writer_links.aliased.items a x p kind
@@ -201,7 +201,7 @@ module _ (schemas : SchemaPair) (is : IsSchemaPair schemas) (writer_links reader
   by_ways ByName (ByAlias number) ex ey asks m t = by_alias number (of_field (names_of schemas.reader) None reader_links.aliased.items b y q (ByAlias number) (λ e. absurd cc) ey t) asks
   by_ways _ _ ex ey asks m t = absurd asks
 
-pub rests_by_links : (schemas : SchemaPair) → IsSchemaPair schemas → (writer_links reader_links : Links) (sources : List (Vec ℕ Global)) → AreReferrers schemas writer_links reader_links sources → (p q : ℕ) (x y : Link) → IsListedAt writer_links.lists.items x p → IsListedAt reader_links.lists.items y q
+pub rests_by_links : (schemas : SchemaPair) → IsValidSchemaPair schemas → (writer_links reader_links : Links) (sources : List (Vec ℕ Global)) → AreReferrers schemas writer_links reader_links sources → (p q : ℕ) (x y : Link) → IsListedAt writer_links.lists.items x p → IsListedAt reader_links.lists.items y q
     → x.label ≡ y.label → MayDepend sources p x y → DependsOn (rows schemas) (columns schemas) x.referrer y.referrer p q
 rests_by_links schemas is writer_links reader_links sources are_referrers p q x y hx hy one asks R out s =
     let h = nodes_of_pair (rows schemas) (columns schemas) R x.referrer y.referrer s in

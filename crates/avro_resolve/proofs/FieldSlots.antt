@@ -3,7 +3,7 @@ use Rattle.std.proofs.Common.{◌≡◌, ◌⊎◌, ℕ, zero, suc, ◌+◌, ◌
 use Rattle.std.specs.Prelude.{◌≢◌, Option, None, is_some, slice_get}
 use Rattle.std.proofs.lemmas.Bool.{cases_lt, true≢false}
 use Rattle.std.proofs.lemmas.Option.{same_Some, slice_get_within}
-use Rattle.avro_resolve.specs.Inside.FieldSlots.{HasName, NoField, AreInSlots, IsClear, IsSource, slot}
+use Rattle.avro_resolve.specs.Inside.FieldSlots.{HasRank, NoField, AreInSlots, IsClear, IsSource, slot}
 use Rattle.avro_resolve.specs.Inside.RankMaps.{mapped_rank}
 
 equal_or : (x y : ℕ) → (x ≡ y) ⊎ (x ≢ y)
@@ -19,7 +19,7 @@ none_some : (x : ℕ) → None ≡ Some x → ⊥
 none_some x e = true≢false (sym (ap is_some e))
 
 module _ (rank_map : List (Option ℕ)) (names : List ℕ) where
-  named : (k rank name : ℕ) (o : Option ℕ) → HasName rank_map names k rank → slice_get names k ≡ Some name → mapped_rank rank_map name ≡ o → o ≡ Some rank
+  named : (k rank name : ℕ) (o : Option ℕ) → HasRank rank_map names k rank → slice_get names k ≡ Some name → mapped_rank rank_map name ≡ o → o ≡ Some rank
   named k rank name o h ek eo =
       let e : name ≡ h.0 = same_Some name h.0 (sym ek ∙ h.1) in
       sym eo ∙ ap (λ (n : ℕ). mapped_rank rank_map n) e ∙ h.2
@@ -31,17 +31,17 @@ module _ (rank_map : List (Option ℕ)) (names : List ℕ) where
   }
 
   module _ (n k name : ℕ) (next : n ≡ k + 1) (ek : slice_get names k ≡ Some name) where
-    unmet : mapped_rank rank_map name ≡ None → (j rank : ℕ) → j ≡ k → HasName rank_map names j rank → ⊥
-    unmet em j rank e h = none_some rank (named k rank name None (subst (λ (i : ℕ). HasName rank_map names i rank) e h) ek em)
+    unmet : mapped_rank rank_map name ≡ None → (j rank : ℕ) → j ≡ k → HasRank rank_map names j rank → ⊥
+    unmet em j rank e h = none_some rank (named k rank name None (subst (λ (i : ℕ). HasRank rank_map names i rank) e h) ek em)
 
-    met_as : (r0 : ℕ) → mapped_rank rank_map name ≡ Some r0 → (j rank : ℕ) → j ≡ k → HasName rank_map names j rank → rank ≡ r0
-    met_as r0 em j rank e h = sym (same_Some r0 rank (named k rank name (Some r0) (subst (λ (i : ℕ). HasName rank_map names i rank) e h) ek em))
+    met_as : (r0 : ℕ) → mapped_rank rank_map name ≡ Some r0 → (j rank : ℕ) → j ≡ k → HasRank rank_map names j rank → rank ≡ r0
+    met_as r0 em j rank e h = sym (same_Some r0 rank (named k rank name (Some r0) (subst (λ (i : ℕ). HasRank rank_map names i rank) e h) ek em))
 
     -- no field from index n on has the rank, and the field before them hasn't either
-    earlier : (rank m : ℕ) → (HasName rank_map names k rank → ⊥) → ((j : ℕ) → n ≤ j → j < m → HasName rank_map names j rank → ⊥) → (j : ℕ) → k ≤ j → j < m → HasName rank_map names j rank → ⊥
+    earlier : (rank m : ℕ) → (HasRank rank_map names k rank → ⊥) → ((j : ℕ) → n ≤ j → j < m → HasRank rank_map names j rank → ⊥) → (j : ℕ) → k ≤ j → j < m → HasRank rank_map names j rank → ⊥
     earlier rank m here later j lo hi own = elim (cases_lt k j) [
       | inl g ↦ later j (omega arith) hi own
-      | inr g ↦ (let e : j ≡ k = omega arith in here (subst (λ (i : ℕ). HasName rank_map names i rank) e own))
+      | inr g ↦ (let e : j ≡ k = omega arith in here (subst (λ (i : ℕ). HasRank rank_map names i rank) e own))
     ]
 
     pub laid_past : (slots : List (Option ℕ)) → mapped_rank rank_map name ≡ None → AreInSlots rank_map names n slots → AreInSlots rank_map names k slots
@@ -56,7 +56,7 @@ module _ (rank_map : List (Option ℕ)) (names : List ℕ) where
         found = λ rank j e. elim (equal_or rank r0) [
           | inl same ↦ (
               let is : j ≡ k = same_Some j k (sym e ∙ ap (λ (i : ℕ). slot after i) same ∙ there) in
-              let own : HasName rank_map names j rank = (name, ap (λ (i : ℕ). slice_get names i) is ∙ ek, em ∙ ap (λ (i : ℕ). Some i) (sym same)) in
+              let own : HasRank rank_map names j rank = (name, ap (λ (i : ℕ). slice_get names i) is ∙ ek, em ∙ ap (λ (i : ℕ). Some i) (sym same)) in
               (omega (arith, is), (own, (λ i lo hi other. absurd (omega (arith, is))))))
           | inr other ↦ (
               let f = h.found rank j (sym (others rank other) ∙ e) in
@@ -75,14 +75,14 @@ module _ (rank_map : List (Option ℕ)) (names : List ℕ) where
 
   -- the slots have only fields from the index on
   abbrev pub AreLeft : ℕ → List (Option ℕ) → Type 0
-  AreLeft n slots = (rank j : ℕ) → slot slots rank ≡ Some j → (n ≤ j) × HasName rank_map names j rank
+  AreLeft n slots = (rank j : ℕ) → slot slots rank ≡ Some j → (n ≤ j) × HasRank rank_map names j rank
 
   module _ (k name : ℕ) (ek : slice_get names k ≡ Some name) where
-    off_unmet : mapped_rank rank_map name ≡ None → (j rank : ℕ) → j ≡ k → HasName rank_map names j rank → ⊥
-    off_unmet em j rank e h = none_some rank (named k rank name None (subst (λ (i : ℕ). HasName rank_map names i rank) e h) ek em)
+    off_unmet : mapped_rank rank_map name ≡ None → (j rank : ℕ) → j ≡ k → HasRank rank_map names j rank → ⊥
+    off_unmet em j rank e h = none_some rank (named k rank name None (subst (λ (i : ℕ). HasRank rank_map names i rank) e h) ek em)
 
-    off_met_as : (r0 : ℕ) → mapped_rank rank_map name ≡ Some r0 → (j rank : ℕ) → j ≡ k → HasName rank_map names j rank → rank ≡ r0
-    off_met_as r0 em j rank e h = sym (same_Some r0 rank (named k rank name (Some r0) (subst (λ (i : ℕ). HasName rank_map names i rank) e h) ek em))
+    off_met_as : (r0 : ℕ) → mapped_rank rank_map name ≡ Some r0 → (j rank : ℕ) → j ≡ k → HasRank rank_map names j rank → rank ≡ r0
+    off_met_as r0 em j rank e h = sym (same_Some r0 rank (named k rank name (Some r0) (subst (λ (i : ℕ). HasRank rank_map names i rank) e h) ek em))
 
     pub left_past : (slots : List (Option ℕ)) → mapped_rank rank_map name ≡ None → AreLeft k slots → AreLeft (k + 1) slots
     left_past slots em h rank j e =

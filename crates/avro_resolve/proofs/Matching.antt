@@ -17,7 +17,7 @@ use Rattle.avro_resolve.specs.Resolution.{NameMatch}
 use Rattle.avro_resolve.specs.Inside.Agreeing.{fields_of, named_of, named_ranks, symbols_of, symbol_ranks, DecidesNameMatch}
 use Rattle.avro_resolve.specs.Inside.RankMaps.{RanksDecideNames, mapped_rank}
 use Rattle.avro_resolve.specs.Inside.Places.{RefersBelow}
-use Rattle.avro_resolve.specs.Inside.Schemas.{IsIndexedSchema, names_of, nodes_of}
+use Rattle.avro_resolve.specs.Inside.Schemas.{IsValidIndexedSchema, names_of, nodes_of}
 
 -- ---- the ranks at a place
 
@@ -33,7 +33,7 @@ ranked_at nodes index is place a v ea ev =
     some_and (IsRanked names) (slice_get index.ranks.items place) a v ev at
 
 -- the ranks of a schema's node
-pub node_ranks : (indexed : IndexedSchema) → IsIndexedSchema indexed → (place : ℕ) (a : NodeView) → slice_get (nodes_of indexed) place ≡ Some a → (v : Ranks) × IsRanked (names_of indexed) a v
+pub node_ranks : (indexed : IndexedSchema) → IsValidIndexedSchema indexed → (place : ℕ) (a : NodeView) → slice_get (nodes_of indexed) place ≡ Some a → (v : Ranks) × IsRanked (names_of indexed) a v
 node_ranks indexed is place a ea =
     let names = names_of indexed in
     let at : IsSomeAnd (slice_get indexed.index.now.ranks.items place) (IsRanked names a) =

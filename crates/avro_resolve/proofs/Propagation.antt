@@ -26,7 +26,7 @@ use Rattle.avro_resolve.specs.Inside.Remaining.{remains, AreRun, StillSupported,
 use Rattle.avro_resolve.specs.Inside.Lists.{list_at, IsListedAt}
 use Rattle.avro_resolve.proofs.ListLemmas.{get_or_any, list_in, nothing_stands, same_place}
 use Rattle.avro_resolve.proofs.Monotone.{named_in, supports_at}
-use Rattle.avro_resolve.specs.Inside.Schemas.{columns, names_of, rows, IsSchemaPair}
+use Rattle.avro_resolve.specs.Inside.Schemas.{columns, names_of, rows, IsValidSchemaPair}
 use Rattle.avro_resolve.specs.Inside.Sources.{source_entry, entry_at, field_at, AreSources, IsSourceEntry}
 use Rattle.avro_resolve.proofs.LinkLemmas.{met_by, sought_by, zip_got, IsMetBy, IsOf, IsSoughtBy, Seeks}
 use Rattle.avro_resolve.proofs.RankMaps.{ranks_decide_names}
@@ -177,7 +177,7 @@ union_or (enumeration n s f x) = inr (λ bs e. absurd cc)
 union_or (fixed n s x) = inr (λ bs e. absurd cc)
 union_or (rec n fs x) = inr (λ bs e. absurd cc)
 
-module _ (schemas : SchemaPair) (is : IsSchemaPair schemas) (writer_links reader_links : Links) (sources : List (Vec ℕ Global)) (are_referrers : AreReferrers schemas writer_links reader_links sources) (i j p q : ℕ) where
+module _ (schemas : SchemaPair) (is : IsValidSchemaPair schemas) (writer_links reader_links : Links) (sources : List (Vec ℕ Global)) (are_referrers : AreReferrers schemas writer_links reader_links sources) (i j p q : ℕ) where
   abbrev Listed : Type 0
   Listed = ((j ≡ q) × IsListedAt writer_links.unions.items i p) ⊎ (((i ≡ p) × IsListedAt reader_links.unions.items j q) ⊎ Meet sources p (list_at writer_links.lists.items p) (list_at reader_links.lists.items q) i j)
 
@@ -276,7 +276,7 @@ module _ (schemas : SchemaPair) (is : IsSchemaPair schemas) (writer_links reader
       ]
 
 -- once all dependents of a run's pairs were examined, all pairs are supported without the run
-module _ (schemas : SchemaPair) (is : IsSchemaPair schemas) (writer_links reader_links : Links) (sources : List (Vec ℕ Global)) (are_referrers : AreReferrers schemas writer_links reader_links sources) (v : Table) where
+module _ (schemas : SchemaPair) (is : IsValidSchemaPair schemas) (writer_links reader_links : Links) (sources : List (Vec ℕ Global)) (are_referrers : AreReferrers schemas writer_links reader_links sources) (v : Table) where
   seen_onto : (p q : ℕ) (qs more : List Pair) → IsSeen schemas writer_links reader_links sources p q v qs → IsSeen schemas writer_links reader_links sources p q v (qs ++ more)
   seen_onto p q qs more h =
       let w = rows schemas in let r = columns schemas in

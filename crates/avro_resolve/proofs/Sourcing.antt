@@ -17,7 +17,7 @@ use Rattle.avro_resolve.specs.Asking.{source_place}
 use Rattle.avro_resolve.specs.declared.schemas.Fields.{Fields}
 use Rattle.avro_resolve.specs.declared.schemas.SchemaPair.{SchemaPair}
 use Rattle.avro_resolve.specs.Inside.Agreeing.{fields_of}
-use Rattle.avro_resolve.specs.Inside.FieldSlots.{HasName, IsFirst, NoField, IsSource, names_in}
+use Rattle.avro_resolve.specs.Inside.FieldSlots.{HasRank, IsFirst, NoField, IsSource, names_in}
 use Rattle.avro_resolve.specs.Inside.RankMaps.{RanksDecideNames}
 use Rattle.avro_resolve.specs.Inside.Schemas.{columns, names_of}
 use Rattle.avro_resolve.specs.Inside.Sources.{field_at as wanted_at}
@@ -69,7 +69,7 @@ module _ (w r : List (List ℕ)) (rank_map : List (Option ℕ)) (ranks_decide_na
 
   module _ (name : List ℕ) (rank : ℕ) (er : slice_get r rank ≡ Some name) where
     -- a field with the name has the name's rank
-    has_rank : (j : ℕ) (y : FieldView) → slice_get fields j ≡ Some y → bytes_eq y.name name ≡ true → HasName rank_map (names_in ranks) j rank
+    has_rank : (j : ℕ) (y : FieldView) → slice_get fields j ≡ Some y → bytes_eq y.name name ≡ true → HasRank rank_map (names_in ranks) j rank
     has_rank j y e h = let a = rank_of j y e in (a.0, a.1, (ranks_decide_names a.0 rank y.name name a.2 er).1 ((bytes_eq-Decides y.name name).0 h))
 
     first_found : (k : ℕ) → IsFirst rank_map (names_in ranks) 0 k rank → (g : FieldView) × (slice_get fields k ≡ Some g) × (find (λ f. bytes_eq f.name name) fields ≡ Some g)

@@ -16,7 +16,7 @@ use Rattle.avro_nodes.specs.Nodes.{NamedView, FieldView, NodeView, primitive, ar
 use Rattle.avro_nodes.specs.Names.{last_part}
 use Rattle.avro_resolve.specs.Resolution.{Pairs, NameMatch, Promotes, source, Readable, Fits, Supports, Resolves}
 use Rattle.avro_resolve.specs.Witnesses.{member}
-use Rattle.avro_resolve.specs.Verdicts.{is_name_match, may_promote, is_readable_from, nodes_fit, both_fit, is_supported, pairs_below, any_sublist, is_closed_set, is_resolved}
+use Rattle.avro_resolve.specs.Verdicts.{is_name_match, may_promote, is_readable_from, nodes_fit, both_fit, is_supported, pairs_below, any_sublist, is_closed_set, does_resolve}
 use Rattle.avro_resolve.proofs.Monotone.{Within, supported_in, supports_within}
 use Rattle.avro_resolve.proofs.PairLemmas.{those, each_pair, in_those_below}
 
@@ -117,8 +117,8 @@ part_found p test (x ∷ xs) e = by (p x) (part_found p (λ ys. test (x ∷ ys))
 
 -- ---- the verdict
 
-resolves_if : (w r : List NodeView) → is_resolved w r ≡ true → Resolves w r
-unfolding is_resolved is_closed_set Resolves
+resolves_if : (w r : List NodeView) → does_resolve w r ≡ true → Resolves w r
+unfolding does_resolve is_closed_set Resolves
 resolves_if w r e =
     let (ps, closed) = part_there (is_closed_set w r) (pairs_below (length w) (length r)) e in
     let test = is_supported w r (member ps) in
@@ -126,8 +126,8 @@ resolves_if w r e =
     let each = AllPass-from_list_all (λ p. test p.0 p.1) ps both.1 in
     (member ps, both.0, λ i j h. (support_decides w r (member ps) i j).0 (each_pair test ps each i j h))
 
-is_found : (w r : List NodeView) → Resolves w r → is_resolved w r ≡ true
-unfolding is_resolved is_closed_set Resolves
+is_found : (w r : List NodeView) → Resolves w r → does_resolve w r ≡ true
+unfolding does_resolve is_closed_set Resolves
 is_found w r (R, roots, closed) =
     let all = pairs_below (length w) (length r) in
     let ps = those R all in
@@ -138,5 +138,5 @@ is_found w r (R, roots, closed) =
     (and_from (member ps 0 0) (list_all (λ p. test p.0 p.1) ps) (within 0 0 roots)
     (list_all-from_AllPass (λ p. test p.0 p.1) ps (λ k d l. passes _ _ (filter_passes (λ p. R p.0 p.1) all k d l))))
 
-pub resolves_decided : (w r : List NodeView) → IsTrue (is_resolved w r) ↔ Resolves w r
+pub resolves_decided : (w r : List NodeView) → IsTrue (does_resolve w r) ↔ Resolves w r
 resolves_decided w r = (resolves_if w r, is_found w r)

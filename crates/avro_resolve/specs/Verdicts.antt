@@ -79,5 +79,5 @@ unfoldable pub is_closed_set : List NodeView → List NodeView → List Pair →
 is_closed_set w r ps = member ps 0 0 && list_all (λ p. is_supported w r (member ps) p.0 p.1) ps
 
 -- whether the writer's schema resolves with the reader's (Resolves): a closed set has only pairs of places, so the search covers all closed sets
-unfoldable pub is_resolved : List NodeView → List NodeView → Bool
-is_resolved w r = any_sublist (is_closed_set w r) (pairs_below (length w) (length r))
+unfoldable pub does_resolve : List NodeView → List NodeView → Bool
+does_resolve w r = any_sublist (is_closed_set w r) (pairs_below (length w) (length r))

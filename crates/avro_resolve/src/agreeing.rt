@@ -5,7 +5,7 @@ ghost use Rattle.std.specs.List.Sorted.{IsStrictlyIncreasing};
 ghost use Rattle.avro_nodes.specs.Nodes.{node_view, NodeView};
 ghost use Rattle.avro_resolve.specs.Inside.Agreeing.{named_ranks, symbol_ranks, symbols_of, Agree, AreCleared, AreNumbered, AreSymbolsMapped, DecidesNameMatch};
 ghost use Rattle.avro_resolve.specs.Inside.Remaining.{Agreed};
-ghost use Rattle.avro_resolve.specs.Inside.Schemas.{columns, names_of, rows, IsSchemaPair};
+ghost use Rattle.avro_resolve.specs.Inside.Schemas.{columns, names_of, rows, IsValidSchemaPair};
 ghost use Rattle.avro_resolve.specs.Resolution.{Promotes};
 
 use crate::AllocResult;
@@ -85,7 +85,7 @@ fn symbols_of(ranks: &Ranks) -> &[u32]
 /// Whether two named types match: by the last parts of their names (Avro 1.11 specification, Schema
 /// Resolution), or by an alias of the reader's (Aliases).
 fn names_match(schemas: &SchemaPair, i: u32, j: u32) -> bool
-    requires schemas { IsSchemaPair schemas.now }
+    requires schemas { IsValidSchemaPair schemas.now }
     requires i_in { i < length (rows schemas.now) }
     requires j_in { j < length (columns schemas.now) }
     ensures { (a b : NodeView) → slice_get (rows schemas.now) i ≡ Some a
@@ -132,7 +132,7 @@ fn alike(a: &Node, b: &Node, matched: bool) -> Option<bool>
 
 /// The reader's ranks of the symbols at a writer's place, or `None` if the reader lacks a symbol.
 pub fn mapped_symbols(alloc: Global, schemas: &SchemaPair, i: u32) -> AllocResult<Option<Vec<u32>>>
-    requires schemas { IsSchemaPair schemas.now }
+    requires schemas { IsValidSchemaPair schemas.now }
     requires i_in { i < length (rows schemas.now) }
     ensures { IfOk result (λ o. (a : NodeView) → slice_get (rows schemas.now) i ≡ Some a
         → AreSymbolsMapped (names_of schemas.now.reader) (symbols_of a) o) }
@@ -210,7 +210,7 @@ pub fn agree(
     b: &Node,
     at: (u32, u32),
 ) -> AllocResult<bool>
-    requires schemas { IsSchemaPair schemas.now }
+    requires schemas { IsValidSchemaPair schemas.now }
     requires a_at { slice_get (rows schemas.now) at.0 ≡ Some (node_view a.now) }
     requires b_at { slice_get (columns schemas.now) at.1 ≡ Some (node_view b.now) }
     ensures { IfOk result (λ yes. IsTrue yes ↔ Agree (node_view a.now) (node_view b.now)) }
@@ -232,7 +232,7 @@ pub fn agree_at(
     i: u32,
     j: u32,
 ) -> bool
-    requires schemas { IsSchemaPair schemas.now }
+    requires schemas { IsValidSchemaPair schemas.now }
     requires numbered { MatchOption symbols.now (Unit {0}) (λ v. AreNumbered slots.now v.items 0 (length v.items)) }
     requires room { length (names_of schemas.now.reader) ≤ length slots.now }
     requires symbols { (a : NodeView) → slice_get (rows schemas.now) i ≡ Some a

@@ -4,7 +4,7 @@
 ghost use Rattle.std.specs.Prelude.{◌<◌, ◌≡◌, length, slice_get, All, Contains, IfOk, OnOk, Some};
 ghost use Rattle.avro_nodes.specs.Nodes.{NodeView};
 ghost use Rattle.avro_resolve.specs.Inside.Referrers.{ranks_of, HasReferrers, HasLabel, IsOfNode, IsPlaceLinked, LinkedBy, OnlyAddsLinks};
-ghost use Rattle.avro_resolve.specs.Inside.Schemas.{names_of, nodes_of, IsIndexedSchema};
+ghost use Rattle.avro_resolve.specs.Inside.Schemas.{names_of, nodes_of, IsValidIndexedSchema};
 
 use crate::AllocResult;
 use crate::lists::{add_at, empty_lists, unions_of};
@@ -77,7 +77,7 @@ fn add_node_links(
     indexed: &IndexedSchema,
     referrer: u32,
 ) -> AllocResult<()>
-    requires indexed { IsIndexedSchema indexed.now }
+    requires indexed { IsValidIndexedSchema indexed.now }
     requires asker_in { referrer < length indexed.now.schema.now }
     requires long { length links.old.lists.items ≡ length indexed.now.schema.now }
     ensures only_adds { OnOk result (OnlyAddsLinks (λ x p. (x.referrer ≡ referrer) × ((a : NodeView)
@@ -125,7 +125,7 @@ pub fn links_of(
     indexed: &IndexedSchema,
     rank_map: Option<&RankMap>,
 ) -> AllocResult<Links>
-    requires { IsIndexedSchema indexed.now }
+    requires { IsValidIndexedSchema indexed.now }
     ensures { IfOk result (λ a. HasReferrers (names_of indexed.now) (ranks_of rank_map.entry) (nodes_of indexed.now) a) }
 {
     let mut links = Links {

@@ -9,7 +9,7 @@ ghost use Rattle.avro_resolve.specs.Inside.Agreeing.{fields_of};
 ghost use Rattle.avro_resolve.specs.Inside.FieldSlots.{AreFieldsInSlots};
 ghost use Rattle.avro_resolve.specs.Inside.Remaining.{remains};
 ghost use Rattle.avro_resolve.specs.Inside.Rows.{row_fields, IsFieldSource, IsPairInTable, IsWriterPlace};
-ghost use Rattle.avro_resolve.specs.Inside.Schemas.{columns, IsIndexedSchema};
+ghost use Rattle.avro_resolve.specs.Inside.Schemas.{columns, IsValidIndexedSchema};
 ghost use Rattle.avro_resolve.specs.Inside.Sources.{field_at, Describes, IsSourceEntry, IsReaderField};
 ghost use Rattle.avro_resolve.specs.Resolution.{Readable};
 ghost use Rattle.avro_resolve.specs.declared.schemas.SchemaPair.{SchemaPair};
@@ -64,7 +64,7 @@ fn reader_field<'a>(field: &Field, names: &'a FieldRanks) -> ReaderField<'a>
 
 /// Looks up a field that has aliases. `None`: the schema has no such field.
 fn reader_field_of<'a>(indexed: &'a IndexedSchema, aliased: Aliased) -> Option<ReaderField<'a>>
-    requires { IsIndexedSchema indexed.now }
+    requires { IsValidIndexedSchema indexed.now }
     ensures { IsReaderField indexed.now aliased result }
 {
     if aliased.place >= indexed.places() {
@@ -81,7 +81,7 @@ pub fn reader_fields_of<'a>(
     indexed: &'a IndexedSchema,
     aliased: &[Aliased],
 ) -> AllocResult<Vec<Option<ReaderField<'a>>>>
-    requires { IsIndexedSchema indexed.now }
+    requires { IsValidIndexedSchema indexed.now }
     ensures { IfOk result (λ v. AllZip (IsReaderField indexed.now) aliased.now v.items) }
 {
     let mut wanted = Vec::with_capacity(alloc, aliased.len())?;

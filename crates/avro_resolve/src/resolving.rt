@@ -4,7 +4,7 @@ ghost use Rattle.std.specs.Prelude.{◌*◌, ◌<◌, ◌↔◌, ◌≡◌, ◌�
 ghost use Rattle.avro_nodes.specs.Nodes.{nodes_view, NodeView};
 ghost use Rattle.avro_resolve.specs.Asking.{AreReached, ContainsAsked};
 ghost use Rattle.avro_resolve.specs.Resolution.{Resolves};
-ghost use Rattle.avro_resolve.specs.Verdicts.{is_resolved};
+ghost use Rattle.avro_resolve.specs.Verdicts.{does_resolve};
 ghost use Rattle.avro_resolve.specs.Witnesses.{HasClosedSet, HasRefutation, Pair};
 
 use crate::elimination::largest_closed;
@@ -95,5 +95,5 @@ pub fn resolves_itself(schema: &Schema)
 
 /// A law of the rules: resolution can be computed, for any two lists of nodes.
 pub fn resolution_is_decided()
-    ensures { (w r : List NodeView) → IsTrue (is_resolved w r) ↔ Resolves w r }
+    ensures { (w r : List NodeView) → IsTrue (does_resolve w r) ↔ Resolves w r }
 {}

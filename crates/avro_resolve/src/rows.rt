@@ -6,7 +6,7 @@ ghost use Rattle.avro_nodes.specs.Nodes.{NodeView};
 ghost use Rattle.avro_resolve.specs.Inside.Referrers.{HasBranch};
 ghost use Rattle.avro_resolve.specs.Inside.Remaining.{remains, AreStillSupported, IsRemainder, IsAgreedRemainder, HasAgreedRemainder, IsRowStillSupported, IsStillSupported, Eliminates};
 ghost use Rattle.avro_resolve.specs.Inside.Rows.{IsWriterPlace};
-ghost use Rattle.avro_resolve.specs.Inside.Schemas.{columns, rows, IsSchemaPair};
+ghost use Rattle.avro_resolve.specs.Inside.Schemas.{columns, rows, IsValidSchemaPair};
 ghost use Rattle.avro_resolve.specs.Inside.Sources.{AreSources};
 ghost use Rattle.avro_resolve.specs.Resolution.{Supports};
 
@@ -61,7 +61,7 @@ pub fn eliminate_disagreeing(
     schemas: &SchemaPair,
     table: &mut Table,
 ) -> AllocResult<()>
-    requires schemas { IsSchemaPair schemas.now }
+    requires schemas { IsValidSchemaPair schemas.now }
     requires rest { IsRemainder (rows schemas.now) (columns schemas.now) table.old }
     ensures { OnOk result (IsAgreedRemainder (rows schemas.now) (columns schemas.now) table.new) }
 {

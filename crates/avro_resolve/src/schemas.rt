@@ -8,7 +8,7 @@ ghost use Rattle.avro_nodes.specs.Nodes.{field_view, node_view, texts_view, Node
 ghost use Rattle.avro_schema.specs.Index.{AreFieldsRanked, IsRanked};
 ghost use Rattle.avro_resolve.specs.Inside.Agreeing.{fields_of};
 ghost use Rattle.avro_resolve.specs.Inside.RankMaps.{mapped_rank, IsKnown};
-ghost use Rattle.avro_resolve.specs.Inside.Schemas.{names_of, nodes_of, IsIndexedSchema, IsSchemaPair};
+ghost use Rattle.avro_resolve.specs.Inside.Schemas.{names_of, nodes_of, IsValidIndexedSchema, IsValidSchemaPair};
 
 use crate::AllocResult;
 use avro_nodes::{Field, Node};
@@ -128,7 +128,7 @@ pub struct Fields<'a> {
 
 impl<'a> IndexedSchema<'a> {
     fn of(schema: &'a Schema) -> IndexedSchema<'a>
-        ensures indexed { IsIndexedSchema result }
+        ensures indexed { IsValidIndexedSchema result }
         ensures schema { result.schema.now ≡ schema.now }
     {
         let (_places, index) = (schema.places(), schema.index());
@@ -153,7 +153,7 @@ impl<'a> IndexedSchema<'a> {
 
     /// The ranks of the names of the node at a place.
     pub fn ranks(&self, place: u32) -> &Ranks
-        requires indexed { IsIndexedSchema self.now }
+        requires indexed { IsValidIndexedSchema self.now }
         requires within { place < length (nodes_of self.now) }
         ensures { (a : NodeView) → slice_get (nodes_of self.now) place ≡ Some a
             → IsRanked (names_of self.now) a result.now }
@@ -163,7 +163,7 @@ impl<'a> IndexedSchema<'a> {
 
     /// The fields of the node at a place, or none if it isn't a record.
     pub fn fields(&self, place: u32) -> Fields<'_>
-        requires indexed { IsIndexedSchema self.now }
+        requires indexed { IsValidIndexedSchema self.now }
         requires within { place < length self.now.schema.now }
         ensures are { (a : NodeView) → slice_get (nodes_of self.now) place ≡ Some a
             → map field_view result.fields.now ≡ fields_of a }
@@ -187,7 +187,7 @@ impl<'a> IndexedSchema<'a> {
 impl<'a> SchemaPair<'a> {
     /// Both schemas, with the map of their name ranks.
     pub fn of(alloc: Global, writer: &'a Schema, reader: &'a Schema) -> AllocResult<SchemaPair<'a>>
-        ensures schemas { IfOk result (λ s. IsSchemaPair s) }
+        ensures schemas { IfOk result (λ s. IsValidSchemaPair s) }
         ensures writer { IfOk result (λ s. s.writer.schema.now ≡ writer.now) }
         ensures reader { IfOk result (λ s. s.reader.schema.now ≡ reader.now) }
     {

@@ -34,7 +34,7 @@ impl WorkMeter {
     ghost use Rattle.avro_nodes.specs.Nodes.{NodeView};
     ghost use Rattle.avro_resolve.specs.Inside.Agreeing.{fields_of};
     ghost use Rattle.avro_resolve.specs.Inside.FieldSlots.{AreFieldSources};
-    ghost use Rattle.avro_resolve.specs.Inside.Schemas.{columns, rows, IsSchemaPair};
+    ghost use Rattle.avro_resolve.specs.Inside.Schemas.{columns, rows, IsValidSchemaPair};
 
     /// No work; the slots are allocated at the first record.
     pub fn none(alloc: Global) -> WorkMeter {
@@ -72,7 +72,7 @@ impl WorkMeter {
         i: u32,
         j: u32,
     ) -> AllocResult<Vec<Option<u16>>>
-        requires schemas { IsSchemaPair schemas.now }
+        requires schemas { IsValidSchemaPair schemas.now }
         requires i_in { i < length schemas.now.writer.schema.now }
         requires j_in { j < length schemas.now.reader.schema.now }
         ensures { IfOk result (λ v. (a b : NodeView) → slice_get (rows schemas.now) i ≡ Some a

@@ -2,51 +2,51 @@
 use Rattle.std.proofs.Common.{◌≡◌, refl, [], ◌∷◌, Some, None, codes}
 use Rattle.clap.proofs.OnLiterals.{clap_on_literals}
 use Rattle.reg_cli.specs.Line.{line}
-use Rattle.reg_cli.specs.Tasks.{to_run, to_print, to_check, to_list, to_migrate, to_audit, to_serve}
+use Rattle.reg_cli.specs.Tasks.{run_task, text_task, check_task, list_task, migrate_task, audit_task, serve_task}
 use Rattle.reg_cli.specs.declared.task.ListingKind.TheVariants.{Versions}
 
 -- `run`
-pub in_memory : line (codes "run" ∷ []) ≡ Some (to_run None)
+pub in_memory : line (codes "run" ∷ []) ≡ Some (run_task None)
 unfolding clap_on_literals
 in_memory = refl
 
 -- `run --db F`
-pub with_a_value : line (codes "run" ∷ codes "--db" ∷ codes "F" ∷ []) ≡ Some (to_run (Some (codes "F")))
+pub with_a_value : line (codes "run" ∷ codes "--db" ∷ codes "F" ∷ []) ≡ Some (run_task (Some (codes "F")))
 unfolding clap_on_literals
 with_a_value = refl
 
 -- `run --db=F`
-pub with_a_value_attached : line (codes "run" ∷ codes "--db=F" ∷ []) ≡ Some (to_run (Some (codes "F")))
+pub with_a_value_attached : line (codes "run" ∷ codes "--db=F" ∷ []) ≡ Some (run_task (Some (codes "F")))
 unfolding clap_on_literals
 with_a_value_attached = refl
 
 -- `serve --db F --port 8081`: the maximum number of connections
-pub without_connections : line (codes "serve" ∷ codes "--db" ∷ codes "F" ∷ codes "--port" ∷ codes "8081" ∷ []) ≡ Some (to_serve (codes "F") 8081 2147483647)
+pub without_connections : line (codes "serve" ∷ codes "--db" ∷ codes "F" ∷ codes "--port" ∷ codes "8081" ∷ []) ≡ Some (serve_task (codes "F") 8081 2147483647)
 unfolding clap_on_literals
 without_connections = refl
 
 -- `serve --connections=2 --port 1 --db F`: options in another order
-pub in_any_order : line (codes "serve" ∷ codes "--connections=2" ∷ codes "--port" ∷ codes "1" ∷ codes "--db" ∷ codes "F" ∷ []) ≡ Some (to_serve (codes "F") 1 2)
+pub in_any_order : line (codes "serve" ∷ codes "--connections=2" ∷ codes "--port" ∷ codes "1" ∷ codes "--db" ∷ codes "F" ∷ []) ≡ Some (serve_task (codes "F") 1 2)
 unfolding clap_on_literals
 in_any_order = refl
 
 -- `check --writer W --reader R`
-pub checked : line (codes "check" ∷ codes "--writer" ∷ codes "W" ∷ codes "--reader" ∷ codes "R" ∷ []) ≡ Some (to_check (codes "R") (codes "W"))
+pub checked : line (codes "check" ∷ codes "--writer" ∷ codes "W" ∷ codes "--reader" ∷ codes "R" ∷ []) ≡ Some (check_task (codes "R") (codes "W"))
 unfolding clap_on_literals
 checked = refl
 
 -- `text F`
-pub printed : line (codes "text" ∷ codes "F" ∷ []) ≡ Some (to_print (codes "F"))
+pub printed : line (codes "text" ∷ codes "F" ∷ []) ≡ Some (text_task (codes "F"))
 unfolding clap_on_literals
 printed = refl
 
 -- `list --db F versions`
-pub listed : line (codes "list" ∷ codes "--db" ∷ codes "F" ∷ codes "versions" ∷ []) ≡ Some (to_list (codes "F") Versions)
+pub listed : line (codes "list" ∷ codes "--db" ∷ codes "F" ∷ codes "versions" ∷ []) ≡ Some (list_task (codes "F") Versions)
 unfolding clap_on_literals
 listed = refl
 
 -- `migrate --db F`
-pub migrated : line (codes "migrate" ∷ codes "--db" ∷ codes "F" ∷ []) ≡ Some (to_migrate (codes "F"))
+pub migrated : line (codes "migrate" ∷ codes "--db" ∷ codes "F" ∷ []) ≡ Some (migrate_task (codes "F"))
 unfolding clap_on_literals
 migrated = refl
 
@@ -56,7 +56,7 @@ unfolding clap_on_literals
 migrate_nothing = refl
 
 -- `audit --db F`
-pub audited : line (codes "audit" ∷ codes "--db" ∷ codes "F" ∷ []) ≡ Some (to_audit (codes "F"))
+pub audited : line (codes "audit" ∷ codes "--db" ∷ codes "F" ∷ []) ≡ Some (audit_task (codes "F"))
 unfolding clap_on_literals
 audited = refl
 

@@ -3,7 +3,7 @@ use Rattle.std.specs.Prelude.{ℕ, List, [], ◌∷◌, codes, bytes_eq, Option,
 use Rattle.clap.specs.Words.{Kinds, Row, Text, fault_of, first_of, subcommand_of}
 use Rattle.reg_cli.specs.Commands.{max_connections, program}
 use Rattle.reg_cli.specs.Numbers.{number_in}
-use Rattle.reg_cli.specs.Tasks.{TaskView, to_run, to_print, to_check, to_list, to_migrate, to_audit, to_serve}
+use Rattle.reg_cli.specs.Tasks.{TaskView, run_task, text_task, check_task, list_task, migrate_task, audit_task, serve_task}
 use Rattle.reg_cli.specs.declared.task.ListingKind.{ListingKind}
 use Rattle.reg_cli.specs.declared.task.ListingKind.TheVariants.{Subjects, Versions, Schemas}
 
@@ -26,35 +26,35 @@ port_in rows = option_and_then (number_in 16) (first_of (codes "port") rows)
 
 -- `run [--db F]`
 abbrev pub run_in : List Row → Option TaskView
-run_in rows = Some (to_run (first_of (codes "db") rows))
+run_in rows = Some (run_task (first_of (codes "db") rows))
 
 -- `serve --db F --port N [--connections N]`
 abbrev pub serve_in : List Row → Option TaskView
 serve_in rows =
-    option_and_then (λ database. option_and_then (λ port. option_map (to_serve database port)
+    option_and_then (λ database. option_and_then (λ port. option_map (serve_task database port)
     (connections_in (first_of (codes "connections") rows))) (port_in rows)) (first_of (codes "db") rows)
 
 -- `check --reader F --writer F`
 abbrev pub check_in : List Row → Option TaskView
-check_in rows = option_and_then (λ reader. option_map (to_check reader) (first_of (codes "writer") rows)) (first_of (codes "reader") rows)
+check_in rows = option_and_then (λ reader. option_map (check_task reader) (first_of (codes "writer") rows)) (first_of (codes "reader") rows)
 
 -- `text F`
 abbrev pub text_in : List Row → Option TaskView
-text_in rows = option_map to_print (first_of (codes "F") rows)
+text_in rows = option_map text_task (first_of (codes "F") rows)
 
 -- `list --db F W`
 abbrev pub list_in : List Row → Option TaskView
 list_in rows =
-    option_and_then (λ database. option_map (to_list database)
+    option_and_then (λ database. option_map (list_task database)
     (option_and_then listing_in (first_of (codes "W") rows))) (first_of (codes "db") rows)
 
 -- `migrate --db F`
 abbrev pub migrate_in : List Row → Option TaskView
-migrate_in rows = option_map to_migrate (first_of (codes "db") rows)
+migrate_in rows = option_map migrate_task (first_of (codes "db") rows)
 
 -- `audit --db F`
 abbrev pub audit_in : List Row → Option TaskView
-audit_in rows = option_map to_audit (first_of (codes "db") rows)
+audit_in rows = option_map audit_task (first_of (codes "db") rows)
 
 -- the task of a subcommand with these values
 abbrev pub task_in : Text → List Row → Option TaskView

@@ -9,26 +9,27 @@ use Rattle.reg_cli.specs.declared.task.Task.TheVariants as task
 use Rattle.reg_cli.specs.declared.fault.LineFault.{LineFault}
 use Rattle.reg_cli.specs.declared.fault.LineFault.TheVariants.{Usage, OutOfMemory}
 
+-- A task of the program: one constructor for each subcommand, with the values of its arguments.
 pub data TaskView : Type 0 where
-  to_run : Option Text → TaskView
-  to_print : Text → TaskView
-  to_check : Text → Text → TaskView
-  to_list : Text → ListingKind → TaskView
-  to_migrate : Text → TaskView
-  to_audit : Text → TaskView
-  to_serve : Text → ℕ → ℕ → TaskView
+  run_task : Option Text → TaskView
+  text_task : Text → TaskView
+  check_task : Text → Text → TaskView
+  list_task : Text → ListingKind → TaskView
+  migrate_task : Text → TaskView
+  audit_task : Text → TaskView
+  serve_task : Text → ℕ → ℕ → TaskView
 
 abbrev pub job_view : Job → TaskView
-job_view (Run database) = to_run (option_map string_bytes database)
-job_view (TextJob file) = to_print (string_bytes file)
-job_view (Check reader writer) = to_check (string_bytes reader) (string_bytes writer)
-job_view (ListJob database kind) = to_list (string_bytes database) kind
-job_view (Migrate database) = to_migrate (string_bytes database)
-job_view (Audit database) = to_audit (string_bytes database)
+job_view (Run database) = run_task (option_map string_bytes database)
+job_view (TextJob file) = text_task (string_bytes file)
+job_view (Check reader writer) = check_task (string_bytes reader) (string_bytes writer)
+job_view (ListJob database kind) = list_task (string_bytes database) kind
+job_view (Migrate database) = migrate_task (string_bytes database)
+job_view (Audit database) = audit_task (string_bytes database)
 
 abbrev pub task_view : Task → TaskView
 task_view (task.Job job) = job_view job
-task_view (task.Server server) = to_serve (string_bytes server.database) server.port server.connections
+task_view (task.Server server) = serve_task (string_bytes server.database) server.port server.connections
 
 -- the fault is a usage error, not a failed allocation
 abbrev pub IsUsage : LineFault → Type 0

@@ -33,7 +33,7 @@ fn unknown_listing(alloc: Global, argument: &str) -> Result<LineFault, AllocErro
 }
 
 /// The task of `serve`.
-fn serve_task(alloc: Global, matches: &ArgMatches<'_>) -> Result<Task, LineFault>
+fn serve_in(alloc: Global, matches: &ArgMatches<'_>) -> Result<Task, LineFault>
     ensures { MatchResult result
         (λ task. serve_in (rows_of (found_of matches.now)) ≡ Some (task_view task))
         (λ fault. IsUsage fault → serve_in (rows_of (found_of matches.now)) ≡ None) }
@@ -58,7 +58,7 @@ fn serve_task(alloc: Global, matches: &ArgMatches<'_>) -> Result<Task, LineFault
 }
 
 /// The task of `check`.
-fn check_task(alloc: Global, matches: &ArgMatches<'_>) -> Result<Task, LineFault>
+fn check_in(alloc: Global, matches: &ArgMatches<'_>) -> Result<Task, LineFault>
     ensures { MatchResult result
         (λ task. check_in (rows_of (found_of matches.now)) ≡ Some (task_view task))
         (λ fault. IsUsage fault → check_in (rows_of (found_of matches.now)) ≡ None) }
@@ -76,7 +76,7 @@ fn check_task(alloc: Global, matches: &ArgMatches<'_>) -> Result<Task, LineFault
 }
 
 /// The task of `text`.
-fn text_task(alloc: Global, matches: &ArgMatches<'_>) -> Result<Task, LineFault>
+fn text_in(alloc: Global, matches: &ArgMatches<'_>) -> Result<Task, LineFault>
     ensures { MatchResult result
         (λ task. text_in (rows_of (found_of matches.now)) ≡ Some (task_view task))
         (λ fault. IsUsage fault → text_in (rows_of (found_of matches.now)) ≡ None) }
@@ -90,7 +90,7 @@ fn text_task(alloc: Global, matches: &ArgMatches<'_>) -> Result<Task, LineFault>
 }
 
 /// The task of `list`.
-fn list_task(alloc: Global, matches: &ArgMatches<'_>) -> Result<Task, LineFault>
+fn list_in(alloc: Global, matches: &ArgMatches<'_>) -> Result<Task, LineFault>
     ensures { MatchResult result
         (λ task. list_in (rows_of (found_of matches.now)) ≡ Some (task_view task))
         (λ fault. IsUsage fault → list_in (rows_of (found_of matches.now)) ≡ None) }
@@ -111,7 +111,7 @@ fn list_task(alloc: Global, matches: &ArgMatches<'_>) -> Result<Task, LineFault>
 }
 
 /// The task of `migrate`.
-fn migrate_task(alloc: Global, matches: &ArgMatches<'_>) -> Result<Task, LineFault>
+fn migrate_in(alloc: Global, matches: &ArgMatches<'_>) -> Result<Task, LineFault>
     ensures { MatchResult result
         (λ task. migrate_in (rows_of (found_of matches.now)) ≡ Some (task_view task))
         (λ fault. IsUsage fault → migrate_in (rows_of (found_of matches.now)) ≡ None) }
@@ -125,7 +125,7 @@ fn migrate_task(alloc: Global, matches: &ArgMatches<'_>) -> Result<Task, LineFau
 }
 
 /// The task of `audit`.
-fn audit_task(alloc: Global, matches: &ArgMatches<'_>) -> Result<Task, LineFault>
+fn audit_in(alloc: Global, matches: &ArgMatches<'_>) -> Result<Task, LineFault>
     ensures { MatchResult result
         (λ task. audit_in (rows_of (found_of matches.now)) ≡ Some (task_view task))
         (λ fault. IsUsage fault → audit_in (rows_of (found_of matches.now)) ≡ None) }
@@ -139,7 +139,7 @@ fn audit_task(alloc: Global, matches: &ArgMatches<'_>) -> Result<Task, LineFault
 }
 
 /// The task of a subcommand, from the values of its arguments.
-fn task_named(alloc: Global, name: &str, matches: &ArgMatches<'_>) -> Result<Task, LineFault>
+fn task_in(alloc: Global, name: &str, matches: &ArgMatches<'_>) -> Result<Task, LineFault>
     ensures { MatchResult result
         (λ task. task_in name.now (rows_of (found_of matches.now)) ≡ Some (task_view task))
         (λ fault. IsUsage fault → task_in name.now (rows_of (found_of matches.now)) ≡ None) }
@@ -148,12 +148,12 @@ fn task_named(alloc: Global, name: &str, matches: &ArgMatches<'_>) -> Result<Tas
         "run" => Ok(Task::Job(Job::Run {
             database: copy_of(alloc, value_of(matches, "db"))?,
         })),
-        "serve" => serve_task(alloc, matches),
-        "check" => check_task(alloc, matches),
-        "text" => text_task(alloc, matches),
-        "list" => list_task(alloc, matches),
-        "migrate" => migrate_task(alloc, matches),
-        "audit" => audit_task(alloc, matches),
+        "serve" => serve_in(alloc, matches),
+        "check" => check_in(alloc, matches),
+        "text" => text_in(alloc, matches),
+        "list" => list_in(alloc, matches),
+        "migrate" => migrate_in(alloc, matches),
+        "audit" => audit_in(alloc, matches),
         _ => Err(incomplete(alloc)?),
     }
 }
@@ -171,7 +171,7 @@ pub fn task_of(alloc: Global, arguments: &[String]) -> Result<Task, LineFault>
 {
     match program(alloc)?.try_get_matches_from(arguments) {
         Ok(matches) => match matches.subcommand() {
-            Some((name, inner)) => task_named(alloc, name, inner),
+            Some((name, inner)) => task_in(alloc, name, inner),
             None => Err(incomplete(alloc)?),
         },
         Err(error) => Err(fault_of(alloc, &error)),

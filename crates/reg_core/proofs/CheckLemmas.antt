@@ -16,7 +16,7 @@ use Rattle.reg_core.specs.Numbers.{parse_choice}
 use Rattle.reg_core.specs.ReadCommands.{found_row}
 use Rattle.reg_core.specs.RegisterCommands.{supported_schema, is_admitted_after, check_reply, verdict_reply, check_all_reply}
 use Rattle.reg_core.specs.Registry.{Registry, Row}
-use Rattle.reg_core.specs.Replies.{answer, fault}
+use Rattle.reg_core.specs.Replies.{success, fault}
 use Rattle.reg_core.specs.Rows.{rows_of, live_rows}
 use Rattle.reg_core.specs.Views.{IsDecisionInput, level_of_view, found_as_list}
 use Rattle.reg_core.proofs.ChosenRows.{All-found}
@@ -30,7 +30,7 @@ module _ (g : Registry) (subject text : List ℕ) (supported : Bool) (view : Vie
   check_all_none e = ap (λ (s : Option (List NodeView)). (g, check_all_reply g subject s)) (sym input.sent ∙ e)
 
   pub check_all_shown : (new : List NodeView) → schema ≡ Some new
-      → permitted_step g (CheckAll subject text supported) ≡ (g, answer (verdict_body (is_admitted_in_view view (level_of_view view) (live_rows view.rows.items) new)))
+      → permitted_step g (CheckAll subject text supported) ≡ (g, success (verdict_body (is_admitted_in_view view (level_of_view view) (live_rows view.rows.items) new)))
   unfolding permitted_step
   check_all_shown new e =
       let levels = input.shows.levels refl in
@@ -64,7 +64,7 @@ module _ (g : Registry) (subject version text : List ℕ) (supported : Bool) (vi
           check_chosen (Some new) e ∙ ap (λ (found : Result Row Code). (g, verdict_reply g subject new found)) (found_is (Err code) is)
 
       pub check_shown : (row : Row) → Ok row ≡ found_row (Some choice) (live_rows view.rows.items)
-          → permitted_step g (Check subject version text supported) ≡ (g, answer (verdict_body (is_admitted_in_view view (level_of_view view) (row ∷ []) new)))
+          → permitted_step g (Check subject version text supported) ≡ (g, success (verdict_body (is_admitted_in_view view (level_of_view view) (row ∷ []) new)))
       check_shown row is =
           let levels = input.shows.levels refl in
           let has : HasSchema g.schemas row =

@@ -12,7 +12,7 @@ use Rattle.reg_core.specs.DeletionCommands.{row_to_delete, with_deleted, without
 use Rattle.reg_core.specs.Bodies.{number_body}
 use Rattle.reg_core.specs.Machine.{permitted_step}
 use Rattle.reg_core.specs.Numbers.{parse_choice}
-use Rattle.reg_core.specs.Replies.{ReplyView, answer, fault}
+use Rattle.reg_core.specs.Replies.{ReplyView, success, fault}
 use Rattle.reg_core.specs.Registry.{Registry, Row}
 use Rattle.reg_core.specs.Rows.{rows_of, shown_rows, live_rows}
 use Rattle.reg_core.specs.Views.{after_changes, IsDecisionInput}
@@ -37,17 +37,17 @@ module _ (g : Registry) (subject version : List ℕ) (permanent : Bool) (view : 
 
   -- else a single change deletes the version, and the reply has its number
   pub version_gone : (row : Row) → Ok row ≡ row_to_delete permanent (parse_choice version) view.rows.items
-      → permitted_step g (DeleteVersion subject version permanent) ≡ (after_changes (version_change permanent subject row.0.1 ∷ []) g, answer (number_body row.0.1))
+      → permitted_step g (DeleteVersion subject version permanent) ≡ (after_changes (version_change permanent subject row.0.1 ∷ []) g, success (number_body row.0.1))
   unfolding permitted_step
   version_gone row is = by permanent (is ∙ input.shows.rows)
     where
-      by : (b : Bool) → Ok row ≡ row_to_delete b (parse_choice version) (rows_of g subject) → delete_version g subject (parse_choice version) b ≡ (after_changes (version_change b subject row.0.1 ∷ []) g, answer (number_body row.0.1))
+      by : (b : Bool) → Ok row ≡ row_to_delete b (parse_choice version) (rows_of g subject) → delete_version g subject (parse_choice version) b ≡ (after_changes (version_change b subject row.0.1 ∷ []) g, success (number_body row.0.1))
       by false e =
           let its = All-row_to_soft_delete (λ (r : Row). r.0.0 ≡ subject) (parse_choice version) (rows_of g subject) row (rows_of-subject g subject) (sym e) in
-          ap (version_deleted with_deleted g) (sym e) ∙ ap (λ (after : Registry). (after, answer (number_body row.0.1))) (sym (deleted_as g subject row its (row_to_soft_delete-got g subject (parse_choice version) row (sym e))))
+          ap (version_deleted with_deleted g) (sym e) ∙ ap (λ (after : Registry). (after, success (number_body row.0.1))) (sym (deleted_as g subject row its (row_to_soft_delete-got g subject (parse_choice version) row (sym e))))
       by true e =
           let its = All-row_to_remove (λ (r : Row). r.0.0 ≡ subject) (parse_choice version) (rows_of g subject) row (rows_of-subject g subject) (sym e) in
-          ap (version_deleted without_row g) (sym e) ∙ ap (λ (after : Registry). (after, answer (number_body row.0.1))) (sym (removed_as g subject row its))
+          ap (version_deleted without_row g) (sym e) ∙ ap (λ (after : Registry). (after, success (number_body row.0.1))) (sym (removed_as g subject row its))
 
 module _ (g : Registry) (subject : List ℕ) (permanent : Bool) (view : View) (schema : Option (List NodeView)) (input : IsDecisionInput g (DeleteSubject subject permanent) schema view) where
   abbrev goes : Bool → List Row → List Row → Registry × ReplyView

@@ -9,7 +9,7 @@ use Rattle.reg_core.specs.declared.code.Code.TheVariants.{InvalidLevel, KeyReuse
 use Rattle.reg_core.specs.declared.command.Command.TheVariants.{SetGlobal, SetLevel, Global, LevelOf}
 use Rattle.reg_core.specs.Levels.{level_of}
 use Rattle.reg_core.specs.Codes.{status_of, fault_body}
-use Rattle.reg_core.specs.Replies.{answer, fault}
+use Rattle.reg_core.specs.Replies.{success, fault}
 use Rattle.reg_core.specs.Registry.{Registry, new_registry}
 use Rattle.reg_core.specs.Machine.{step, permitted_step, run_commands}
 use Rattle.reg_core.specs.CommandTexts.{command_text}
@@ -32,7 +32,7 @@ key_reused_length : length (fault_body KeyReused) ≡ 71
 unfolding fault_body digits
 key_reused_length = refl
 
-full_is_set : step new_registry (SetGlobal (codes "FULL")) ≡ (record new_registry { global = Full }, answer (codes "{\"compatibility\":\"FULL\"}"))
+full_is_set : step new_registry (SetGlobal (codes "FULL")) ≡ (record new_registry { global = Full }, success (codes "{\"compatibility\":\"FULL\"}"))
 unfolding step permitted_step serde_json_on_literals
 full_is_set = refl
 
@@ -40,7 +40,7 @@ other_text_is_refused : step new_registry (SetGlobal (codes "Full")) ≡ (new_re
 unfolding step permitted_step
 other_text_is_refused = refl
 
-new_level : (step new_registry Global).1 ≡ answer (codes "{\"compatibilityLevel\":\"BACKWARD\"}")
+new_level : (step new_registry Global).1 ≡ success (codes "{\"compatibilityLevel\":\"BACKWARD\"}")
 unfolding step permitted_step serde_json_on_literals
 new_level = refl
 
@@ -55,11 +55,11 @@ set_global_text = refl
 forward_of_s : Registry
 forward_of_s = (step new_registry (SetLevel (codes "s") (codes "FORWARD"))).0
 
-own_level_is_answered : (step new_registry (SetLevel (codes "s") (codes "FORWARD"))).1 ≡ answer (codes "{\"compatibility\":\"FORWARD\"}")
+own_level_is_answered : (step new_registry (SetLevel (codes "s") (codes "FORWARD"))).1 ≡ success (codes "{\"compatibility\":\"FORWARD\"}")
 unfolding step permitted_step serde_json_on_literals
 own_level_is_answered = refl
 
-own_level_is_shown : (step forward_of_s (LevelOf (codes "s") false)).1 ≡ answer (codes "{\"compatibilityLevel\":\"FORWARD\"}")
+own_level_is_shown : (step forward_of_s (LevelOf (codes "s") false)).1 ≡ success (codes "{\"compatibilityLevel\":\"FORWARD\"}")
 unfolding forward_of_s step permitted_step serde_json_on_literals
 own_level_is_shown = refl
 
@@ -67,11 +67,11 @@ other_subject_has_none : (step forward_of_s (LevelOf (codes "t") false)).1 ≡ f
 unfolding forward_of_s step permitted_step
 other_subject_has_none = refl
 
-global_level_is_shown : (step forward_of_s (LevelOf (codes "t") true)).1 ≡ answer (codes "{\"compatibilityLevel\":\"BACKWARD\"}")
+global_level_is_shown : (step forward_of_s (LevelOf (codes "t") true)).1 ≡ success (codes "{\"compatibilityLevel\":\"BACKWARD\"}")
 unfolding forward_of_s step permitted_step serde_json_on_literals
 global_level_is_shown = refl
 
-own_level_is_no_global_one : (step forward_of_s Global).1 ≡ answer (codes "{\"compatibilityLevel\":\"BACKWARD\"}")
+own_level_is_no_global_one : (step forward_of_s Global).1 ≡ success (codes "{\"compatibilityLevel\":\"BACKWARD\"}")
 unfolding forward_of_s step permitted_step serde_json_on_literals
 own_level_is_no_global_one = refl
 

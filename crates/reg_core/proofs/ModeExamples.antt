@@ -6,7 +6,7 @@ use Rattle.reg_core.specs.declared.code.Code.TheVariants.{InvalidMode, NoOwnMode
 use Rattle.reg_core.specs.declared.command.Command.TheVariants.{SetGlobal, SetLevel, Register, DeleteVersion, DeleteSubject, SetGlobalMode, SetMode, GlobalMode, ModeOf}
 use Rattle.reg_core.specs.declared.mode.Mode.TheVariants.{Readonly}
 use Rattle.reg_core.specs.Modes.{mode_of}
-use Rattle.reg_core.specs.Replies.{answer, fault}
+use Rattle.reg_core.specs.Replies.{success, fault}
 use Rattle.reg_core.specs.Registry.{Registry, new_registry}
 use Rattle.reg_core.specs.Machine.{step, permitted_step}
 
@@ -17,11 +17,11 @@ import_is_no_mode = refl
 read_only : Registry
 read_only = record new_registry { global_mode = Readonly }
 
-mode_is_set : step new_registry (SetGlobalMode (codes "READONLY")) ≡ (read_only, answer (codes "{\"mode\":\"READONLY\"}"))
+mode_is_set : step new_registry (SetGlobalMode (codes "READONLY")) ≡ (read_only, success (codes "{\"mode\":\"READONLY\"}"))
 unfolding read_only step permitted_step serde_json_on_literals
 mode_is_set = refl
 
-mode_is_shown : (step read_only GlobalMode).1 ≡ answer (codes "{\"mode\":\"READONLY\"}")
+mode_is_shown : (step read_only GlobalMode).1 ≡ success (codes "{\"mode\":\"READONLY\"}")
 unfolding read_only step permitted_step serde_json_on_literals
 mode_is_shown = refl
 
@@ -54,7 +54,7 @@ subject_stays = refl
 writable_s : Registry
 writable_s = (step read_only (SetMode (codes "s") (codes "READWRITE"))).0
 
-s_may_be_written : (step writable_s (SetLevel (codes "s") (codes "FULL"))).1 ≡ answer (codes "{\"compatibility\":\"FULL\"}")
+s_may_be_written : (step writable_s (SetLevel (codes "s") (codes "FULL"))).1 ≡ success (codes "{\"compatibility\":\"FULL\"}")
 unfolding read_only writable_s step permitted_step serde_json_on_literals
 s_may_be_written = refl
 
@@ -70,10 +70,10 @@ t_has_none : (step writable_s (ModeOf (codes "t") false)).1 ≡ fault NoOwnMode
 unfolding read_only writable_s step permitted_step
 t_has_none = refl
 
-t_has_the_global_one : (step writable_s (ModeOf (codes "t") true)).1 ≡ answer (codes "{\"mode\":\"READONLY\"}")
+t_has_the_global_one : (step writable_s (ModeOf (codes "t") true)).1 ≡ success (codes "{\"mode\":\"READONLY\"}")
 unfolding read_only writable_s step permitted_step serde_json_on_literals
 t_has_the_global_one = refl
 
-s_has_its_own : (step writable_s (ModeOf (codes "s") false)).1 ≡ answer (codes "{\"mode\":\"READWRITE\"}")
+s_has_its_own : (step writable_s (ModeOf (codes "s") false)).1 ≡ success (codes "{\"mode\":\"READWRITE\"}")
 unfolding read_only writable_s step permitted_step serde_json_on_literals
 s_has_its_own = refl

@@ -13,7 +13,7 @@ use Rattle.reg_core.specs.declared.number.VersionChoice.{VersionChoice}
 use Rattle.reg_core.specs.declared.code.Code.{Code}
 use Rattle.reg_core.specs.declared.code.Code.TheVariants.{KeyReused, SubjectNotFound, SubjectSoftDeleted, SubjectNotSoftDeleted, VersionSoftDeleted, VersionNotSoftDeleted, VersionNotFound, SchemaNotFound, InvalidSchema, InvalidVersion, InvalidLevel, InvalidMode, NotPermitted, NoNumberLeft}
 use Rattle.reg_core.specs.Codes.{fault_body}
-use Rattle.reg_core.specs.Replies.{ReplyView, IsKeptStatus, answer, fault, IsCommandReply}
+use Rattle.reg_core.specs.Replies.{ReplyView, IsKeptStatus, success, fault, IsCommandReply}
 use Rattle.reg_core.specs.Registry.{Registry, Row}
 use Rattle.reg_core.specs.Rows.{live_rows, chosen_row}
 use Rattle.reg_core.specs.Settings.{Setting, level_setting, mode_setting, set}
@@ -25,8 +25,8 @@ use Rattle.reg_core.specs.DeletionCommands.{require_live, require_deleted, found
 other_status : (m n : ReplyView) → m.status ≢ n.status → m ≢ n
 other_status m n ne e = ne (ap (λ (t : ReplyView). t.status) e)
 
-pub answer-IsCommandReply : (body : List ℕ) → IsCommandReply (answer body)
-answer-IsCommandReply body = record {
+pub success-IsCommandReply : (body : List ℕ) → IsCommandReply (success body)
+success-IsCommandReply body = record {
   kept = refl;
   no_reused_key = other_status _ _ (eqb-false 200 422 refl);
 }
@@ -80,7 +80,7 @@ no_number_left-IsCommandReply = unprocessable NoNumberLeft 18 refl (eqb-false 50
 
 pub set-IsCommandReply : {A : Type 0} (s : Setting A) → IsCommandReply (fault s.unknown) → (g : Registry) (subject : Option (List ℕ)) (o : Option A) → IsCommandReply (set s g subject o).1
 set-IsCommandReply s unknown g subject None = unknown
-set-IsCommandReply s unknown g subject (Some value) = answer-IsCommandReply _
+set-IsCommandReply s unknown g subject (Some value) = success-IsCommandReply _
 
 pub set_level-IsCommandReply : (g : Registry) (subject : Option (List ℕ)) (o : Option Level) → IsCommandReply (set level_setting g subject o).1
 set_level-IsCommandReply = set-IsCommandReply level_setting invalid_level-IsCommandReply
@@ -90,7 +90,7 @@ set_mode-IsCommandReply = set-IsCommandReply mode_setting invalid_mode-IsCommand
 
 pub text_reply-IsCommandReply : (body : List ℕ → List ℕ) (text : Option (List ℕ)) → IsCommandReply (text_reply body text)
 text_reply-IsCommandReply body None = schema_not_found-IsCommandReply
-text_reply-IsCommandReply body (Some text) = answer-IsCommandReply _
+text_reply-IsCommandReply body (Some text) = success-IsCommandReply _
 
 -- the code of a missing version gives a command reply
 abbrev pub HasOwnFault : Result Row Code → Type 0
@@ -126,7 +126,7 @@ id_reply-IsCommandReply texts (Some id) (row ∷ rows) = text_reply-IsCommandRep
 pub id_versions_reply-IsCommandReply : (id : Option ℕ) (deleted : Bool) (rows : List Row) → IsCommandReply (id_versions_reply id deleted rows)
 id_versions_reply-IsCommandReply None deleted rows = schema_not_found-IsCommandReply
 id_versions_reply-IsCommandReply (Some id) deleted [] = schema_not_found-IsCommandReply
-id_versions_reply-IsCommandReply (Some id) deleted (row ∷ rows) = answer-IsCommandReply _
+id_versions_reply-IsCommandReply (Some id) deleted (row ∷ rows) = success-IsCommandReply _
 
 pub lookup_reply-IsCommandReply : (texts : Texts) (schema : Option (List NodeView)) (known : Option ℕ) (rows : List Row) → IsCommandReply (lookup_reply texts schema known rows)
 lookup_reply-IsCommandReply texts None known rows = invalid_schema-IsCommandReply

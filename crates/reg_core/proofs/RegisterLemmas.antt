@@ -20,7 +20,7 @@ use Rattle.reg_core.specs.Inside.Evidence.{UpdateEvidence}
 use Rattle.reg_core.specs.Inside.Registering.{id_among, id_by_view, has_numbers_by_view, row_by_view, evidence_by_view, version_added}
 use Rattle.reg_core.specs.RegisterCommands.{supported_schema, register, registered, is_among, is_admitted_after, id_for, has_numbers_left, schemas_with, level_in, with_version}
 use Rattle.reg_core.specs.Registry.{Registry, Row, Schemas, max_number}
-use Rattle.reg_core.specs.Replies.{answer, fault}
+use Rattle.reg_core.specs.Replies.{success, fault}
 use Rattle.reg_core.specs.Rows.{rows_of, live_rows, next_number, id_of, known_id, schemas_of}
 use Rattle.reg_core.specs.Views.{IsDecisionInput, IsNewEvidence, ChangesFit, after_changes, level_of_view}
 use Rattle.reg_core.proofs.IdLemmas.{id_of-schema, schema_within}
@@ -136,7 +136,7 @@ module _ (g : Registry) (subject text : List ℕ) (supported : Bool) (view : Vie
         let same = among in
         ap (register g subject) (sym input.sent ∙ e) ∙ (rw (same, known, levels.0, levels.1) refl)
 
-    pub register_known : (id : ℕ) → Some id ≡ id_among view.known live → permitted_step g (Register subject text supported) ≡ (g, answer (id_body id))
+    pub register_known : (id : ℕ) → Some id ≡ id_among view.known live → permitted_step g (Register subject text supported) ≡ (g, success (id_body id))
     register_known id among =
         let parts = if_some (is_among view.known live) view.known id (sym among) in
         let known : id_of g.schemas (identity new) ≡ Some id = sym known_shown ∙ parts.1 in
@@ -170,7 +170,7 @@ module _ (g : Registry) (subject text : List ℕ) (supported : Bool) (view : Vie
       pub register_full : has_numbers_by_view view ≡ false → permitted_step g (Register subject text supported) ≡ (g, fault NoNumberLeft)
       register_full full = let left = numbers_are ∙ full in register_as ∙ (rw (unknown, verdict, left) refl)
 
-      pub register_added : has_numbers_by_view view ≡ true → permitted_step g (Register subject text supported) ≡ (with_version g subject new, answer (id_body (id_by_view view)))
+      pub register_added : has_numbers_by_view view ≡ true → permitted_step g (Register subject text supported) ≡ (with_version g subject new, success (id_body (id_by_view view)))
       register_added shown =
           let left = numbers_are ∙ shown in
           let id = id_is in

@@ -4,7 +4,7 @@ use Rattle.std.specs.Prelude.{Decides, IsTrue, ◌↔◌}
 use Rattle.std.specs.List.{list_all}
 use Rattle.std.proofs.lemmas.Bool.Decides.{Decides-and, Decides-by_and}
 use Rattle.avro_nodes.specs.Nodes.{NodeView}
-use Rattle.avro_resolve.specs.Verdicts.{is_resolved}
+use Rattle.avro_resolve.specs.Verdicts.{does_resolve}
 use Rattle.avro_resolve.proofs.VerdictLemmas.{resolves_decided}
 use Rattle.reg_core.specs.declared.level.Level.{Level}
 use Rattle.reg_core.specs.declared.level.Level.TheVariants.{Backward, BackwardTransitive, Forward, ForwardTransitive, Full, FullTransitive, Off}
@@ -16,8 +16,8 @@ compatible_decides Backward earlier new = resolves_decided earlier new
 compatible_decides BackwardTransitive earlier new = resolves_decided earlier new
 compatible_decides Forward earlier new = resolves_decided new earlier
 compatible_decides ForwardTransitive earlier new = resolves_decided new earlier
-compatible_decides Full earlier new = Decides-and (is_resolved earlier new) (is_resolved new earlier) (resolves_decided earlier new) (resolves_decided new earlier)
-compatible_decides FullTransitive earlier new = Decides-and (is_resolved earlier new) (is_resolved new earlier) (resolves_decided earlier new) (resolves_decided new earlier)
+compatible_decides Full earlier new = Decides-and (does_resolve earlier new) (does_resolve new earlier) (resolves_decided earlier new) (resolves_decided new earlier)
+compatible_decides FullTransitive earlier new = Decides-and (does_resolve earlier new) (does_resolve new earlier) (resolves_decided earlier new) (resolves_decided new earlier)
 compatible_decides Off earlier new = (λ h. tt, λ h. refl)
 
 pub admits_decided : (level : Level) (live : List (List NodeView)) (new : List NodeView) → IsTrue (is_admitted level live new) ↔ Admits level live new

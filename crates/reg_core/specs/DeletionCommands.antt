@@ -9,7 +9,7 @@ use Rattle.reg_core.specs.declared.code.Code.TheVariants.{InvalidVersion, Subjec
 use Rattle.reg_core.specs.declared.number.VersionChoice.{VersionChoice}
 use Rattle.reg_core.specs.declared.number.VersionChoice.TheVariants.{Latest, Numbered}
 use Rattle.reg_core.specs.Registry.{Registry, Row, RowKey, Version, own_without}
-use Rattle.reg_core.specs.Replies.{ReplyView, answer, fault}
+use Rattle.reg_core.specs.Replies.{ReplyView, success, fault}
 use Rattle.reg_core.specs.Rows.{rows_of, live_rows, chosen_row}
 use Rattle.reg_core.specs.ReadCommands.{found_row}
 use Rattle.reg_core.specs.Bodies.{number_body, numbers_body}
@@ -62,7 +62,7 @@ without_row g row = record g { rows = remove g.rows row.0 }
 -- changes the found version, and replies with its number; else replies with the code
 abbrev pub version_deleted : (Registry → Row → Registry) → Registry → Result Row Code → Registry × ReplyView
 version_deleted change g (Err code) = (g, fault code)
-version_deleted change g (Ok row) = (change g row, answer (number_body row.0.1))
+version_deleted change g (Ok row) = (change g row, success (number_body row.0.1))
 
 -- Schema Registry API reference, DELETE /subjects/{subject}/versions/{version}: removes a soft-deleted version with `permanent`, and soft-deletes a
 -- version without it
@@ -87,7 +87,7 @@ without_subject g subject = record g { rows = retain_keys g.rows (λ (key : RowK
 
 -- the reply with the numbers of these versions
 abbrev pub numbers_reply : List Row → ReplyView
-numbers_reply rows = answer (numbers_body (map (λ (row : Row). row.0.1) rows))
+numbers_reply rows = success (numbers_body (map (λ (row : Row). row.0.1) rows))
 
 -- Schema Registry API reference, DELETE /subjects/{subject}, by the subject's versions and its live ones: the reply has the numbers of the live ones.
 -- (This project's choice: if none is live, 40404.)

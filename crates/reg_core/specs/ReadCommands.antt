@@ -8,23 +8,23 @@ use Rattle.reg_core.specs.declared.code.Code.{Code}
 use Rattle.reg_core.specs.declared.code.Code.TheVariants.{InvalidSchema, InvalidVersion, SubjectNotFound, VersionNotFound, SchemaNotFound}
 use Rattle.reg_core.specs.declared.number.VersionChoice.{VersionChoice}
 use Rattle.reg_core.specs.Registry.{Row}
-use Rattle.reg_core.specs.Replies.{ReplyView, answer, fault}
+use Rattle.reg_core.specs.Replies.{ReplyView, success, fault}
 use Rattle.reg_core.specs.Rows.{rows_with, shown_rows, chosen_row}
 use Rattle.reg_core.specs.Bodies.{texts_body, numbers_body, subject_versions_body, version_body, schema_body}
 
 -- Schema Registry API reference, GET /schemas/types: only Avro
 abbrev pub types_reply : ReplyView
-types_reply = answer (texts_body (codes "AVRO" ∷ []))
+types_reply = success (texts_body (codes "AVRO" ∷ []))
 
 -- Schema Registry API reference, GET /subjects: the subjects of these versions, each once, in the order of their bytes
 abbrev pub subjects_reply : List Row → ReplyView
-subjects_reply rows = answer (texts_body (dedup bytes_eq (map (λ (row : Row). row.0.0) rows)))
+subjects_reply rows = success (texts_body (dedup bytes_eq (map (λ (row : Row). row.0.0) rows)))
 
 -- Schema Registry API reference, GET /subjects/{subject}/versions: the numbers of these versions. (This project's choice: no list is empty. A subject
 -- that shows no version is rejected with 40401.)
 abbrev pub versions_reply : List Row → ReplyView
 versions_reply [] = fault SubjectNotFound
-versions_reply (row ∷ rows) = answer (numbers_body (map (λ (r : Row). r.0.1) (row ∷ rows)))
+versions_reply (row ∷ rows) = success (numbers_body (map (λ (r : Row). r.0.1) (row ∷ rows)))
 
 -- Schema Registry API reference, Subjects: the chosen one of these versions, or the code of the refusal
 abbrev pub found_row : Option VersionChoice → List Row → Result Row Code
@@ -39,7 +39,7 @@ Texts = ℕ → Option (List ℕ)
 -- the reply that shows an identity text, or a fault if there is none (a registry has one for each version's id)
 abbrev pub text_reply : (List ℕ → List ℕ) → Option (List ℕ) → ReplyView
 text_reply body None = fault SchemaNotFound
-text_reply body (Some text) = answer (body text)
+text_reply body (Some text) = success (body text)
 
 -- Schema Registry API reference, GET /subjects/{subject}/versions/{version}: a version with its schema's text, by the texts of ids
 abbrev pub version_reply : Texts → Result Row Code → ReplyView
@@ -62,7 +62,7 @@ id_reply texts (Some id) (row ∷ rows) = text_reply schema_body (texts id)
 abbrev pub id_versions_reply : Option ℕ → Bool → List Row → ReplyView
 id_versions_reply None deleted rows = fault SchemaNotFound
 id_versions_reply (Some id) deleted [] = fault SchemaNotFound
-id_versions_reply (Some id) deleted (row ∷ rows) = answer (subject_versions_body (shown_rows deleted (row ∷ rows)))
+id_versions_reply (Some id) deleted (row ∷ rows) = success (subject_versions_body (shown_rows deleted (row ∷ rows)))
 
 -- the versions with this id; none if there is no id
 abbrev pub rows_with_id : Option ℕ → List Row → List Row

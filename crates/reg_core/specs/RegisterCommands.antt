@@ -10,7 +10,7 @@ use Rattle.reg_core.specs.declared.code.Code.{Code}
 use Rattle.reg_core.specs.declared.code.Code.TheVariants.{InvalidSchema, InvalidVersion, Incompatible, NoNumberLeft}
 use Rattle.reg_core.specs.declared.number.VersionChoice.{VersionChoice}
 use Rattle.reg_core.specs.Registry.{Registry, Row, Schemas, max_number}
-use Rattle.reg_core.specs.Replies.{ReplyView, answer, fault}
+use Rattle.reg_core.specs.Replies.{ReplyView, success, fault}
 use Rattle.reg_core.specs.Rows.{rows_of, live_rows, next_number, id_of, schemas_of}
 use Rattle.reg_core.specs.ReadCommands.{rows_with_id, found_row}
 use Rattle.reg_core.specs.Bodies.{id_body, verdict_body}
@@ -55,10 +55,10 @@ pub record RegisterTests : Type 0 where
 -- Schema Registry API reference, POST /subjects/{subject}/versions: the registry and the reply, by the first test that decides
 abbrev pub registered : Registry → List ℕ → List NodeView → RegisterTests → Registry × ReplyView
 registered g subject new tests =
-    if tests.is_already_live then (g, answer (id_body (id_for g.schemas new))) else
+    if tests.is_already_live then (g, success (id_body (id_for g.schemas new))) else
     if not tests.admitted then (g, fault Incompatible) else
     if not tests.has_numbers_left then (g, fault NoNumberLeft) else
-    (with_version g subject new, answer (id_body (id_for g.schemas new)))
+    (with_version g subject new, success (id_body (id_for g.schemas new)))
 
 -- whether one of the versions has the id; no if there is no id
 abbrev pub is_among : Option ℕ → List Row → Bool
@@ -84,12 +84,12 @@ register g subject (Some new) =
 -- Schema Registry API reference, POST /compatibility/subjects/{subject}/versions: whether the level would admit the schema
 abbrev pub check_all_reply : Registry → List ℕ → Option (List NodeView) → ReplyView
 check_all_reply g subject None = fault InvalidSchema
-check_all_reply g subject (Some new) = answer (verdict_body (is_admitted_after g.schemas (level_in g subject) (live_rows (rows_of g subject)) new))
+check_all_reply g subject (Some new) = success (verdict_body (is_admitted_after g.schemas (level_in g subject) (live_rows (rows_of g subject)) new))
 
 -- the verdict on one version, or the code if there is no such version
 abbrev pub verdict_reply : Registry → List ℕ → List NodeView → Result Row Code → ReplyView
 verdict_reply g subject new (Err code) = fault code
-verdict_reply g subject new (Ok row) = answer (verdict_body (is_admitted_after g.schemas (level_in g subject) (row ∷ []) new))
+verdict_reply g subject new (Ok row) = success (verdict_body (is_admitted_after g.schemas (level_in g subject) (row ∷ []) new))
 
 -- Schema Registry API reference, POST /compatibility/subjects/{subject}/versions/{version}: by the subject's level, against only that live version
 abbrev pub check_reply : Registry → List ℕ → Option VersionChoice → Option (List NodeView) → ReplyView

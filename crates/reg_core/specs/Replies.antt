@@ -27,8 +27,8 @@ abbrev pub IsKeptStatus : ℕ → Type 0
 IsKeptStatus n = IsTrue (list_any (λ status. n == status) kept_statuses)
 
 -- RFC 9110, section 15.3.1: the reply to a command that succeeds
-abbrev pub answer : List ℕ → ReplyView
-answer body = record { status = 200; body = body }
+abbrev pub success : List ℕ → ReplyView
+success body = record { status = 200; body = body }
 
 -- Schema Registry API reference, errors: the reply for a code
 abbrev pub fault : Code → ReplyView

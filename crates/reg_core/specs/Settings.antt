@@ -9,7 +9,7 @@ use Rattle.reg_core.specs.declared.code.Code.{Code}
 use Rattle.reg_core.specs.declared.code.Code.TheVariants.{InvalidLevel, NoOwnLevel, InvalidMode, NoOwnMode}
 use Rattle.reg_core.specs.Levels.{level_of, level_text}
 use Rattle.reg_core.specs.Modes.{mode_of, mode_text}
-use Rattle.reg_core.specs.Replies.{ReplyView, answer, fault}
+use Rattle.reg_core.specs.Replies.{ReplyView, success, fault}
 use Rattle.reg_core.specs.Registry.{Registry, own_with}
 
 -- Schema Registry API reference, Config and Mode: a kind of setting, levels or modes. `text_of` and `value_of` relate values and their spellings.
@@ -31,11 +31,11 @@ setting_object name text = compact_text (object (member name (string text) no_me
 -- Schema Registry API reference, PUT /config and PUT /config/{subject}: sets the value and replies with it; rejects a text that spells no value
 abbrev pub set : {A : Type 0} → Setting A → Registry → Option (List ℕ) → Option A → Registry × ReplyView
 set s g subject None = (g, fault s.unknown)
-set s g subject (Some value) = (s.put g subject value, answer (setting_object s.member_in_put (s.text_of value)))
+set s g subject (Some value) = (s.put g subject value, success (setting_object s.member_in_put (s.text_of value)))
 
 -- Schema Registry API reference, GET /config: the reply that shows the value
-abbrev pub setting_answer : {A : Type 0} → Setting A → A → ReplyView
-setting_answer s value = answer (setting_object s.member_in_get (s.text_of value))
+abbrev pub setting_reply : {A : Type 0} → Setting A → A → ReplyView
+setting_reply s value = success (setting_object s.member_in_get (s.text_of value))
 
 -- Schema Registry API reference, GET /config/{subject}: the subject's own value; if it has none, the global one with `defaultToGlobal`, else `None`
 abbrev pub own_or_global : {A : Type 0} → Option A → A → Bool → Option A
@@ -44,7 +44,7 @@ own_or_global own global default_to_global = option_or own (if default_to_global
 -- Schema Registry API reference, GET /config/{subject}: the reply that shows the value, or a fault if there is none
 abbrev pub shown_reply : {A : Type 0} → Setting A → Option A → ReplyView
 shown_reply s None = fault s.absent
-shown_reply s (Some value) = setting_answer s value
+shown_reply s (Some value) = setting_reply s value
 
 -- ---- levels
 

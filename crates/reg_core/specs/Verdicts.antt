@@ -2,19 +2,19 @@
 use Rattle.std.specs.Prelude.{Bool, true, ◌&&◌, List}
 use Rattle.std.specs.List.{list_all}
 use Rattle.avro_nodes.specs.Nodes.{NodeView}
-use Rattle.avro_resolve.specs.Verdicts.{is_resolved}
+use Rattle.avro_resolve.specs.Verdicts.{does_resolve}
 use Rattle.reg_core.specs.declared.level.Level.{Level}
 use Rattle.reg_core.specs.declared.level.Level.TheVariants.{Backward, BackwardTransitive, Forward, ForwardTransitive, Full, FullTransitive, Off}
 use Rattle.reg_core.specs.Compatibility.{named_versions}
 
 -- `Compatible` as a test
 abbrev pub is_compatible : Level → List NodeView → List NodeView → Bool
-is_compatible Backward earlier new = is_resolved earlier new
-is_compatible BackwardTransitive earlier new = is_resolved earlier new
-is_compatible Forward earlier new = is_resolved new earlier
-is_compatible ForwardTransitive earlier new = is_resolved new earlier
-is_compatible Full earlier new = is_resolved earlier new && is_resolved new earlier
-is_compatible FullTransitive earlier new = is_resolved earlier new && is_resolved new earlier
+is_compatible Backward earlier new = does_resolve earlier new
+is_compatible BackwardTransitive earlier new = does_resolve earlier new
+is_compatible Forward earlier new = does_resolve new earlier
+is_compatible ForwardTransitive earlier new = does_resolve new earlier
+is_compatible Full earlier new = does_resolve earlier new && does_resolve new earlier
+is_compatible FullTransitive earlier new = does_resolve earlier new && does_resolve new earlier
 is_compatible Off earlier new = true
 
 -- `Admits` as a test

@@ -16,7 +16,7 @@ use crate::decision::reading::{
     by_id, lookup, subjects, types, version, version_text, versions, versions_of_id,
 };
 use crate::decision::registering::{check, check_all, register};
-use crate::decision::settings::{own_or_global, set, setting_answer, shown_reply};
+use crate::decision::settings::{own_or_global, set, setting_reply, shown_reply};
 use crate::evidence::Evidence;
 use crate::level::Level;
 use crate::mode::Mode;
@@ -220,7 +220,7 @@ fn reply_to_read(
     ensures own { IfOk result (λ reply. IsCommandReply reply) }
 {
     match command {
-        Command::Global => setting_answer(alloc, view.global),
+        Command::Global => setting_reply(alloc, view.global),
         Command::LevelOf {
             default_to_global,
             ..
@@ -248,7 +248,7 @@ fn reply_to_read(
         Command::Types => types(alloc),
         Command::Check { version, .. } => check(alloc, view, version.as_str(), schema, cache),
         Command::CheckAll { .. } => check_all(alloc, view, schema, cache),
-        Command::GlobalMode => setting_answer(alloc, view.global_mode),
+        Command::GlobalMode => setting_reply(alloc, view.global_mode),
         Command::ModeOf {
             default_to_global,
             ..

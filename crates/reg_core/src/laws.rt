@@ -9,7 +9,7 @@ ghost use Rattle.reg_core.specs.Evidence.{EvidenceMap, IsEvidenceAfter, IsTrueEv
 /// A law of the abstract machine: each command preserves the invariant of a registry. Texts denote
 /// its schemas, no two schemas have the same identity text, ids and version numbers are within
 /// their limits, and each version has a schema.
-pub fn registries_stay_registries()
+pub fn commands_preserve_invariant()
     ensures { (g : Registry) (command : Command) → IsRegistry g → IsRegistry (step g command).0 }
 {}
 

@@ -1,7 +1,7 @@
 //! The replies of the registry.
 
 ghost use Rattle.std.specs.Prelude.{◌≡◌, SomeIff, IfOk, string_bytes};
-ghost use Rattle.reg_core.specs.Replies.{IsStatus, answer, fault};
+ghost use Rattle.reg_core.specs.Replies.{IsStatus, success, fault};
 
 use crate::code::Code;
 use avro_nodes::OutOfMemory;
@@ -57,8 +57,8 @@ impl Reply {
     }
 
     /// The reply to a command that succeeds: status 200 with this body.
-    pub(crate) fn answer(body: String) -> Reply
-        ensures { result ≡ answer (string_bytes body) }
+    pub(crate) fn success(body: String) -> Reply
+        ensures { result ≡ success (string_bytes body) }
     {
         Reply {
             content: Content::Written { status: 200, body },

@@ -54,10 +54,14 @@ IsVersionRow row = FitsVersions (string_bytes row.0) row.1
 
 -- ---- levels
 
--- Schema Registry API reference, Config: a valid subject, and the name of one of the seven levels
+-- Schema Registry API reference, Config: the text is the name of one of the seven levels
+abbrev pub IsLevelName : List ℕ → Type 0
+IsLevelName text = IsTrue (is_some (level_of text))
+
+-- a valid subject, and the name of a level
 pub record FitsLevels (subject_text level_text : List ℕ) : Type 0 where
   pub subject : IsTrue (is_subject subject_text)
-  pub level : IsTrue (is_some (level_of level_text))
+  pub level : IsLevelName level_text
 
 abbrev pub IsLevelRow : Text × Text → Type 0
 IsLevelRow row = FitsLevels (string_bytes row.0) (string_bytes row.1)
@@ -83,10 +87,6 @@ abbrev pub IsModeRow : Text × Text → Type 0
 IsModeRow row = FitsModes (string_bytes row.0) (string_bytes row.1)
 
 -- ---- evidence, and the ids that a version was checked against
-
--- the text is the name of one of the seven levels
-abbrev pub IsLevelName : List ℕ → Type 0
-IsLevelName text = IsTrue (is_some (level_of text))
 
 -- the third column is the name of a level; subject and number are free, and the table enforces that the version exists
 abbrev pub IsEvidenceRow : Text × ℕ × Text → Type 0

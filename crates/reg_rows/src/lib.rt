@@ -12,6 +12,6 @@ mod texts;
 pub use meta::{is_layout_one_meta, is_layout_two_meta, layout_of};
 pub use positions::are_contiguous;
 pub use reg_core::OutOfMemory;
-pub use rows::{fits_evidence, fits_kept, fits_levels, fits_modes, fits_versions};
+pub use rows::{fits_kept, fits_levels, fits_modes, fits_versions, is_level_name};
 pub use tables::{Tables, spells};
 pub use texts::{are_ids, are_texts, is_identity};

@@ -33,12 +33,19 @@ pub(crate) fn are_version_rows(rows: &[(String, u32, u32, bool)]) -> bool
     true
 }
 
+/// Whether the text is the name of one of the seven levels.
+pub fn is_level_name(text: &str) -> bool
+    ensures { IsTrue result ↔ IsLevelName text.now }
+{
+    Level::parse(text).is_some()
+}
+
 /// Whether a row of `levels` may have these values: a valid subject, and the name of one of the
 /// seven levels.
 pub fn fits_levels(subject: &str, level: &str) -> bool
     ensures { IsTrue result ↔ FitsLevels subject.now level.now }
 {
-    is_subject(subject) && Level::parse(level).is_some()
+    is_subject(subject) && is_level_name(level)
 }
 
 fn is_level_row(row: &(String, String)) -> bool
@@ -121,17 +128,10 @@ pub(crate) fn are_mode_rows(rows: &[(String, String)]) -> bool
     true
 }
 
-/// Whether a row of `evidence` may have this level: the name of one of the seven levels.
-pub fn fits_evidence(level: &str) -> bool
-    ensures { IsTrue result ↔ IsLevelName level.now }
-{
-    Level::parse(level).is_some()
-}
-
 fn is_evidence_row(row: &(String, u32, String)) -> bool
     ensures { IsTrue result ↔ IsEvidenceRow row.now }
 {
-    fits_evidence(row.2.as_str())
+    is_level_name(row.2.as_str())
 }
 
 /// Whether each row of `evidence` has a valid level.

@@ -11,7 +11,7 @@ use Rattle.reg_core.specs.declared.command.Command.TheVariants.{SetGlobal, SetLe
 use Rattle.reg_core.specs.CommandTexts.{command_text}
 use Rattle.reg_core.specs.Machine.{subject_of, step}
 use Rattle.reg_core.specs.Registry.{Registry, RowKey, Version}
-use Rattle.reg_core.specs.Replies.{ReplyView, fault, answer}
+use Rattle.reg_core.specs.Replies.{ReplyView, fault, success}
 use Rattle.reg_core.proofs.CommandTextLemmas.{command_text-injective}
 use Rattle.reg_core.specs.declared.delivery.Delivery.{Delivery}
 use Rattle.reg_core.specs.KeptReplies.{nothing_kept}
@@ -38,7 +38,7 @@ abbrev keyless : Command → Delivery
 keyless command = record { key = None; command = command }
 
 abbrev done : ReplyView
-done = answer (codes "{\"compatibility\":\"FULL\"}")
+done = success (codes "{\"compatibility\":\"FULL\"}")
 
 -- a retry isn't a first delivery
 repeat_is_not_first : firsts nothing_kept ((keyed (codes "k1") full, done) ∷ (keyed (codes "k1") full, done) ∷ []) ≡ full ∷ []
@@ -108,8 +108,8 @@ old_one_is_admitted_by g c old new key before after (mid, becomes, same) was the
     ap (λ (e : EvidenceMap). get e key) same ∙ becomes key ∙ (λ i. kept_or_new (was i) (there i) (get old key) (next_evidence g key.0))
 
 -- an acknowledged exchange is preserved: no delivery was in progress then
-answered_stays : {S : Type 0} {g : Ghosts S} (old new : Service S g) (was : Stored) (d : Delivery) (body : List ℕ) → RecoversAcknowledged old new was ((d, answer body) ∷ [])
-    → (db : Trees) → (state_in new).may_leave db → RecoversExchanges was ((d, answer body) ∷ []) db
+answered_stays : {S : Type 0} {g : Ghosts S} (old new : Service S g) (was : Stored) (d : Delivery) (body : List ℕ) → RecoversAcknowledged old new was ((d, success body) ∷ [])
+    → (db : Trees) → (state_in new).may_leave db → RecoversExchanges was ((d, success body) ∷ []) db
 answered_stays old new was d body (inl leaves) db it = leaves db it
 answered_stays old new was d body (inr u) db it = absurd (none u.at.before u.at.split)
   where
@@ -117,6 +117,6 @@ answered_stays old new was d body (inr u) db it = absurd (none u.at.before u.at.
     no_more [] x after e = absurd (cc)
     no_more (b ∷ before) x after e = absurd (cc)
 
-    none : (before : List Exchange) → (d, answer body) ∷ [] ≡ before ++ u.at.exchange ∷ u.at.after → ⊥
-    none [] e = let nothing : (d, answer body) ∷ [] ≡ [] = ap served e ∙ u.at.unserved in absurd (cc)
+    none : (before : List Exchange) → (d, success body) ∷ [] ≡ before ++ u.at.exchange ∷ u.at.after → ⊥
+    none [] e = let nothing : (d, success body) ∷ [] ≡ [] = ap served e ∙ u.at.unserved in absurd (cc)
     none (b ∷ before) e = let rest : [] ≡ before ++ u.at.exchange ∷ u.at.after = cc in no_more before u.at.exchange u.at.after rest

@@ -1,2 +1,2 @@
-pub mod Totals
+pub mod TextBytes
 pub mod OfTexts

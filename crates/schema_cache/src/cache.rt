@@ -69,14 +69,14 @@ impl SchemaCache {
     }
 
     /// Returns the number of cached schemas, and the bytes of their texts.
-    pub fn sizes(&self) -> (usize, usize)
+    pub fn len_and_bytes(&self) -> (usize, usize)
         ensures schemas { result.0 ≡ length self.now }
         ensures bytes { result.1 ≡ text_bytes self.now }
         ensures few { result.0 ≤ max_entries }
         ensures small { result.1 ≤ max_text_bytes }
     {
         match &self.lru_entries {
-            Some(lru_entries) => lru_entries.sizes(),
+            Some(lru_entries) => lru_entries.len_and_bytes(),
             None => (0, 0),
         }
     }

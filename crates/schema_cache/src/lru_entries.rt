@@ -61,7 +61,7 @@ impl LruEntries {
     }
 
     /// Returns the number of entries, and the bytes of their texts.
-    pub fn sizes(&self) -> (usize, usize)
+    pub fn len_and_bytes(&self) -> (usize, usize)
         ensures entries { result.0 ≡ length self.now }
         ensures bytes { result.1 ≡ text_bytes self.now }
         ensures few { result.0 ≤ max_entries }

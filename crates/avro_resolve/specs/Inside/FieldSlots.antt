@@ -7,23 +7,23 @@ use Rattle.avro_resolve.specs.declared.schemas.Fields.{Fields}
 use Rattle.avro_resolve.specs.declared.schemas.SchemaPair.{SchemaPair}
 use Rattle.avro_resolve.specs.Asking.{source_place}
 use Rattle.avro_resolve.specs.Inside.RankMaps.{mapped_rank}
-use Rattle.avro_resolve.specs.Inside.Schemas.{names_of, IsSchemaPair}
+use Rattle.avro_resolve.specs.Inside.Schemas.{names_of, IsValidSchemaPair}
 
 -- the name ranks of fields
 abbrev pub names_in : List FieldRanks → List ℕ
 names_in fields = map (λ f. f.name) fields
 
--- the name of the field at the index has this rank of the reader's
-abbrev pub HasName : List (Option ℕ) → List ℕ → ℕ → ℕ → Type 0
-HasName rank_map names k rank = (name : ℕ) × (slice_get names k ≡ Some name) × (mapped_rank rank_map name ≡ Some rank)
+-- the name of the field at the index has this rank in the reader's schema
+abbrev pub HasRank : List (Option ℕ) → List ℕ → ℕ → ℕ → Type 0
+HasRank rank_map names k rank = (name : ℕ) × (slice_get names k ≡ Some name) × (mapped_rank rank_map name ≡ Some rank)
 
 -- it is the first such field at or after an index
 abbrev pub IsFirst : List (Option ℕ) → List ℕ → ℕ → ℕ → ℕ → Type 0
-IsFirst rank_map names n k rank = HasName rank_map names k rank × ((j : ℕ) → n ≤ j → j < k → HasName rank_map names j rank → ⊥)
+IsFirst rank_map names n k rank = HasRank rank_map names k rank × ((j : ℕ) → n ≤ j → j < k → HasRank rank_map names j rank → ⊥)
 
 -- no field has a name of this rank
 abbrev pub NoField : List (Option ℕ) → List ℕ → ℕ → Type 0
-NoField rank_map names rank = (k : ℕ) → HasName rank_map names k rank → ⊥
+NoField rank_map names rank = (k : ℕ) → HasRank rank_map names k rank → ⊥
 
 -- the content of the slot of a rank
 abbrev pub slot : List (Option ℕ) → ℕ → Option ℕ
@@ -32,11 +32,11 @@ slot slots rank = get_or slots rank None
 -- the slots have the fields from an index on, the first of each name, and nothing else
 pub record AreInSlots (rank_map : List (Option ℕ)) (names : List ℕ) (n : ℕ) (slots : List (Option ℕ)) : Type 0 where
   pub found : (rank k : ℕ) → slot slots rank ≡ Some k → (n ≤ k) × IsFirst rank_map names n k rank
-  pub none : (rank k : ℕ) → rank < length slots → slot slots rank ≡ None → n ≤ k → HasName rank_map names k rank → ⊥
+  pub none : (rank k : ℕ) → rank < length slots → slot slots rank ≡ None → n ≤ k → HasRank rank_map names k rank → ⊥
 
 -- with two schemas: the slots, one for each of the reader's names, have the fields of a writer's place
 pub record AreFieldsInSlots (schemas : SchemaPair) (fields : Fields) (slots : List (Option ℕ)) : Type 0 where
-  pub both : IsSchemaPair schemas
+  pub both : IsValidSchemaPair schemas
   pub ranked : AreFieldsRanked (names_of schemas.writer) (map field_view fields.fields.now) fields.ranks.now
   pub in_slots : AreInSlots schemas.rank_map.ranks.items (names_in fields.ranks.now) 0 slots
   pub room : length (names_of schemas.reader) ≤ length slots

@@ -6,7 +6,7 @@ use Rattle.avro_resolve.specs.declared.schemas.SchemaPair.{SchemaPair}
 use Rattle.avro_resolve.specs.declared.table.Table.{Table}
 use Rattle.avro_resolve.specs.Resolution.{Pairs, Supports}
 use Rattle.avro_resolve.specs.Inside.Agreeing.{Agree}
-use Rattle.avro_resolve.specs.Inside.Schemas.{columns, rows, IsSchemaPair}
+use Rattle.avro_resolve.specs.Inside.Schemas.{columns, rows, IsValidSchemaPair}
 use Rattle.avro_resolve.specs.Witnesses.{Pair, member, without, RefutesAfter, AreDistinct}
 
 -- the flag of a pair, in a list of flags row by row
@@ -92,7 +92,7 @@ DependsOn w r i j p q = (R : Pairs) → R p q ≡ false → Supports w r R i j �
 
 -- the two schemas are valid, and the nodes of each remaining pair agree
 abbrev pub HasAgreedRemainder : SchemaPair → Progress → Type 0
-HasAgreedRemainder schemas p = IsSchemaPair schemas × IsAgreedRemainder (rows schemas) (columns schemas) p.table
+HasAgreedRemainder schemas p = IsValidSchemaPair schemas × IsAgreedRemainder (rows schemas) (columns schemas) p.table
 
 -- the same, and the popped pair is eliminated
 abbrev pub IsPopped : SchemaPair → Progress → Pair → Type 0

@@ -9,7 +9,7 @@ use Rattle.avro_resolve.specs.declared.table.Table.{Table}
 use Rattle.avro_resolve.specs.Asking.{source_place}
 use Rattle.avro_resolve.specs.Inside.Agreeing.{fields_of}
 use Rattle.avro_resolve.specs.Inside.FieldSlots.{AreFieldsInSlots}
-use Rattle.avro_resolve.specs.Inside.Schemas.{columns, names_of, rows, IsSchemaPair}
+use Rattle.avro_resolve.specs.Inside.Schemas.{columns, names_of, rows, IsValidSchemaPair}
 use Rattle.avro_resolve.specs.Inside.Sources.{Describes, IsSourceEntry, IsReaderField}
 
 -- the fields of the place
@@ -27,7 +27,7 @@ pub record IsWriterPlace (schemas : SchemaPair) (row : WriterPlace) : Type 0 whe
 
 -- the pair of the writer's place and the reader's place j is one of the table's, for these two schemas
 pub record IsPairInTable (schemas : SchemaPair) (row : WriterPlace) (table : Table) (j : ℕ) : Type 0 where
-  pub both : IsSchemaPair schemas
+  pub both : IsValidSchemaPair schemas
   pub is : IsWriterPlace schemas row
   pub writers : table.writers ≡ length schemas.writer.schema.now
   pub readers : table.readers ≡ length schemas.reader.schema.now

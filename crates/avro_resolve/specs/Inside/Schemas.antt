@@ -18,7 +18,7 @@ abbrev pub names_of : IndexedSchema → List (List ℕ)
 names_of indexed = texts_view indexed.index.now.names.items
 
 -- each reference is to a node, the index is that of the nodes, a place plus 1 fits 16 bits, and each field of a record is its own source
-pub record IsIndexedSchema (indexed : IndexedSchema) : Type 0 where
+pub record IsValidIndexedSchema (indexed : IndexedSchema) : Type 0 where
   pub whole : IsSelfContained (nodes_of indexed)
   pub index : IsIndex (nodes_of indexed) indexed.index.now
   pub few : length indexed.schema.now < 65536
@@ -32,8 +32,8 @@ abbrev pub columns : SchemaPair → List NodeView
 columns schemas = nodes_of schemas.reader
 
 -- both schemas are valid, and their name ranks are mapped
-pub record IsSchemaPair (schemas : SchemaPair) : Type 0 where
-  pub writer : IsIndexedSchema schemas.writer
-  pub reader : IsIndexedSchema schemas.reader
+pub record IsValidSchemaPair (schemas : SchemaPair) : Type 0 where
+  pub writer : IsValidIndexedSchema schemas.writer
+  pub reader : IsValidIndexedSchema schemas.reader
   pub rank_map : AreMapped (names_of schemas.writer) (names_of schemas.reader) schemas.rank_map.ranks.items
   pub known : IsKnown schemas.rank_map.ranks.items schemas.rank_map.known.items

@@ -8,7 +8,7 @@ use Rattle.avro_resolve.specs.declared.recursion.Answer.{Answer}
 use Rattle.avro_resolve.specs.declared.recursion.Answer.TheVariants.{Yes, No, Unfinished}
 use Rattle.avro_resolve.specs.Resolution.{Supports, Resolves}
 use Rattle.avro_resolve.specs.Inside.Places.{IsSelfContained}
-use Rattle.avro_resolve.specs.Inside.Schemas.{columns, rows, IsSchemaPair}
+use Rattle.avro_resolve.specs.Inside.Schemas.{columns, rows, IsValidSchemaPair}
 use Rattle.avro_resolve.specs.Witnesses.{Pair, member, RefutesAfter, AreDistinct, HasClosedSet, HasRefutation}
 use Rattle.avro_resolve.specs.Inside.PairSets.{has}
 use Rattle.avro_resolve.specs.Asking.{ContainsAsked}
@@ -61,7 +61,7 @@ IsReady w r depth s = CanContinue w r depth s.assumed.items s.failed.items s.ass
 
 -- the same for the nodes of two schemas
 abbrev pub MayContinue : SchemaPair → ℕ → Walk → Type 0
-MayContinue schemas depth s = IsSchemaPair schemas × IsReady (rows schemas) (columns schemas) depth s
+MayContinue schemas depth s = IsValidSchemaPair schemas × IsReady (rows schemas) (columns schemas) depth s
 
 -- From a state with these assumed and failed pairs: yes proves the first property, no the second. Unfinished comes only after a thousand visits.
 abbrev pub AnswerHolds : List NodeView → List NodeView → ℕ → List Pair → List Pair → Walk → Type 0 → Type 0 → Answer → Type 0

@@ -75,7 +75,7 @@ fn check_reads(
         assert_eq!(rt; read.as_str(), said, "{id}");
         assert_eq!(rt; is_kept, kept, "{id}");
     }
-    assert_eq!(rt; cache.sizes(), (schemas, bytes), "{first}");
+    assert_eq!(rt; cache.len_and_bytes(), (schemas, bytes), "{first}");
     Ok(())
 }
 

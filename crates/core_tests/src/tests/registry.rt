@@ -110,7 +110,7 @@ fn compared_schemas_are_cached(rt: HostRuntime) -> Result<(), Fail> {
     for _ in 0..2 {
         let decision = decided_with(rt.alloc(), &view, &mut cache)?;
         check_decision(&rt, &decision, 409, INCOMPATIBLE, 0);
-        assert_eq!(rt; cache.sizes(), (1, 8));
+        assert_eq!(rt; cache.len_and_bytes(), (1, 8));
     }
     Ok(())
 }

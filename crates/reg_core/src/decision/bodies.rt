@@ -4,7 +4,7 @@ ghost use Rattle.std.specs.Prelude.{◌≡◌, IfOk, false, map};
 ghost use Rattle.serde_json.specs.View.{view};
 ghost use Rattle.serde_json.specs.Written.{compact_text, has_float};
 ghost use Rattle.reg_core.specs.Bodies.{number_body, numbers_body, subject_version_data, subject_versions_body, schema_body, texts_body, version_body};
-ghost use Rattle.reg_core.specs.Replies.{answer};
+ghost use Rattle.reg_core.specs.Replies.{success};
 
 use crate::decision::quoting::quoted;
 use crate::reply::Reply;
@@ -16,19 +16,19 @@ use std::alloc::Global;
 
 /// The reply with a schema: an object with its identity text.
 pub fn schema_reply(alloc: Global, text: &str) -> Result<Reply, OutOfMemory>
-    ensures { IfOk result (λ reply. reply ≡ answer (schema_body text.now)) }
+    ensures { IfOk result (λ reply. reply ≡ success (schema_body text.now)) }
 {
     let schema = quoted(alloc, text)?;
     let mut body = String::with_capacity(alloc, schema.len() + 11)?;
     body.push_str("{\"schema\":")?;
     body.push_str(schema.as_str())?;
     body.push_str("}")?;
-    Ok(Reply::answer(body))
+    Ok(Reply::success(body))
 }
 
 /// The reply with a version and the identity text of its schema.
 pub fn version_reply(alloc: Global, row: &Row, text: &str) -> Result<Reply, OutOfMemory>
-    ensures { IfOk result (λ reply. reply ≡ answer (version_body row.now text.now)) }
+    ensures { IfOk result (λ reply. reply ≡ success (version_body row.now text.now)) }
 {
     let schema = quoted(alloc, text)?;
     let subject = quoted(alloc, row.subject().as_str())?;
@@ -44,12 +44,12 @@ pub fn version_reply(alloc: Global, row: &Row, text: &str) -> Result<Reply, OutO
     body.push_str(",\"version\":")?;
     body.push_str(version.format(row.version()))?;
     body.push_str("}")?;
-    Ok(Reply::answer(body))
+    Ok(Reply::success(body))
 }
 
 /// The reply with an array of texts.
 pub fn texts_reply(alloc: Global, texts: &[&str]) -> Result<Reply, OutOfMemory>
-    ensures { IfOk result (λ reply. reply ≡ answer (texts_body (map (λ text. text.now) texts.now))) }
+    ensures { IfOk result (λ reply. reply ≡ success (texts_body (map (λ text. text.now) texts.now))) }
 {
     let mut values = Vec::new(alloc);
     for text in texts {
@@ -60,14 +60,14 @@ pub fn texts_reply(alloc: Global, texts: &[&str]) -> Result<Reply, OutOfMemory>
 
 /// The reply with a number.
 pub fn number_reply(alloc: Global, number: u32) -> Result<Reply, OutOfMemory>
-    ensures { IfOk result (λ reply. reply ≡ answer (number_body number)) }
+    ensures { IfOk result (λ reply. reply ≡ success (number_body number)) }
 {
     value_reply(alloc, Value::from(number))
 }
 
 /// The reply with an array of the versions' numbers.
 pub fn numbers_reply(alloc: Global, rows: &[&Row]) -> Result<Reply, OutOfMemory>
-    ensures { IfOk result (λ reply. reply ≡ answer
+    ensures { IfOk result (λ reply. reply ≡ success
         (numbers_body (map (λ row. row.0.1) (map (λ row. row.now) rows.now)))) }
 {
     let mut values = Vec::new(alloc);
@@ -79,7 +79,7 @@ pub fn numbers_reply(alloc: Global, rows: &[&Row]) -> Result<Reply, OutOfMemory>
 
 /// The reply with an array of the versions' subjects and numbers.
 pub fn subject_versions_reply(alloc: Global, rows: &[&Row]) -> Result<Reply, OutOfMemory>
-    ensures { IfOk result (λ reply. reply ≡ answer (subject_versions_body (map (λ row. row.now) rows.now))) }
+    ensures { IfOk result (λ reply. reply ≡ success (subject_versions_body (map (λ row. row.now) rows.now))) }
 {
     let mut values = Vec::new(alloc);
     for row in rows {
@@ -100,7 +100,7 @@ fn subject_version(alloc: Global, row: &Row) -> Result<Value, OutOfMemory>
 /// The reply with the JSON value. The clause excludes values with floats.
 fn value_reply(alloc: Global, value: Value) -> Result<Reply, OutOfMemory>
     ensures { IfOk result (λ reply. has_float (view value) ≡ false
-        → reply ≡ answer (compact_text (view value))) }
+        → reply ≡ success (compact_text (view value))) }
 {
-    Ok(Reply::answer(value.to_string(alloc)?))
+    Ok(Reply::success(value.to_string(alloc)?))
 }

@@ -97,7 +97,7 @@ fn read_earlier<'a>(
 /// # Errors
 ///
 /// `OutOfMemory` if an allocation for a schema or a comparison fails.
-pub fn admits_after(
+pub fn is_admitted_in_view(
     alloc: Global,
     view: &View,
     level: Level,

@@ -10,7 +10,7 @@ ghost use Rattle.reg_core.specs.Inside.Deleting.{own_settings_dropped, subject_r
 ghost use Rattle.reg_core.specs.Inside.Evidence.{AddNoVersion};
 ghost use Rattle.reg_core.specs.Machine.{permitted_step};
 ghost use Rattle.reg_core.specs.Registry.{Registry};
-ghost use Rattle.reg_core.specs.Replies.{IsCommandReply, answer};
+ghost use Rattle.reg_core.specs.Replies.{IsCommandReply, success};
 ghost use Rattle.reg_core.specs.Rows.{live_rows};
 ghost use Rattle.reg_core.specs.Views.{ChangesFit, IsDecisionInput, after_changes};
 
@@ -111,7 +111,7 @@ fn delete_one(
     version: u32,
     permanent: bool,
 ) -> Result<Decision, OutOfMemory>
-    ensures reply { IfOk result (λ decision. decision.reply ≡ answer (number_body version)) }
+    ensures reply { IfOk result (λ decision. decision.reply ≡ success (number_body version)) }
     ensures changes { IfOk result (λ decision. decision.changes.items ≡ version_change permanent subject.now version ∷ []) }
 {
     let reply = number_reply(alloc, version)?;

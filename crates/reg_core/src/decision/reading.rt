@@ -197,7 +197,7 @@ fn shown_text(view: &View, id: u32) -> Result<Reply, OutOfMemory>
     ensures { IfOk result (λ reply. reply ≡ text_reply (λ text. text) (view_text view.now id)) }
 {
     match view.texts.get(&id) {
-        Some(text) => Ok(Reply::answer(text.clone()?)),
+        Some(text) => Ok(Reply::success(text.clone()?)),
         None => Ok(Reply::fault(Code::SchemaNotFound)),
     }
 }

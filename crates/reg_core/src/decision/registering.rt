@@ -8,13 +8,13 @@ ghost use Rattle.reg_core.specs.Machine.{permitted_step};
 ghost use Rattle.reg_core.specs.Inside.Evidence.{UpdateEvidence};
 ghost use Rattle.reg_core.specs.Inside.Registering.{evidence_by_view, has_numbers_by_view, id_among, id_by_view, row_by_view, version_added};
 ghost use Rattle.reg_core.specs.Registry.{Registry};
-ghost use Rattle.reg_core.specs.Replies.{IsCommandReply, answer};
+ghost use Rattle.reg_core.specs.Replies.{IsCommandReply, success};
 ghost use Rattle.reg_core.specs.Rows.{next_number};
 ghost use Rattle.reg_core.specs.Views.{ChangesFit, IsDecisionInput, after_changes, level_of_view};
 
 use crate::code::Code;
 use crate::compatibility::named;
-use crate::decision::comparing::admits_after;
+use crate::decision::comparing::is_admitted_in_view;
 use crate::decision::needs::ids_of;
 use crate::decision::rows::{found_row, shown_rows};
 use crate::decision::{Change, Decision, View, unchanged};
@@ -63,7 +63,7 @@ pub fn register(
         let reply = id_reply(alloc, id)?;
         return Ok(unchanged(alloc, reply));
     }
-    if !admits_after(alloc, view, level_in_force(view), &live, new, cache)? {
+    if !is_admitted_in_view(alloc, view, level_in_force(view), &live, new, cache)? {
         return Ok(unchanged(alloc, Reply::fault(Code::Incompatible)));
     }
     let Some(row) = next_row(view, subject)? else {
@@ -91,7 +91,7 @@ pub fn check_all(
         return Ok(Reply::fault(Code::InvalidSchema));
     };
     let live = shown_rows(alloc, false, &view.rows)?;
-    let compatible = admits_after(alloc, view, level_in_force(view), &live, new, cache)?;
+    let compatible = is_admitted_in_view(alloc, view, level_in_force(view), &live, new, cache)?;
     verdict_reply(alloc, compatible)
 }
 
@@ -118,7 +118,14 @@ pub fn check(
     let live = shown_rows(alloc, false, &view.rows)?;
     match found_row(Some(choice), &live) {
         Ok(row) => {
-            let compatible = admits_after(alloc, view, level_in_force(view), &[row], new, cache)?;
+            let compatible = is_admitted_in_view(
+                alloc,
+                view,
+                level_in_force(view),
+                &[row],
+                new,
+                cache,
+            )?;
             verdict_reply(alloc, compatible)
         }
         Err(code) => Ok(Reply::fault(code)),
@@ -203,16 +210,16 @@ fn version_added(
 
 /// The reply with the id of a schema.
 fn id_reply(alloc: Global, id: u32) -> Result<Reply, OutOfMemory>
-    ensures { IfOk result (λ reply. reply ≡ answer (id_body id)) }
+    ensures { IfOk result (λ reply. reply ≡ success (id_body id)) }
 {
     let object = json!(in alloc; {"id": id})?;
-    Ok(Reply::answer(object.to_string(alloc)?))
+    Ok(Reply::success(object.to_string(alloc)?))
 }
 
 /// The reply with a verdict.
 fn verdict_reply(alloc: Global, compatible: bool) -> Result<Reply, OutOfMemory>
-    ensures { IfOk result (λ reply. reply ≡ answer (verdict_body compatible)) }
+    ensures { IfOk result (λ reply. reply ≡ success (verdict_body compatible)) }
 {
     let object = json!(in alloc; {"is_compatible": compatible})?;
-    Ok(Reply::answer(object.to_string(alloc)?))
+    Ok(Reply::success(object.to_string(alloc)?))
 }

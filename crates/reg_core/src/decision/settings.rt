@@ -3,8 +3,8 @@
 ghost use Rattle.std.specs.Prelude.{◌≡◌, ◌≢◌, [], IfOk, Option, None, Some, option_copied};
 ghost use Rattle.reg_core.specs.Inside.Evidence.{AddNoVersion};
 ghost use Rattle.reg_core.specs.Registry.{Registry};
-ghost use Rattle.reg_core.specs.Replies.{answer};
-ghost use Rattle.reg_core.specs.Settings.{set, setting_object, setting_answer, shown_reply, own_or_global};
+ghost use Rattle.reg_core.specs.Replies.{success};
+ghost use Rattle.reg_core.specs.Settings.{set, setting_object, setting_reply, shown_reply, own_or_global};
 ghost use Rattle.reg_core.specs.Views.{ChangesFit, after_changes};
 
 use crate::code::Code;
@@ -159,7 +159,7 @@ pub fn set<S: Setting>(
     let Some(value) = S::read(text) else {
         return Ok(unchanged(alloc, Reply::fault(S::unknown())));
     };
-    let reply = setting_reply(alloc, S::member_in_put(), value.spelt())?;
+    let reply = setting_object_reply(alloc, S::member_in_put(), value.spelt())?;
     let change = value.change(subject)?;
     let mut changes = Vec::new(alloc);
     changes.push(change)?;
@@ -183,22 +183,22 @@ pub fn shown_reply<S: Setting>(alloc: Global, value: Option<S>) -> Result<Reply,
     ensures { IfOk result (λ reply. reply ≡ shown_reply S.setting value) }
 {
     match value {
-        Some(value) => setting_answer(alloc, value),
+        Some(value) => setting_reply(alloc, value),
         None => Ok(Reply::fault(S::absent())),
     }
 }
 
 /// The reply that shows a value.
-pub fn setting_answer<S: Setting>(alloc: Global, value: S) -> Result<Reply, OutOfMemory>
-    ensures { IfOk result (λ reply. reply ≡ setting_answer S.setting value) }
+pub fn setting_reply<S: Setting>(alloc: Global, value: S) -> Result<Reply, OutOfMemory>
+    ensures { IfOk result (λ reply. reply ≡ setting_reply S.setting value) }
 {
-    setting_reply(alloc, S::member_in_get(), value.spelt())
+    setting_object_reply(alloc, S::member_in_get(), value.spelt())
 }
 
 /// The reply with an object of one member: this name, with the text as its value.
-fn setting_reply(alloc: Global, name: &str, text: &str) -> Result<Reply, OutOfMemory>
-    ensures { IfOk result (λ reply. reply ≡ answer (setting_object name.now text.now)) }
+fn setting_object_reply(alloc: Global, name: &str, text: &str) -> Result<Reply, OutOfMemory>
+    ensures { IfOk result (λ reply. reply ≡ success (setting_object name.now text.now)) }
 {
     let object = json!(in alloc; {name: text})?;
-    Ok(Reply::answer(object.to_string(alloc)?))
+    Ok(Reply::success(object.to_string(alloc)?))
 }

@@ -11,7 +11,7 @@ use crate::conn::Conn;
 use crate::error::StoreError;
 use crate::rowids::are_distinct;
 use crate::table_checks::{CheckedRow, all_fit, pass, require};
-use reg_rows::{are_contiguous, fits_evidence, fits_modes};
+use reg_rows::{are_contiguous, fits_modes, is_level_name};
 use reg_tables::{
     RawAgainst, RawEvidence, RawMode, against_count, against_of, raw_evidence, raw_modes,
 };
@@ -45,7 +45,7 @@ impl CheckedRow for RawEvidence {
     }
 
     fn fits(&self) -> bool {
-        fits_evidence(self.level.as_str())
+        is_level_name(self.level.as_str())
     }
 }
 

@@ -71,7 +71,7 @@ fn pass_meta(rows: &[(String, String)], rowids: &mut [i64], layout: Layout) -> b
 }
 
 /// An error if `meta` names a layout with another number, or if the rows don't pass.
-fn allow_layout(own: u32, named: Option<u32>, passes: bool) -> Result<(), StoreError>
+fn require_layout(own: u32, named: Option<u32>, passes: bool) -> Result<(), StoreError>
     ensures { Allows own named passes result }
 {
     match named {
@@ -87,7 +87,7 @@ fn judge_meta(alloc: Global, lines: Vec<RawMeta>, layout: Layout) -> Result<(), 
     let mut rowids = rowids_of(alloc, &lines)?;
     let rows = meta_rows(alloc, lines)?;
     let passes = pass_meta(&rows, &mut rowids, layout);
-    allow_layout(number_of(layout), layout_of(&rows), passes)
+    require_layout(number_of(layout), layout_of(&rows), passes)
 }
 
 /// Whether the database has no view.

@@ -8,13 +8,13 @@ use Rattle.avro_resolve.specs.declared.schemas.IndexedSchema.{IndexedSchema}
 use Rattle.avro_resolve.specs.Inside.Agreeing.{Agree}
 use Rattle.avro_resolve.specs.Inside.Remaining.{remains}
 use Rattle.avro_resolve.specs.Inside.Places.{RefersBelow}
-use Rattle.avro_resolve.specs.Inside.Schemas.{columns, nodes_of, rows, IsIndexedSchema}
+use Rattle.avro_resolve.specs.Inside.Schemas.{columns, nodes_of, rows, IsValidIndexedSchema}
 use Rattle.avro_resolve.proofs.Agreement.{agreed_at}
 use Rattle.avro_resolve.proofs.Monotone.{at_place, supports_at}
 use Rattle.avro_resolve.proofs.support.supports.Goals as goal
 
 -- the places to which a node refers are below the number of places
-names_below : (indexed : IndexedSchema) → IsIndexedSchema indexed → (n : ℕ) → n ≡ length indexed.schema.now → (i : ℕ) (a : NodeView) → slice_get (nodes_of indexed) i ≡ Some a → RefersBelow n a
+names_below : (indexed : IndexedSchema) → IsValidIndexedSchema indexed → (n : ℕ) → n ≡ length indexed.schema.now → (i : ℕ) (a : NodeView) → slice_get (nodes_of indexed) i ≡ Some a → RefersBelow n a
 names_below indexed is n e i a at = subst (λ (m : ℕ). RefersBelow m a) (length-map indexed.schema.now node_view ∙ sym e) (at_place (nodes_of indexed) (RefersBelow (length (nodes_of indexed))) i a is.whole at)
 
 fits_supports : (w r : List NodeView) (R : Pairs) (i j : ℕ) (a b : NodeView) → slice_get w i ≡ Some a → slice_get r j ≡ Some b → (t : Bool) → IsTrue t ↔ Fits R i j a b → IsTrue t ↔ Supports w r R i j

@@ -12,7 +12,7 @@ returns-in-Some c =
     let entered : subcommand_rows_of c.in-Ok.matches ≡ Some (c.in-Some.name.now, rows_of (found_of c.in-Some.inner.now)) =
     pair_from _ _ _ _ _ c.in-Some.ensures.name c.in-Some.ensures.rows in
     let all = is ∙ ap (option_and_then (λ (found : Text × List Row). task_in found.0 found.1)) entered in
-    subst (λ (o : Option TaskView). MatchResult c.task_named.result (λ task. o ≡ Some (task_view task)) (λ fault. IsUsage fault → o ≡ None)) (sym all) c.task_named.ensures
+    subst (λ (o : Option TaskView). MatchResult c.task_in.result (λ task. o ≡ Some (task_view task)) (λ fault. IsUsage fault → o ≡ None)) (sym all) c.task_in.ensures
 
 pub returns : goal.returns
 returns c usage =

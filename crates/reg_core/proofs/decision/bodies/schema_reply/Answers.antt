@@ -1,6 +1,6 @@
 use Rattle.std.proofs.Common.{[], ◌++◌, List, ℕ, codes, ap, ◌∙◌}
 use Rattle.json.specs.Print.{escape_byte}
-use Rattle.reg_core.specs.Replies.{answer}
+use Rattle.reg_core.specs.Replies.{success}
 use Rattle.reg_core.proofs.decision.bodies.schema_reply.Goals as goal
 
 pub returns : goal.returns
@@ -10,4 +10,4 @@ returns c =
     let two = c.in_ok-push_str-2.ensures.bytes ∙ ap (λ (xs : List ℕ). xs ++ c.as_str.result.now) one in
     let text = c.as_str.ensures.value ∙ c.in_ok-schema.ensures in
     let three = c.in_ok-push_str-3.ensures.bytes ∙ ap (λ (xs : List ℕ). xs ++ codes "}") two in
-    c.answer.ensures ∙ ap answer (three ∙ ap (λ (xs : List ℕ). (([] ++ codes "{\"schema\":") ++ xs) ++ codes "}") text)
+    c.success.ensures ∙ ap success (three ∙ ap (λ (xs : List ℕ). (([] ++ codes "{\"schema\":") ++ xs) ++ codes "}") text)

@@ -1,7 +1,7 @@
 use Rattle.std.proofs.Common.{◌++◌, List, ℕ, codes, refl, ap, ◌∙◌}
 use Rattle.std.specs.Prelude.{decimal}
 use Rattle.json.specs.Print.{escape_byte, quoted}
-use Rattle.reg_core.specs.Replies.{answer}
+use Rattle.reg_core.specs.Replies.{success}
 use Rattle.reg_core.proofs.Quoting.{joined_nine}
 use Rattle.reg_core.proofs.decision.bodies.version_reply.Goals as goal
 
@@ -22,4 +22,4 @@ returns c =
     let eight = c.in_ok-push_str-8.ensures.bytes ∙ ap (λ (xs : List ℕ). xs ++ c.format-2.result.now) seven in
     let nine = c.in_ok-push_str-9.ensures.bytes ∙ ap (λ (xs : List ℕ). xs ++ codes "}") eight in
     let parts = joined_nine (codes "{\"id\":") c.format.result.now (codes ",\"schema\":") c.as_str-2.result.now (codes ",\"subject\":") c.as_str-3.result.now (codes ",\"version\":") c.format-2.result.now (codes "}") in
-    c.answer.ensures ∙ ap answer (nine ∙ parts ∙ rw (id, schema, subject, version) refl)
+    c.success.ensures ∙ ap success (nine ∙ parts ∙ rw (id, schema, subject, version) refl)

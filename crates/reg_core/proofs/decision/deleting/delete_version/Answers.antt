@@ -10,7 +10,7 @@ use Rattle.reg_core.specs.DeletionCommands.{row_to_delete}
 use Rattle.reg_core.specs.Inside.Deleting.{version_change}
 use Rattle.reg_core.specs.Numbers.{parse_choice}
 use Rattle.reg_core.specs.Registry.{Registry, Row}
-use Rattle.reg_core.specs.Replies.{ReplyView, IsCommandReply, answer}
+use Rattle.reg_core.specs.Replies.{ReplyView, IsCommandReply, success}
 use Rattle.reg_core.specs.Rows.{live_rows, shown_rows}
 use Rattle.reg_core.specs.Views.{after_changes}
 use Rattle.reg_core.proofs.DeletionSteps.{deletion_refused, version_gone, all_shown}
@@ -31,7 +31,7 @@ returns-in-Ok-clause-reply c =
     (ap (map (λ (row : Bor Row). row.now)) c.deref-4.ensures.value ∙ (c.in_ok-live.ensures ∙ ap live_rows c.deref-2.ensures.value)) c.parse_choice.ensures c.in-Ok.ensures in
     IfOk-weaker c.delete_one.result _ _
     (λ decision h g schema input.
-    h ∙ (ap (λ n. answer (number_body n)) c.version.ensures
+    h ∙ (ap (λ n. success (number_body n)) c.version.ensures
     ∙ ap (λ (s : Registry × ReplyView). s.1) (sym (version_gone g c.args.subject.now c.args.version.now c.args.permanent c.args.view.now schema input c.in-Ok.row.now found))))
     c.delete_one.ensures.reply
 

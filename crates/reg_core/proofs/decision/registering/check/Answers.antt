@@ -2,7 +2,7 @@ use Rattle.std.proofs.Common.{◌≡◌, [], ◌∷◌, map, Bool, Some, None, r
 use Rattle.std.specs.Prelude.{option_map, option_copied}
 use Rattle.std.proofs.lemmas.Result.{IfOk-weaker}
 use Rattle.avro_nodes.specs.Nodes.{nodes_view}
-use Rattle.reg_core.specs.Replies.{ReplyView, IsCommandReply, answer}
+use Rattle.reg_core.specs.Replies.{ReplyView, IsCommandReply, success}
 use Rattle.reg_core.specs.Bodies.{verdict_body}
 use Rattle.reg_core.specs.Registry.{Registry, Row}
 use Rattle.reg_core.specs.Rows.{live_rows}
@@ -45,7 +45,7 @@ returns-in-Ok-clause-reply c =
     let compatible = verdict_of view new c.level_in_force.result (row ∷ []) (row ∷ []) c.level_in_force.ensures refl c.in_ok-compatible-in-Ok.compatible c.in_ok-compatible-in-Ok.ensures in
     IfOk-weaker c.verdict_reply.result _ _
     (λ reply h g subject text supported input.
-    h ∙ (ap (λ (b : Bool). answer (verdict_body b)) compatible
+    h ∙ (ap (λ (b : Bool). success (verdict_body b)) compatible
     ∙ ap (λ (s : Registry × ReplyView). s.1) (sym (check_shown g subject c.args.version.now text supported view _ input c.in-Some.choice chosen new some row found))))
     c.verdict_reply.ensures
 

@@ -2,7 +2,7 @@ use Rattle.std.proofs.Common.{◌≡◌, map, Bool, Some, None, refl, sym, ap, s
 use Rattle.std.specs.Prelude.{option_map, option_copied}
 use Rattle.std.proofs.lemmas.Result.{IfOk-weaker}
 use Rattle.avro_nodes.specs.Nodes.{nodes_view}
-use Rattle.reg_core.specs.Replies.{ReplyView, IsCommandReply, answer}
+use Rattle.reg_core.specs.Replies.{ReplyView, IsCommandReply, success}
 use Rattle.reg_core.specs.Bodies.{verdict_body}
 use Rattle.reg_core.specs.Registry.{Registry, Row}
 use Rattle.reg_core.specs.Rows.{live_rows}
@@ -30,6 +30,6 @@ returns-clause-reply c =
     let compatible = verdict_of view new c.level_in_force.result (map (λ (row : Bor Row). row.now) c.deref-2.result.now) (live_rows view.rows.items) c.level_in_force.ensures live c.in_ok-compatible.compatible c.in_ok-compatible.ensures in
     IfOk-weaker c.verdict_reply.result _ _
     (λ reply h g subject text supported input.
-    h ∙ (ap (λ (b : Bool). answer (verdict_body b)) compatible
+    h ∙ (ap (λ (b : Bool). success (verdict_body b)) compatible
     ∙ ap (λ (s : Registry × ReplyView). s.1) (sym (check_all_shown g subject text supported view _ input new some))))
     c.verdict_reply.ensures

@@ -1,7 +1,7 @@
 use Rattle.std.proofs.Common.{◌≡◌, ℕ, List, map, true, false, Some, None, refl, sym, ap, subst, ◌∙◌}
 use Rattle.std.specs.Prelude.{option_map, option_copied}
 use Rattle.avro_nodes.specs.Nodes.{nodes_view}
-use Rattle.reg_core.specs.Replies.{ReplyView, IsCommandReply, answer}
+use Rattle.reg_core.specs.Replies.{ReplyView, IsCommandReply, success}
 use Rattle.reg_core.specs.Bodies.{id_body}
 use Rattle.reg_core.specs.Evidence.{Evidence}
 use Rattle.reg_core.specs.Inside.Evidence.{UpdateEvidence}
@@ -63,7 +63,7 @@ returns-then-not-branch-clause-reply c =
     let live : map (λ (row : Bor Row). row.now) c.deref-2.result.now ≡ live_rows view.rows.items = ap (map (λ (row : Bor Row). row.now)) c.deref-2.ensures.value ∙ shown in
     let again : map (λ (row : Bor Row). row.now) c.deref-3.result.now ≡ live_rows view.rows.items = ap (map (λ (row : Bor Row). row.now)) c.deref-3.ensures.value ∙ shown in
     let unknown = not_among view.known (live_rows view.rows.items) (sym c.in_default-id_among.is ∙ (c.id_among.ensures ∙ ap (id_among view.known) live)) in
-    let refused = verdict_of view new c.level_in_force.result (map (λ (row : Bor Row). row.now) c.deref-3.result.now) (live_rows view.rows.items) c.level_in_force.ensures again false (sym c.if-not-branch.true ∙ c.in_ok-admits_after.ensures) in
+    let refused = verdict_of view new c.level_in_force.result (map (λ (row : Bor Row). row.now) c.deref-3.result.now) (live_rows view.rows.items) c.level_in_force.ensures again false (sym c.if-not-branch.true ∙ c.in_ok-is_admitted_in_view.ensures) in
     λ g text supported input.
     c.unchanged-then-not-branch.ensures.reply ∙ (c.fault-then-not-branch.ensures
     ∙ ap (λ (s : Registry × ReplyView). s.1) (sym (register_refused g c.args.subject.now text supported view _ input new some unknown refused)))
@@ -77,7 +77,7 @@ returns-then-not-branch-clause-changes c =
     let live : map (λ (row : Bor Row). row.now) c.deref-2.result.now ≡ live_rows view.rows.items = ap (map (λ (row : Bor Row). row.now)) c.deref-2.ensures.value ∙ shown in
     let again : map (λ (row : Bor Row). row.now) c.deref-3.result.now ≡ live_rows view.rows.items = ap (map (λ (row : Bor Row). row.now)) c.deref-3.ensures.value ∙ shown in
     let unknown = not_among view.known (live_rows view.rows.items) (sym c.in_default-id_among.is ∙ (c.id_among.ensures ∙ ap (id_among view.known) live)) in
-    let refused = verdict_of view new c.level_in_force.result (map (λ (row : Bor Row). row.now) c.deref-3.result.now) (live_rows view.rows.items) c.level_in_force.ensures again false (sym c.if-not-branch.true ∙ c.in_ok-admits_after.ensures) in
+    let refused = verdict_of view new c.level_in_force.result (map (λ (row : Bor Row). row.now) c.deref-3.result.now) (live_rows view.rows.items) c.level_in_force.ensures again false (sym c.if-not-branch.true ∙ c.in_ok-is_admitted_in_view.ensures) in
     λ g text supported input.
     ap (λ (changes : List Change). after_changes changes g) c.unchanged-then-not-branch.ensures.changes
     ∙ ap (λ (s : Registry × ReplyView). s.0) (sym (register_refused g c.args.subject.now text supported view _ input new some unknown refused))
@@ -91,7 +91,7 @@ returns-in_default-2-clause-reply c =
     let live : map (λ (row : Bor Row). row.now) c.deref-2.result.now ≡ live_rows view.rows.items = ap (map (λ (row : Bor Row). row.now)) c.deref-2.ensures.value ∙ shown in
     let again : map (λ (row : Bor Row). row.now) c.deref-3.result.now ≡ live_rows view.rows.items = ap (map (λ (row : Bor Row). row.now)) c.deref-3.ensures.value ∙ shown in
     let unknown = not_among view.known (live_rows view.rows.items) (sym c.in_default-id_among.is ∙ (c.id_among.ensures ∙ ap (id_among view.known) live)) in
-    let admitted = verdict_of view new c.level_in_force.result (map (λ (row : Bor Row). row.now) c.deref-3.result.now) (live_rows view.rows.items) c.level_in_force.ensures again true (sym c.if-not-branch.false ∙ c.in_ok-admits_after.ensures) in
+    let admitted = verdict_of view new c.level_in_force.result (map (λ (row : Bor Row). row.now) c.deref-3.result.now) (live_rows view.rows.items) c.level_in_force.ensures again true (sym c.if-not-branch.false ∙ c.in_ok-is_admitted_in_view.ensures) in
     let full = no_row (has_numbers_by_view view) (row_by_view view c.args.subject.now) (sym c.in_default-2.is ∙ c.in_ok-row.ensures) in
     λ g text supported input.
     c.unchanged-in_default-2.ensures.reply ∙ (c.fault-in_default-2.ensures
@@ -106,7 +106,7 @@ returns-in_default-2-clause-changes c =
     let live : map (λ (row : Bor Row). row.now) c.deref-2.result.now ≡ live_rows view.rows.items = ap (map (λ (row : Bor Row). row.now)) c.deref-2.ensures.value ∙ shown in
     let again : map (λ (row : Bor Row). row.now) c.deref-3.result.now ≡ live_rows view.rows.items = ap (map (λ (row : Bor Row). row.now)) c.deref-3.ensures.value ∙ shown in
     let unknown = not_among view.known (live_rows view.rows.items) (sym c.in_default-id_among.is ∙ (c.id_among.ensures ∙ ap (id_among view.known) live)) in
-    let admitted = verdict_of view new c.level_in_force.result (map (λ (row : Bor Row). row.now) c.deref-3.result.now) (live_rows view.rows.items) c.level_in_force.ensures again true (sym c.if-not-branch.false ∙ c.in_ok-admits_after.ensures) in
+    let admitted = verdict_of view new c.level_in_force.result (map (λ (row : Bor Row). row.now) c.deref-3.result.now) (live_rows view.rows.items) c.level_in_force.ensures again true (sym c.if-not-branch.false ∙ c.in_ok-is_admitted_in_view.ensures) in
     let full = no_row (has_numbers_by_view view) (row_by_view view c.args.subject.now) (sym c.in_default-2.is ∙ c.in_ok-row.ensures) in
     λ g text supported input.
     ap (λ (changes : List Change). after_changes changes g) c.unchanged-in_default-2.ensures.changes
@@ -124,11 +124,11 @@ returns-clause-reply c =
     let live : map (λ (row : Bor Row). row.now) c.deref-2.result.now ≡ live_rows view.rows.items = ap (map (λ (row : Bor Row). row.now)) c.deref-2.ensures.value ∙ shown in
     let again : map (λ (row : Bor Row). row.now) c.deref-3.result.now ≡ live_rows view.rows.items = ap (map (λ (row : Bor Row). row.now)) c.deref-3.ensures.value ∙ shown in
     let unknown = not_among view.known (live_rows view.rows.items) (sym c.in_default-id_among.is ∙ (c.id_among.ensures ∙ ap (id_among view.known) live)) in
-    let admitted = verdict_of view new c.level_in_force.result (map (λ (row : Bor Row). row.now) c.deref-3.result.now) (live_rows view.rows.items) c.level_in_force.ensures again true (sym c.if-not-branch.false ∙ c.in_ok-admits_after.ensures) in
+    let admitted = verdict_of view new c.level_in_force.result (map (λ (row : Bor Row). row.now) c.deref-3.result.now) (live_rows view.rows.items) c.level_in_force.ensures again true (sym c.if-not-branch.false ∙ c.in_ok-is_admitted_in_view.ensures) in
     let left = some_row (has_numbers_by_view view) (row_by_view view c.args.subject.now) c.in-Some-2.row (sym c.in-Some-2.is ∙ c.in_ok-row.ensures) in
     let id : c.id.result ≡ id_by_view view = c.id.ensures ∙ ap (λ (row : Row). row.1.id) left.1 in
     λ g text supported input.
-    c.in_ok-reply-2.ensures ∙ (ap (λ (n : ℕ). answer (id_body n)) id
+    c.in_ok-reply-2.ensures ∙ (ap (λ (n : ℕ). success (id_body n)) id
     ∙ ap (λ (s : Registry × ReplyView). s.1) (sym (register_added g c.args.subject.now text supported view _ input new some unknown admitted left.0)))
 
 pub returns-clause-changes : goal.returns-clause-changes
@@ -140,7 +140,7 @@ returns-clause-changes c =
     let live : map (λ (row : Bor Row). row.now) c.deref-2.result.now ≡ live_rows view.rows.items = ap (map (λ (row : Bor Row). row.now)) c.deref-2.ensures.value ∙ shown in
     let again : map (λ (row : Bor Row). row.now) c.deref-3.result.now ≡ live_rows view.rows.items = ap (map (λ (row : Bor Row). row.now)) c.deref-3.ensures.value ∙ shown in
     let unknown = not_among view.known (live_rows view.rows.items) (sym c.in_default-id_among.is ∙ (c.id_among.ensures ∙ ap (id_among view.known) live)) in
-    let admitted = verdict_of view new c.level_in_force.result (map (λ (row : Bor Row). row.now) c.deref-3.result.now) (live_rows view.rows.items) c.level_in_force.ensures again true (sym c.if-not-branch.false ∙ c.in_ok-admits_after.ensures) in
+    let admitted = verdict_of view new c.level_in_force.result (map (λ (row : Bor Row). row.now) c.deref-3.result.now) (live_rows view.rows.items) c.level_in_force.ensures again true (sym c.if-not-branch.false ∙ c.in_ok-is_admitted_in_view.ensures) in
     let left = some_row (has_numbers_by_view view) (row_by_view view c.args.subject.now) c.in-Some-2.row (sym c.in-Some-2.is ∙ c.in_ok-row.ensures) in
     let alive : map (λ (row : Bor Row). row.now) c.deref-4.result.now ≡ live_rows view.rows.items = ap (map (λ (row : Bor Row). row.now)) c.deref-4.ensures.value ∙ shown in
     let evidence = c.in_ok-evidence.ensures ∙ ap (evidence_by_view view) alive in
@@ -158,7 +158,7 @@ returns-clause-fit c =
     let live : map (λ (row : Bor Row). row.now) c.deref-2.result.now ≡ live_rows view.rows.items = ap (map (λ (row : Bor Row). row.now)) c.deref-2.ensures.value ∙ shown in
     let again : map (λ (row : Bor Row). row.now) c.deref-3.result.now ≡ live_rows view.rows.items = ap (map (λ (row : Bor Row). row.now)) c.deref-3.ensures.value ∙ shown in
     let unknown = not_among view.known (live_rows view.rows.items) (sym c.in_default-id_among.is ∙ (c.id_among.ensures ∙ ap (id_among view.known) live)) in
-    let admitted = verdict_of view new c.level_in_force.result (map (λ (row : Bor Row). row.now) c.deref-3.result.now) (live_rows view.rows.items) c.level_in_force.ensures again true (sym c.if-not-branch.false ∙ c.in_ok-admits_after.ensures) in
+    let admitted = verdict_of view new c.level_in_force.result (map (λ (row : Bor Row). row.now) c.deref-3.result.now) (live_rows view.rows.items) c.level_in_force.ensures again true (sym c.if-not-branch.false ∙ c.in_ok-is_admitted_in_view.ensures) in
     let left = some_row (has_numbers_by_view view) (row_by_view view c.args.subject.now) c.in-Some-2.row (sym c.in-Some-2.is ∙ c.in_ok-row.ensures) in
     let alive : map (λ (row : Bor Row). row.now) c.deref-4.result.now ≡ live_rows view.rows.items = ap (map (λ (row : Bor Row). row.now)) c.deref-4.ensures.value ∙ shown in
     let evidence = c.in_ok-evidence.ensures ∙ ap (evidence_by_view view) alive in
@@ -175,7 +175,7 @@ returns-clause-evidence c =
     let live : map (λ (row : Bor Row). row.now) c.deref-2.result.now ≡ live_rows view.rows.items = ap (map (λ (row : Bor Row). row.now)) c.deref-2.ensures.value ∙ shown in
     let again : map (λ (row : Bor Row). row.now) c.deref-3.result.now ≡ live_rows view.rows.items = ap (map (λ (row : Bor Row). row.now)) c.deref-3.ensures.value ∙ shown in
     let unknown = not_among view.known (live_rows view.rows.items) (sym c.in_default-id_among.is ∙ (c.id_among.ensures ∙ ap (id_among view.known) live)) in
-    let admitted = verdict_of view new c.level_in_force.result (map (λ (row : Bor Row). row.now) c.deref-3.result.now) (live_rows view.rows.items) c.level_in_force.ensures again true (sym c.if-not-branch.false ∙ c.in_ok-admits_after.ensures) in
+    let admitted = verdict_of view new c.level_in_force.result (map (λ (row : Bor Row). row.now) c.deref-3.result.now) (live_rows view.rows.items) c.level_in_force.ensures again true (sym c.if-not-branch.false ∙ c.in_ok-is_admitted_in_view.ensures) in
     let left = some_row (has_numbers_by_view view) (row_by_view view c.args.subject.now) c.in-Some-2.row (sym c.in-Some-2.is ∙ c.in_ok-row.ensures) in
     let alive : map (λ (row : Bor Row). row.now) c.deref-4.result.now ≡ live_rows view.rows.items = ap (map (λ (row : Bor Row). row.now)) c.deref-4.ensures.value ∙ shown in
     let evidence = c.in_ok-evidence.ensures ∙ ap (evidence_by_view view) alive in

@@ -1,6 +1,6 @@
 use Rattle.std.proofs.Common.{nat_eq, ap, refl}
 use Rattle.schema_cache.specs.Cached.{entries_in}
-use Rattle.schema_cache.proofs.Totals.{lookup-promoted}
+use Rattle.schema_cache.proofs.TextBytes.{lookup-promoted}
 use Rattle.schema_cache.proofs.cache.SchemaCache.promote.Goals.{in-Some, in_default}
 use Rattle.schema_cache.proofs.cache.SchemaCache.promote.Goals as goal
 

@@ -2,7 +2,7 @@ use Rattle.std.proofs.Common.{◌+◌, ◌≤◌, ◌<◌, ap, ◌∙◌, arith,
 use Rattle.std.specs.Cmp.{nat_eq_equiv}
 use Rattle.lru.proofs.CallerLemmas.{lookup-put_entries}
 use Rattle.schema_cache.specs.Entries.{size, text_bytes, max_text_bytes, max_entries}
-use Rattle.schema_cache.proofs.Totals.{text_bytes-put}
+use Rattle.schema_cache.proofs.TextBytes.{text_bytes-put}
 use Rattle.schema_cache.proofs.lru_entries.LruEntries.add.Goals as goal
 
 pub overflow_sub-self : goal.overflow_sub-self

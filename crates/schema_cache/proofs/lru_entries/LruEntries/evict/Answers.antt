@@ -1,6 +1,6 @@
 use Rattle.std.proofs.Common.{ap, ◌∙◌, arith}
 use Rattle.schema_cache.specs.Entries.{size}
-use Rattle.schema_cache.proofs.Totals.{text_bytes-last}
+use Rattle.schema_cache.proofs.TextBytes.{text_bytes-last}
 use Rattle.schema_cache.proofs.lru_entries.LruEntries.evict.Goals as goal
 
 pub overflow_sub-self : goal.overflow_sub-self

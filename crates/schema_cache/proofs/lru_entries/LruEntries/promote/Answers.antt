@@ -1,5 +1,5 @@
 use Rattle.std.proofs.Common.{nat_eq, sym, ◌∙◌}
-use Rattle.schema_cache.proofs.Totals.{text_bytes-promoted}
+use Rattle.schema_cache.proofs.TextBytes.{text_bytes-promoted}
 use Rattle.schema_cache.proofs.lru_entries.LruEntries.promote.Goals as goal
 
 pub invariant_of-self : goal.invariant_of-self

@@ -1,7 +1,7 @@
 use Rattle.std.proofs.Common.{◌≡◌, ◌+◌, ap, ◌∙◌, sym, arith, length, ℕ, nat_eq}
 use Rattle.std.specs.Prelude.{option_map}
 use Rattle.schema_cache.specs.Entries.{size, text_bytes, EntryView}
-use Rattle.schema_cache.proofs.Totals.{text_bytes-remove_entry, lookup-by_entry}
+use Rattle.schema_cache.proofs.TextBytes.{text_bytes-remove_entry, lookup-by_entry}
 use Rattle.schema_cache.proofs.lru_entries.LruEntries.remove.Goals as goal
 
 pub invariant_of-self : goal.invariant_of-self

@@ -3,7 +3,7 @@ use Rattle.serde_json.specs.Data.{string, object, member, no_members}
 use Rattle.serde_json.specs.View.{view}
 use Rattle.serde_json.specs.declared.value.Value.{the_lemmas}
 use Rattle.serde_json.proofs.OnLiterals.{serde_json_on_literals}
-use Rattle.reg_core.proofs.decision.settings.setting_reply.Goals as goal
+use Rattle.reg_core.proofs.decision.settings.setting_object_reply.Goals as goal
 
 pub returns : goal.returns
 unfolding serde_json_on_literals

@@ -16,7 +16,7 @@ use Rattle.reg_core.specs.Inside.Comparisons.{is_admitted_in_view, is_compatible
 use Rattle.reg_core.specs.Verdicts.{is_compatible}
 use Rattle.reg_core.proofs.VerdictLemmas.{compatible_decides}
 use Rattle.reg_core.proofs.VersionVerdicts.{admitted_named, verdict_found}
-use Rattle.reg_core.proofs.decision.comparing.admits_after.Goals as goal
+use Rattle.reg_core.proofs.decision.comparing.is_admitted_in_view.Goals as goal
 
 -- the level doesn't admit the new schema if one of the versions isn't compatible with it
 refused : (view : View) (level : Level) (rows versions : List (Bor Row)) (new : List NodeView) → versions ≡ named_versions level rows → (index : ℕ) (row : Bor Row) → index < length versions → row ≡ get_or versions index row
