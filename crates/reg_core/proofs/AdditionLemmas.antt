@@ -19,7 +19,7 @@ use Rattle.reg_core.specs.Rows.{rows_of, live_rows, next_number, schemas_of}
 use Rattle.reg_core.specs.Settings.{Setting, level_setting, mode_setting, set, with_level, with_mode}
 use Rattle.reg_core.specs.RegisterCommands.{supported_schema, id_for, with_version, registered, register, is_admitted_after, level_in}
 use Rattle.reg_core.specs.Machine.{permitted_step}
-use Rattle.reg_core.specs.Additions.{WasAdmitted, IsRetained, IsAddition, OnlyAdditions, AddsAdmitted}
+use Rattle.reg_core.specs.Additions.{WasAdmitted, IsRetained, IsAddition, EachRetainedOrAdded, AddsOnlyAdmitted}
 use Rattle.reg_core.proofs.DeletionLemmas.{itself, delete_version-were, delete_subject-were}
 use Rattle.reg_core.proofs.ModeLemmas.{step-either}
 use Rattle.reg_core.proofs.VerdictLemmas.{admits_decided}
@@ -44,7 +44,7 @@ pub live_schemas-each : (g : Registry) → IsRegistry g → (subject : List ℕ)
 live_schemas-each g ok subject = schemas_of-each g.schemas (live_rows (rows_of g subject)) (All-live_rows (λ (row : Row). IsRow g.schemas row.0 row.1) (rows_of g subject) (rows_of-IsRow g ok subject))
 
 -- an unchanged registry has no additions
-itself_adds : (g : Registry) (c : Command) → OnlyAdditions g c g
+itself_adds : (g : Registry) (c : Command) → EachRetainedOrAdded g c g
 itself_adds g c key version e = inl (itself g.rows key version e)
 
 -- if the test of the level passes, the schema was admitted
@@ -55,7 +55,7 @@ was_admitted g ok subject text new denotes passed =
 
 -- Register adds only the subject's next version, with the admitted schema
 registered_adds : (g : Registry) → IsRegistry g → (subject text : List ℕ) (supported : Bool) (new : List NodeView) → TextDenotes text new → (is_already_live admitted left : Bool)
-    → is_admitted_after g.schemas (level_in g subject) (live_rows (rows_of g subject)) new ≡ admitted → OnlyAdditions g (Register subject text supported) (registered g subject new (record { is_already_live = is_already_live; admitted = admitted; has_numbers_left = left })).0
+    → is_admitted_after g.schemas (level_in g subject) (live_rows (rows_of g subject)) new ≡ admitted → EachRetainedOrAdded g (Register subject text supported) (registered g subject new (record { is_already_live = is_already_live; admitted = admitted; has_numbers_left = left })).0
 unfolding was_admitted
 registered_adds g ok subject text supported new denotes true admitted left e = itself_adds g (Register subject text supported)
 registered_adds g ok subject text supported new denotes false false left e = itself_adds g (Register subject text supported)
@@ -78,7 +78,7 @@ registered_adds g ok subject text supported new denotes false true true e =
     }))
     (λ k v there. inl (itself g.rows k v there))
 
-register_adds : (g : Registry) → IsRegistry g → (subject text : List ℕ) (supported : Bool) (schema : Option (List NodeView)) → supported_schema text supported ≡ schema → OnlyAdditions g (Register subject text supported) (register g subject schema).0
+register_adds : (g : Registry) → IsRegistry g → (subject text : List ℕ) (supported : Bool) (schema : Option (List NodeView)) → supported_schema text supported ≡ schema → EachRetainedOrAdded g (Register subject text supported) (register g subject schema).0
 register_adds g ok subject text supported None e = itself_adds g (Register subject text supported)
 register_adds g ok subject text supported (Some new) e = registered_adds g ok subject text supported new (supported_schema-denotes text supported new e) _ _ _ refl
 
@@ -99,7 +99,7 @@ set_leaves : {A : Type 0} (s : Setting A) (g : Registry) (subject : Option (List
 set_leaves s g subject puts o key version e = itself g.rows key version (ap (λ (rows : registry.Rows). get rows key) (sym (set_adds_none s g subject puts o)) ∙ e)
 
 -- each version after a permitted command was there before, or the command added it with a schema that the level admits
-pub permitted_step_adds : (g : Registry) (c : Command) → IsRegistry g → OnlyAdditions g c (permitted_step g c).0
+pub permitted_step_adds : (g : Registry) (c : Command) → IsRegistry g → EachRetainedOrAdded g c (permitted_step g c).0
 unfolding permitted_step
 permitted_step_adds g (SetGlobal text) ok = λ key version e. inl (set_leaves level_setting g None (with_level_rows g None) (level_of text) key version e)
 permitted_step_adds g (SetLevel subject text) ok = λ key version e. inl (set_leaves level_setting g (Some subject) (with_level_rows g (Some subject)) (level_of text) key version e)
@@ -124,5 +124,5 @@ permitted_step_adds g GlobalMode ok = itself_adds g GlobalMode
 permitted_step_adds g (ModeOf subject default) ok = itself_adds g (ModeOf subject default)
 
 -- the same for any command
-pub step_adds_admitted : (g : Registry) (c : Command) → IsRegistry g → AddsAdmitted g c
-step_adds_admitted g c ok = step-either (λ after. OnlyAdditions g c after.0) g c (itself_adds g c) (permitted_step_adds g c ok)
+pub step_adds_admitted : (g : Registry) (c : Command) → IsRegistry g → AddsOnlyAdmitted g c
+step_adds_admitted g c ok = step-either (λ after. EachRetainedOrAdded g c after.0) g c (itself_adds g c) (permitted_step_adds g c ok)

@@ -12,8 +12,9 @@ use Rattle.reg_core.specs.Rows.{rows_of, live_rows, next_number}
 use Rattle.reg_core.specs.RegisterCommands.{level_in}
 use Rattle.reg_core.specs.Machine.{step}
 
--- Schema Evolution and Compatibility, Compatibility Types: the text denotes `new`; the subject's live versions, in order of number, have
--- the schemas `live`; and the subject's level admits `new` after them
+-- Schema Evolution and Compatibility, Compatibility Types: in `g`, the registry before the command, the text denotes `new`; the subject's
+-- live versions, in order of number, have the schemas `live`; and the level in force (the subject's own, else the global one) admits
+-- `new` after them
 pub record WasAdmitted (g : Registry) (subject text : List ℕ) : Type 0 where
   pub new : List NodeView
   pub denotes : TextDenotes text new
@@ -43,9 +44,10 @@ pub record IsRetained (rows : Rows) (key : RowKey) (version : Version) : Type 0 
   pub stays_deleted : old.deleted ≡ true → version.deleted ≡ true
 
 -- Schema Registry API reference, POST /subjects/{subject}/versions: each version of the second registry was in the first, or the command added it
-abbrev pub OnlyAdditions : Registry → Command → Registry → Type 0
-OnlyAdditions g command after = (key : RowKey) (version : Version) → get after.rows key ≡ Some version → IsRetained g.rows key version ⊎ IsAddition g command after key version
+abbrev pub EachRetainedOrAdded : Registry → Command → Registry → Type 0
+EachRetainedOrAdded g command after = (key : RowKey) (version : Version) → get after.rows key ≡ Some version → IsRetained g.rows key version ⊎ IsAddition g command after key version
 
--- each version after the command was there before with the same id, or the command added it
-abbrev pub AddsAdmitted : Registry → Command → Type 0
-AddsAdmitted g command = OnlyAdditions g command (step g command).0
+-- each version after the command was there before, with the same key and schema id (`IsRetained`), or the command registered it and the
+-- subject's level admits its schema (`IsAddition`)
+abbrev pub AddsOnlyAdmitted : Registry → Command → Type 0
+AddsOnlyAdmitted g command = EachRetainedOrAdded g command (step g command).0

@@ -19,9 +19,9 @@ version_body row text =
     compact_text (object (member (codes "id") (number (unsigned row.1.id)) (member (codes "schema") (string text)
     (member (codes "subject") (string row.0.0) (member (codes "version") (number (unsigned row.0.1)) no_members)))))
 
--- Schema Registry API reference, GET /subjects: an array of texts
-abbrev pub texts_body : List (List ℕ) → List ℕ
-texts_body texts = compact_text (array (items_of (map string texts)))
+-- Schema Registry API reference, GET /subjects and GET /schemas/types: an array of strings
+abbrev pub strings_body : List (List ℕ) → List ℕ
+strings_body texts = compact_text (array (items_of (map string texts)))
 
 -- Schema Registry API reference, DELETE /subjects/{subject}/versions/{version}: a number
 abbrev pub number_body : ℕ → List ℕ

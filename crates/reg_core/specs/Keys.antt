@@ -3,10 +3,10 @@ use Rattle.std.specs.Prelude.{ℕ, ◌<◌, ◌≤◌, ◌==◌, ◌||◌, Bool,
 use Rattle.std.specs.List.{All, list_any}
 use Rattle.std.specs.Char.{is_ascii_alphanumeric}
 
--- this project's choice: an ASCII letter, a digit, or one of . _ -
+-- this project's choice: a byte of a retry key is an ASCII letter, an ASCII digit, `.`, `_` or `-`
 abbrev pub is_key_byte : ℕ → Bool
 is_key_byte c = is_ascii_alphanumeric c || list_any (λ mark. c == mark) (codes "._-")
 
--- this project's choice: a retry key has 1 to 64 such bytes
+-- this project's choice: a retry key is 1 to 64 bytes, and each of them is an `is_key_byte`
 abbrev pub IsKey : List ℕ → Type 0
 IsKey text = (0 < length text) × (length text ≤ 64) × All (λ c. IsTrue (is_key_byte c)) text

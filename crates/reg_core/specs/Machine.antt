@@ -12,7 +12,7 @@ use Rattle.reg_core.specs.Numbers.{parse_id, parse_choice}
 use Rattle.reg_core.specs.Replies.{ReplyView, fault}
 use Rattle.reg_core.specs.Registry.{Registry}
 use Rattle.reg_core.specs.Rows.{rows_of, shown_rows, text_at, known_id}
-use Rattle.reg_core.specs.Settings.{level_setting, mode_setting, set, own_or_global, setting_reply, shown_reply}
+use Rattle.reg_core.specs.Settings.{level_setting, mode_setting, set, own_or_global, setting_reply, setting_reply_or_fault}
 use Rattle.reg_core.specs.ReadCommands.{types_reply, subjects_reply, versions_reply, found_row, version_reply, version_text_reply, id_reply, id_versions_reply, lookup_reply, rows_with_id}
 use Rattle.reg_core.specs.DeletionCommands.{delete_version, delete_subject}
 use Rattle.reg_core.specs.RegisterCommands.{supported_schema, register, check_reply, check_all_reply}
@@ -91,7 +91,7 @@ permitted_step g (Register subject text supported) = register g subject (support
 permitted_step g (DeleteVersion subject version permanent) = delete_version g subject (parse_choice version) permanent
 permitted_step g (DeleteSubject subject permanent) = delete_subject g subject permanent
 permitted_step g Global = (g, setting_reply level_setting g.global)
-permitted_step g (LevelOf subject default_to_global) = (g, shown_reply level_setting (own_or_global (g.own subject) g.global default_to_global))
+permitted_step g (LevelOf subject default_to_global) = (g, setting_reply_or_fault level_setting (own_or_global (g.own subject) g.global default_to_global))
 permitted_step g (Lookup subject text supported deleted) = (g, lookup_reply (text_at g.schemas) (supported_schema text supported) (known_id g.schemas (supported_schema text supported)) (shown_rows deleted (rows_of g subject)))
 permitted_step g (Subjects deleted) = (g, subjects_reply (shown_rows deleted (entries g.rows)))
 permitted_step g (Versions subject deleted) = (g, versions_reply (shown_rows deleted (rows_of g subject)))
@@ -105,7 +105,7 @@ permitted_step g (CheckAll subject text supported) = (g, check_all_reply g subje
 permitted_step g (SetGlobalMode mode) = set mode_setting g None (mode_of mode)
 permitted_step g (SetMode subject mode) = set mode_setting g (Some subject) (mode_of mode)
 permitted_step g GlobalMode = (g, setting_reply mode_setting g.global_mode)
-permitted_step g (ModeOf subject default_to_global) = (g, shown_reply mode_setting (own_or_global (g.own_modes subject) g.global_mode default_to_global))
+permitted_step g (ModeOf subject default_to_global) = (g, setting_reply_or_fault mode_setting (own_or_global (g.own_modes subject) g.global_mode default_to_global))
 
 -- Schema Registry API reference: the registry after a command, and the reply. (This project's choice: the mode is checked before all else.)
 unfoldable pub step : Registry → Command → Registry × ReplyView

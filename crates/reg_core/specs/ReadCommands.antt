@@ -10,15 +10,15 @@ use Rattle.reg_core.specs.declared.number.VersionChoice.{VersionChoice}
 use Rattle.reg_core.specs.Registry.{Row}
 use Rattle.reg_core.specs.Replies.{ReplyView, success, fault}
 use Rattle.reg_core.specs.Rows.{rows_with, shown_rows, chosen_row}
-use Rattle.reg_core.specs.Bodies.{texts_body, numbers_body, subject_versions_body, version_body, schema_body}
+use Rattle.reg_core.specs.Bodies.{strings_body, numbers_body, subject_versions_body, version_body, schema_body}
 
 -- Schema Registry API reference, GET /schemas/types: only Avro
 abbrev pub types_reply : ReplyView
-types_reply = success (texts_body (codes "AVRO" ∷ []))
+types_reply = success (strings_body (codes "AVRO" ∷ []))
 
 -- Schema Registry API reference, GET /subjects: the subjects of these versions, each once, in the order of their bytes
 abbrev pub subjects_reply : List Row → ReplyView
-subjects_reply rows = success (texts_body (dedup bytes_eq (map (λ (row : Row). row.0.0) rows)))
+subjects_reply rows = success (strings_body (dedup bytes_eq (map (λ (row : Row). row.0.0) rows)))
 
 -- Schema Registry API reference, GET /subjects/{subject}/versions: the numbers of these versions. (This project's choice: no list is empty. A subject
 -- that shows no version is rejected with 40401.)

@@ -10,11 +10,11 @@ pub record ReplyView : Type 0 where
   pub status : ℕ
   pub body : List ℕ
 
--- RFC 9110, section 15: the nine statuses that a reply may have
+-- this project's choice: the nine HTTP statuses (RFC 9110, section 15) that a reply of the registry may have
 abbrev pub statuses : List ℕ
 statuses = 200 ∷ 400 ∷ 404 ∷ 405 ∷ 409 ∷ 413 ∷ 422 ∷ 500 ∷ 501 ∷ []
 
--- RFC 9110, section 15: the number is one of these nine
+-- this project's choice: the number is one of these nine statuses
 abbrev pub IsStatus : ℕ → Type 0
 IsStatus n = IsTrue (list_any (λ status. n == status) statuses)
 

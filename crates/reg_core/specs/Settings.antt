@@ -41,10 +41,10 @@ setting_reply s value = success (setting_object s.member_in_get (s.text_of value
 abbrev pub own_or_global : {A : Type 0} → Option A → A → Bool → Option A
 own_or_global own global default_to_global = option_or own (if default_to_global then Some global else None)
 
--- Schema Registry API reference, GET /config/{subject}: the reply that shows the value, or a fault if there is none
-abbrev pub shown_reply : {A : Type 0} → Setting A → Option A → ReplyView
-shown_reply s None = fault s.absent
-shown_reply s (Some value) = setting_reply s value
+-- Schema Registry API reference, GET /config/{subject} and GET /mode/{subject}: the reply that shows the value; if there is none, the fault `absent`
+abbrev pub setting_reply_or_fault : {A : Type 0} → Setting A → Option A → ReplyView
+setting_reply_or_fault s None = fault s.absent
+setting_reply_or_fault s (Some value) = setting_reply s value
 
 -- ---- levels
 

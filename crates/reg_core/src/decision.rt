@@ -11,12 +11,12 @@ ghost use Rattle.reg_core.specs.Views.{ChangesFit, IsDecisionFor, IsDecisionInpu
 use crate::code::Code;
 use crate::command::Command;
 use crate::decision::deleting::{delete_subject, delete_version};
-use crate::decision::modes::is_read_only;
+use crate::decision::modes::is_forbidden_by_mode;
 use crate::decision::reading::{
     by_id, lookup, subjects, types, version, version_text, versions, versions_of_id,
 };
 use crate::decision::registering::{check, check_all, register};
-use crate::decision::settings::{own_or_global, set, setting_reply, shown_reply};
+use crate::decision::settings::{own_or_global, set, setting_reply, setting_reply_or_fault};
 use crate::evidence::Evidence;
 use crate::level::Level;
 use crate::mode::Mode;
@@ -121,12 +121,13 @@ pub fn decide(
     decide_with_cache(alloc, view, command, schema, None)
 }
 
-/// The same, with a cache of parsed schemas. The cache never changes the result.
+/// Decides as `decide` does, with a cache of parsed schemas, so that earlier schemas needn't be
+/// parsed again. The cache never changes a decision.
 ///
 /// # Errors
 ///
 /// `OutOfMemory` if an allocation for the changes, the reply, an earlier schema or a comparison
-/// fails. The cache may have changed.
+/// fails. Even then, the cache may have changed.
 pub fn decide_with_cache(
     alloc: Global,
     view: &View,
@@ -136,7 +137,7 @@ pub fn decide_with_cache(
 ) -> Result<Decision, OutOfMemory>
     ensures { IfOk result (IsDecisionFor command.now (option_map nodes_view (option_copied schema.entry)) view.now) }
 {
-    if is_read_only(view, command) {
+    if is_forbidden_by_mode(view, command) {
         return Ok(unchanged(alloc, Reply::fault(Code::NotPermitted)));
     }
     decide_permitted(alloc, view, command, schema_if_sent(command, schema), cache)
@@ -224,7 +225,7 @@ fn reply_to_read(
         Command::LevelOf {
             default_to_global,
             ..
-        } => shown_reply(
+        } => setting_reply_or_fault(
             alloc,
             own_or_global(view.own, view.global, *default_to_global),
         ),
@@ -252,7 +253,7 @@ fn reply_to_read(
         Command::ModeOf {
             default_to_global,
             ..
-        } => shown_reply(
+        } => setting_reply_or_fault(
             alloc,
             own_or_global(view.own_mode, view.global_mode, *default_to_global),
         ),

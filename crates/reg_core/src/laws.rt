@@ -3,7 +3,7 @@
 ghost use Rattle.reg_core.specs.declared.command.Command.{Command};
 ghost use Rattle.reg_core.specs.Registry.{IsRegistry, Registry};
 ghost use Rattle.reg_core.specs.Machine.{step};
-ghost use Rattle.reg_core.specs.Additions.{AddsAdmitted};
+ghost use Rattle.reg_core.specs.Additions.{AddsOnlyAdmitted};
 ghost use Rattle.reg_core.specs.Evidence.{EvidenceMap, IsEvidenceAfter, IsTrueEvidence};
 
 /// A law of the abstract machine: each command preserves the invariant of a registry. Texts denote
@@ -16,7 +16,7 @@ pub fn commands_preserve_invariant()
 /// A law of the abstract machine: a command adds a version only if it registers a schema that the
 /// subject's level admits after the subject's live versions.
 pub fn additions_are_admitted()
-    ensures { (g : Registry) (command : Command) → IsRegistry g → AddsAdmitted g command }
+    ensures { (g : Registry) (command : Command) → IsRegistry g → AddsOnlyAdmitted g command }
 {}
 
 /// A law of the abstract machine. If a registry's evidence is true before a command, then the

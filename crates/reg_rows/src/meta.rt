@@ -45,7 +45,7 @@ fn is_layout_two_name(name: &str) -> bool
     name == "mode" || is_layout_one_name(name)
 }
 
-/// Whether each row has a name of layout 1.
+/// Whether each row's name is one that `meta` has in layout 1.
 fn has_only_layout_one_names(rows: &[(String, String)]) -> bool
     ensures { result ≡ has_only_known_names layout_one_names (map meta_pair rows.now) }
 {
@@ -57,7 +57,7 @@ fn has_only_layout_one_names(rows: &[(String, String)]) -> bool
     true
 }
 
-/// Whether each row has a name of layout 2.
+/// Whether each row's name is one that `meta` has in layout 2.
 fn has_only_layout_two_names(rows: &[(String, String)]) -> bool
     ensures { result ≡ has_only_known_names layout_two_names (map meta_pair rows.now) }
 {

@@ -24,8 +24,12 @@ fn has_version<'a>(sorted: &[(&'a str, u32)], position: &(&'a str, u32, u32)) ->
     is_among(sorted, &(position.0, position.1))
 }
 
-/// Whether the sorted versions contain the version of each position.
-fn have_versions<'a>(sorted: &[(&'a str, u32)], positions: &[(&'a str, u32, u32)]) -> bool
+/// Whether the sorted versions contain the version (subject and number) of each item of
+/// `positions`. True if there is no item.
+fn contains_version_of_each<'a>(
+    sorted: &[(&'a str, u32)],
+    positions: &[(&'a str, u32, u32)],
+) -> bool
     requires { AreSortedVersions sorted.now }
     ensures { IsTrue result ↔ AllByRecursion (HasVersion sorted.now) positions.now }
 {
@@ -48,7 +52,7 @@ pub fn have_evidence<'a>(
 {
     let mut sorted = versions_with_evidence;
     sorted.sort_unstable();
-    have_versions(&sorted, positions)
+    contains_version_of_each(&sorted, positions)
 }
 
 /// Whether the position is 1, or the sorted positions contain its predecessor.

@@ -46,14 +46,15 @@ fn fits_layout_one(tables: &Tables) -> bool
         && tables.against.is_empty()
 }
 
-fn versions_of(
+/// The version (subject and number) of each row of `evidence`, in order.
+fn versions_with_evidence(
     alloc: Global,
-    rows: &[(String, u32, String)],
+    evidence: &[(String, u32, String)],
 ) -> Result<Vec<(&str, u32)>, AllocError>
-    ensures { IfOk result (λ v. map version_view v.items ≡ map version_of rows.now) }
+    ensures { IfOk result (λ v. map version_view v.items ≡ map version_of evidence.now) }
 {
-    let mut versions = Vec::with_capacity(alloc, rows.len())?;
-    for row in rows {
+    let mut versions = Vec::with_capacity(alloc, evidence.len())?;
+    for row in evidence {
         versions.push((row.0.as_str(), row.1))?;
     }
     Ok(versions)
@@ -83,7 +84,7 @@ fn fits_against(
         ↔ (HaveEvidence (map version_of evidence.now) (map version_position against.now)
         × AreContiguous (map version_position against.now))) }
 {
-    let versions = versions_of(alloc, evidence)?;
+    let versions = versions_with_evidence(alloc, evidence)?;
     let positions = positions_of(alloc, against)?;
     Ok(have_evidence(versions, &positions) && are_contiguous(positions))
 }

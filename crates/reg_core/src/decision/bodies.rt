@@ -3,7 +3,7 @@
 ghost use Rattle.std.specs.Prelude.{◌≡◌, IfOk, false, map};
 ghost use Rattle.serde_json.specs.View.{view};
 ghost use Rattle.serde_json.specs.Written.{compact_text, has_float};
-ghost use Rattle.reg_core.specs.Bodies.{number_body, numbers_body, subject_version_data, subject_versions_body, schema_body, texts_body, version_body};
+ghost use Rattle.reg_core.specs.Bodies.{number_body, numbers_body, subject_version_data, subject_versions_body, schema_body, strings_body, version_body};
 ghost use Rattle.reg_core.specs.Replies.{success};
 
 use crate::decision::quoting::quoted;
@@ -47,9 +47,9 @@ pub fn version_reply(alloc: Global, row: &Row, text: &str) -> Result<Reply, OutO
     Ok(Reply::success(body))
 }
 
-/// The reply with an array of texts.
-pub fn texts_reply(alloc: Global, texts: &[&str]) -> Result<Reply, OutOfMemory>
-    ensures { IfOk result (λ reply. reply ≡ success (texts_body (map (λ text. text.now) texts.now))) }
+/// The reply with an array of strings.
+pub fn strings_reply(alloc: Global, texts: &[&str]) -> Result<Reply, OutOfMemory>
+    ensures { IfOk result (λ reply. reply ≡ success (strings_body (map (λ text. text.now) texts.now))) }
 {
     let mut values = Vec::new(alloc);
     for text in texts {

@@ -9,7 +9,7 @@ use crate::decision::View;
 use crate::mode::Mode;
 
 /// Whether a mode forbids the command.
-pub fn is_read_only(view: &View, command: &Command) -> bool
+pub fn is_forbidden_by_mode(view: &View, command: &Command) -> bool
     ensures { result ≡ is_read_only (mode_of_view view.now command.now) }
 {
     match mode_of_view(view, command) {

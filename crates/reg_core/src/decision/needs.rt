@@ -31,8 +31,8 @@ pub fn ids_to_read(alloc: Global, command: &Command, view: &View) -> Result<Vec<
     ensures { IfOk result (λ ids. ids.items ≡ map (λ row. row.1.id) (rows_to_read command.now view.now)) }
 {
     match command {
-        Command::Register { .. } => register_ids(alloc, view),
-        Command::Lookup { deleted, .. } => lookup_ids(alloc, view, *deleted),
+        Command::Register { .. } => ids_for_register(alloc, view),
+        Command::Lookup { deleted, .. } => ids_for_lookup(alloc, view, *deleted),
         Command::Version {
             version,
             deleted,
@@ -44,7 +44,7 @@ pub fn ids_to_read(alloc: Global, command: &Command, view: &View) -> Result<Vec<
             ..
         } => version_ids(alloc, view, version.as_str(), *deleted),
         Command::ById { .. } => latest_id(alloc, &view.rows),
-        Command::Check { version, .. } => check_ids(alloc, view, version.as_str()),
+        Command::Check { version, .. } => ids_for_check(alloc, view, version.as_str()),
         Command::CheckAll { .. } => check_all_ids(alloc, view),
         Command::SetGlobal { .. }
         | Command::SetLevel { .. }
@@ -63,8 +63,9 @@ pub fn ids_to_read(alloc: Global, command: &Command, view: &View) -> Result<Vec<
     }
 }
 
-/// The ids that Register compares with; none if a live version already has the schema.
-fn register_ids(alloc: Global, view: &View) -> Result<Vec<u32>, OutOfMemory>
+/// The schema ids of the live versions that the level in force compares the sent schema with, in
+/// order of number; none if a live version already has that schema.
+fn ids_for_register(alloc: Global, view: &View) -> Result<Vec<u32>, OutOfMemory>
     ensures { IfOk result (λ ids. let live = live_rows view.now.rows.items in ids.items
         ≡ map (λ row. row.1.id) (if is_among view.now.known live then [] else named_versions (level_of_view view.now) live)) }
 {
@@ -85,7 +86,7 @@ fn check_all_ids(alloc: Global, view: &View) -> Result<Vec<u32>, OutOfMemory>
 }
 
 /// The id that Check compares with, if the version is found.
-fn check_ids(alloc: Global, view: &View, version: &str) -> Result<Vec<u32>, OutOfMemory>
+fn ids_for_check(alloc: Global, view: &View, version: &str) -> Result<Vec<u32>, OutOfMemory>
     ensures { IfOk result (λ ids. ids.items ≡ map (λ row. row.1.id) (named_versions (level_of_view view.now)
         (found_as_list (found_row (parse_choice version.now) (live_rows view.now.rows.items))))) }
 {
@@ -111,7 +112,7 @@ fn version_ids(
 }
 
 /// The id of the version that Lookup shows, if it is found.
-fn lookup_ids(alloc: Global, view: &View, shows_deleted: bool) -> Result<Vec<u32>, OutOfMemory>
+fn ids_for_lookup(alloc: Global, view: &View, shows_deleted: bool) -> Result<Vec<u32>, OutOfMemory>
     ensures { IfOk result (λ ids. ids.items ≡ map (λ row. row.1.id)
         (found_as_list (lookup_row view.now.known (shown_rows shows_deleted view.now.rows.items)))) }
 {

@@ -13,7 +13,7 @@ ghost use Rattle.reg_core.specs.Views.{view_text};
 use crate::code::Code;
 use crate::decision::View;
 use crate::decision::bodies::{
-    numbers_reply, schema_reply, subject_versions_reply, texts_reply, version_reply,
+    numbers_reply, schema_reply, strings_reply, subject_versions_reply, version_reply,
 };
 use crate::decision::rows::{found_row, shown_rows};
 use crate::number::{parse_choice, parse_id};
@@ -27,7 +27,7 @@ use std::alloc::Global;
 pub fn types(alloc: Global) -> Result<Reply, OutOfMemory>
     ensures { IfOk result (λ reply. reply ≡ types_reply) }
 {
-    texts_reply(alloc, &["AVRO"])
+    strings_reply(alloc, &["AVRO"])
 }
 
 /// The reply with the subjects of the shown versions.
@@ -36,7 +36,7 @@ pub fn subjects(alloc: Global, shows_deleted: bool, rows: &[Row]) -> Result<Repl
 {
     let shown = shown_rows(alloc, shows_deleted, rows)?;
     let subjects = subjects_of(alloc, shown.as_slice())?;
-    texts_reply(alloc, subjects.as_slice())
+    strings_reply(alloc, subjects.as_slice())
 }
 
 /// The subjects of these versions, each once. A subject's versions must be adjacent.
@@ -63,18 +63,20 @@ pub fn versions(alloc: Global, shows_deleted: bool, rows: &[Row]) -> Result<Repl
     numbers_reply(alloc, shown.as_slice())
 }
 
-/// The reply with the version that the text chooses, and its schema.
+/// The reply with the version that `choice` (`latest` or a number) chooses among the shown ones,
+/// and its schema. It is a fault if `choice` is invalid, no version is shown, or none has the
+/// number.
 pub fn version(
     alloc: Global,
     view: &View,
-    text: &str,
+    choice: &str,
     shows_deleted: bool,
 ) -> Result<Reply, OutOfMemory>
     ensures { IfOk result (λ reply. reply ≡ version_reply (view_text view.now)
-        (found_row (parse_choice text.now) (shown_rows shows_deleted view.now.rows.items))) }
+        (found_row (parse_choice choice.now) (shown_rows shows_deleted view.now.rows.items))) }
 {
     let shown = shown_rows(alloc, shows_deleted, view.rows.as_slice())?;
-    match found_row(parse_choice(text), shown.as_slice()) {
+    match found_row(parse_choice(choice), shown.as_slice()) {
         Ok(row) => shown_version(alloc, view, row),
         Err(code) => Ok(Reply::fault(code)),
     }

@@ -11,7 +11,8 @@ use crate::row::Row;
 use avro_nodes::OutOfMemory;
 use std::alloc::Global;
 
-/// The versions that a command shows: all if `shows_deleted`, else those that aren't soft-deleted.
+/// The versions that a command sees, in their order: all if `shows_deleted`, else those that
+/// aren't soft-deleted.
 pub fn shown_rows<'a>(
     alloc: Global,
     shows_deleted: bool,

@@ -4,7 +4,7 @@ ghost use Rattle.std.specs.Prelude.{◌≡◌, ◌≢◌, [], IfOk, Option, None
 ghost use Rattle.reg_core.specs.Inside.Evidence.{AddNoVersion};
 ghost use Rattle.reg_core.specs.Registry.{Registry};
 ghost use Rattle.reg_core.specs.Replies.{success};
-ghost use Rattle.reg_core.specs.Settings.{set, setting_object, setting_reply, shown_reply, own_or_global};
+ghost use Rattle.reg_core.specs.Settings.{set, setting_object, setting_reply, setting_reply_or_fault, own_or_global};
 ghost use Rattle.reg_core.specs.Views.{ChangesFit, after_changes};
 
 use crate::code::Code;
@@ -52,11 +52,11 @@ pub trait Setting: Copy {
         ensures { result ≡ setting.absent };
 
     /// The change that sets the value: the subject's own, or the global one if there is no subject.
-    fn change(self, subject: Option<&Subject>) -> Result<Change, OutOfMemory>
+    fn to_change(self, subject: Option<&Subject>) -> Result<Change, OutOfMemory>
         ensures after { IfOk result (λ change. (g : Registry)
             → after_change change g ≡ setting.put g (option_copied subject.entry) self) }
         ensures fits { IfOk result (λ change. (g : Registry) → ChangeFits change g) }
-        ensures adds { IfOk result (λ change. AddsNoVersion change) };
+        ensures adds_no_version { IfOk result (λ change. AddsNoVersion change) };
 }
 
 impl Setting for Level {
@@ -88,7 +88,7 @@ impl Setting for Level {
         Code::NoOwnLevel
     }
 
-    fn change(self, subject: Option<&Subject>) -> Result<Change, OutOfMemory> {
+    fn to_change(self, subject: Option<&Subject>) -> Result<Change, OutOfMemory> {
         let change = match subject {
             None => Change::SetGlobal { level: self },
             Some(subject) => Change::SetLevel {
@@ -129,7 +129,7 @@ impl Setting for Mode {
         Code::NoOwnMode
     }
 
-    fn change(self, subject: Option<&Subject>) -> Result<Change, OutOfMemory> {
+    fn to_change(self, subject: Option<&Subject>) -> Result<Change, OutOfMemory> {
         let change = match subject {
             None => Change::SetGlobalMode { mode: self },
             Some(subject) => Change::SetMode {
@@ -153,14 +153,14 @@ pub fn set<S: Setting>(
     ensures changes { IfOk result (λ decision. (g : Registry)
         → after_changes decision.changes.items g ≡ (set S.setting g (option_copied subject.entry) (S.setting.value_of text.now)).0) }
     ensures fit { IfOk result (λ decision. (g : Registry) → ChangesFit decision.changes.items g) }
-    ensures adds { IfOk result (λ decision. AddNoVersion decision.changes.items) }
+    ensures adds_no_version { IfOk result (λ decision. AddNoVersion decision.changes.items) }
     ensures refusal { IfOk result (λ decision. decision.reply.status ≢ 200 → decision.changes.items ≡ []) }
 {
     let Some(value) = S::read(text) else {
         return Ok(unchanged(alloc, Reply::fault(S::unknown())));
     };
     let reply = setting_object_reply(alloc, S::member_in_put(), value.spelt())?;
-    let change = value.change(subject)?;
+    let change = value.to_change(subject)?;
     let mut changes = Vec::new(alloc);
     changes.push(change)?;
     Ok(Decision { changes, reply })
@@ -179,8 +179,11 @@ pub fn own_or_global<S: Copy>(own: Option<S>, global: S, default_to_global: bool
 }
 
 /// The reply that shows the value, or a fault if there is none.
-pub fn shown_reply<S: Setting>(alloc: Global, value: Option<S>) -> Result<Reply, OutOfMemory>
-    ensures { IfOk result (λ reply. reply ≡ shown_reply S.setting value) }
+pub fn setting_reply_or_fault<S: Setting>(
+    alloc: Global,
+    value: Option<S>,
+) -> Result<Reply, OutOfMemory>
+    ensures { IfOk result (λ reply. reply ≡ setting_reply_or_fault S.setting value) }
 {
     match value {
         Some(value) => setting_reply(alloc, value),

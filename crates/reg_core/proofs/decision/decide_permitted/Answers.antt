@@ -49,16 +49,16 @@ returns-in-SetMode-clause-own c =
     c.set-in-SetMode.ensures.reply
 
 pub returns-in-SetGlobal-clause-evidence : goal.returns-in-SetGlobal-clause-evidence
-returns-in-SetGlobal-clause-evidence c = IfOk-weaker c.set.result _ _ (λ d none g input. add_none-tell d.changes.items none g) c.set.ensures.adds
+returns-in-SetGlobal-clause-evidence c = IfOk-weaker c.set.result _ _ (λ d none g input. add_none-tell d.changes.items none g) c.set.ensures.adds_no_version
 
 pub returns-in-SetLevel-clause-evidence : goal.returns-in-SetLevel-clause-evidence
-returns-in-SetLevel-clause-evidence c = IfOk-weaker c.set-in-SetLevel.result _ _ (λ d none g input. add_none-tell d.changes.items none g) c.set-in-SetLevel.ensures.adds
+returns-in-SetLevel-clause-evidence c = IfOk-weaker c.set-in-SetLevel.result _ _ (λ d none g input. add_none-tell d.changes.items none g) c.set-in-SetLevel.ensures.adds_no_version
 
 pub returns-in-SetGlobalMode-clause-evidence : goal.returns-in-SetGlobalMode-clause-evidence
-returns-in-SetGlobalMode-clause-evidence c = IfOk-weaker c.set-in-SetGlobalMode.result _ _ (λ d none g input. add_none-tell d.changes.items none g) c.set-in-SetGlobalMode.ensures.adds
+returns-in-SetGlobalMode-clause-evidence c = IfOk-weaker c.set-in-SetGlobalMode.result _ _ (λ d none g input. add_none-tell d.changes.items none g) c.set-in-SetGlobalMode.ensures.adds_no_version
 
 pub returns-in-SetMode-clause-evidence : goal.returns-in-SetMode-clause-evidence
-returns-in-SetMode-clause-evidence c = IfOk-weaker c.set-in-SetMode.result _ _ (λ d none g input. add_none-tell d.changes.items none g) c.set-in-SetMode.ensures.adds
+returns-in-SetMode-clause-evidence c = IfOk-weaker c.set-in-SetMode.result _ _ (λ d none g input. add_none-tell d.changes.items none g) c.set-in-SetMode.ensures.adds_no_version
 
 pub returns-in-DeleteVersion-clause-evidence : goal.returns-in-DeleteVersion-clause-evidence
 returns-in-DeleteVersion-clause-evidence c = IfOk-weaker c.delete_version.result _ _ (λ d none g input. add_none-tell d.changes.items none g) c.delete_version.ensures.adds

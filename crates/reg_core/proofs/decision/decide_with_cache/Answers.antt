@@ -39,9 +39,9 @@ carried command schema view (Ok d) free reply changes fit evidence read refusal 
 }
 carried command schema view (Err e) free reply changes fit evidence read refusal own = tt
 
-pub returns-then-is_read_only : goal.returns-then-is_read_only
-returns-then-is_read_only c =
-    let read_only = sym c.is_read_only.ensures ∙ c.if-is_read_only.true in
+pub returns-then-is_forbidden_by_mode : goal.returns-then-is_forbidden_by_mode
+returns-then-is_forbidden_by_mode c =
+    let read_only = sym c.is_forbidden_by_mode.ensures ∙ c.if-is_forbidden_by_mode.true in
     let told = c.unchanged.ensures.reply ∙ c.fault.ensures in
     let none = c.unchanged.ensures.changes in
     record {
@@ -57,6 +57,6 @@ returns-then-is_read_only c =
 
 pub returns : goal.returns
 returns c =
-    let free = sym c.is_read_only.ensures ∙ c.if-is_read_only.false in
+    let free = sym c.is_forbidden_by_mode.ensures ∙ c.if-is_forbidden_by_mode.false in
     let done = rw c.schema_if_sent.ensures at c.decide_permitted.ensures in
     carried c.args.command.now _ c.args.view.now c.decide_permitted.result free done.reply done.changes done.fit done.evidence done.read done.refusal done.own

@@ -1,7 +1,7 @@
 use Rattle.std.proofs.Common.{true≢false, refl, sym, ◌∙◌}
 use Rattle.reg_rows.specs.Inside.Search.{HasVersion}
 use Rattle.reg_rows.proofs.EachRow.{at_start, passes, fails, over}
-use Rattle.reg_rows.proofs.positions.have_versions.Goals as goal
+use Rattle.reg_rows.proofs.positions.contains_version_of_each.Goals as goal
 
 pub loop-position-init : goal.loop-position-init
 loop-position-init c = at_start (HasVersion c.args.sorted.now) c.args.positions.now

@@ -7,7 +7,7 @@ use Rattle.serde_json.specs.Written.{compact_text}
 use Rattle.serde_json.specs.declared.value.Value.{Array, the_lemmas}
 use Rattle.reg_core.specs.Replies.{success}
 use Rattle.reg_core.proofs.Arrays.{array_shown}
-use Rattle.reg_core.proofs.decision.bodies.texts_reply.Goals as goal
+use Rattle.reg_core.proofs.decision.bodies.strings_reply.Goals as goal
 
 pub returns : goal.returns
 returns c =

@@ -11,7 +11,7 @@ use Rattle.reg_core.proofs.RegisterLemmas.{not_told}
 use Rattle.reg_core.proofs.VersionVerdicts.{named_ids}
 use Rattle.std.specs.Prelude.{is_some}
 use Rattle.reg_core.specs.RegisterCommands.{is_among}
-use Rattle.reg_core.proofs.decision.needs.register_ids.Goals as goal
+use Rattle.reg_core.proofs.decision.needs.ids_for_register.Goals as goal
 
 pub returns : goal.returns
 returns c =

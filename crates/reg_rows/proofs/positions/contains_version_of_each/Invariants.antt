@@ -1,6 +1,6 @@
 use Rattle.reg_rows.specs.Inside.Search.{HasVersion}
 use Rattle.reg_rows.proofs.EachRow.{Left}
-use Rattle.reg_rows.proofs.positions.have_versions.Given as goal
+use Rattle.reg_rows.proofs.positions.contains_version_of_each.Given as goal
 
 abbrev pub invariant-loop-position : goal.invariant-loop-position
 invariant-loop-position l = Left (HasVersion l.sorted) l.positions l.position-index

@@ -9,7 +9,7 @@ use Rattle.reg_core.specs.Views.{level_of_view, found_as_list}
 use Rattle.reg_core.specs.ReadCommands.{found_row}
 use Rattle.reg_core.specs.Numbers.{parse_choice}
 use Rattle.reg_core.proofs.VersionVerdicts.{named_ids}
-use Rattle.reg_core.proofs.decision.needs.check_ids.Goals as goal
+use Rattle.reg_core.proofs.decision.needs.ids_for_check.Goals as goal
 
 pub returns-in-Ok : goal.returns-in-Ok
 returns-in-Ok c =
