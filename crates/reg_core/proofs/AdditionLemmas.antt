@@ -19,7 +19,7 @@ use Rattle.reg_core.specs.Rows.{rows_of, live_rows, next_number, schemas_of}
 use Rattle.reg_core.specs.Settings.{Setting, level_setting, mode_setting, set, with_level, with_mode}
 use Rattle.reg_core.specs.RegisterCommands.{supported_schema, id_for, with_version, registered, register, is_admitted_after, level_in}
 use Rattle.reg_core.specs.Machine.{permitted_step}
-use Rattle.reg_core.specs.Additions.{WasAdmitted, IsRetained, IsAddition, EachRetainedOrAdded, AddsOnlyAdmitted}
+use Rattle.reg_core.specs.Additions.{IsAdmissible, IsRetained, IsAddition, EachRetainedOrAdded, AddsOnlyAdmitted}
 use Rattle.reg_core.proofs.DeletionLemmas.{itself, delete_version-were, delete_subject-were}
 use Rattle.reg_core.proofs.ModeLemmas.{step-either}
 use Rattle.reg_core.proofs.VerdictLemmas.{admits_decided}
@@ -48,7 +48,7 @@ itself_adds : (g : Registry) (c : Command) → EachRetainedOrAdded g c g
 itself_adds g c key version e = inl (itself g.rows key version e)
 
 -- if the test of the level passes, the schema was admitted
-was_admitted : (g : Registry) → IsRegistry g → (subject text : List ℕ) (new : List NodeView) → TextDenotes text new → is_admitted_after g.schemas (level_in g subject) (live_rows (rows_of g subject)) new ≡ true → WasAdmitted g subject text
+was_admitted : (g : Registry) → IsRegistry g → (subject text : List ℕ) (new : List NodeView) → TextDenotes text new → is_admitted_after g.schemas (level_in g subject) (live_rows (rows_of g subject)) new ≡ true → IsAdmissible g subject text
 was_admitted g ok subject text new denotes passed =
     let live = schemas_of g.schemas (live_rows (rows_of g subject)) in
     record { new = new; denotes = denotes; live = live; are = live_schemas-each g ok subject; admits = (admits_decided (level_in g subject) live new).0 passed }

@@ -11,7 +11,7 @@ use Rattle.reg_core.specs.declared.level.Level.{Level}
 use Rattle.reg_core.specs.declared.mode.Mode.{Mode}
 use Rattle.reg_core.specs.declared.command.Command.{Command}
 use Rattle.reg_core.specs.declared.command.Command.TheVariants.{SetGlobal, SetLevel, Register, DeleteVersion, DeleteSubject, Global, LevelOf, Lookup, Subjects, Versions, Version, Text, ById, VersionsOfId, Types, Check, CheckAll, SetGlobalMode, SetMode, GlobalMode, ModeOf}
-use Rattle.reg_core.specs.Additions.{WasAdmitted, IsRetained, IsAddition}
+use Rattle.reg_core.specs.Additions.{IsAdmissible, IsRetained, IsAddition}
 use Rattle.reg_core.specs.Compatibility.{Admits}
 use Rattle.reg_core.specs.DeletionCommands.{row_to_soft_delete, row_to_remove, with_deleted, without_row, version_deleted, delete_version, soft_delete, remove_subject, delete_subject}
 use Rattle.reg_core.specs.Evidence.{Evidence, EvidenceMap, IsTrueForSchema, IsTrueEvidence, next_evidence, kept_or_new, IsEvidenceAfter}
@@ -136,7 +136,7 @@ each_is schemas (row ∷ rows) [] h = absurd h
 each_is schemas (row ∷ rows) (nodes ∷ live) h =
     ap (λ (rest : List (List NodeView)). nodes ∷ rest) (each_is schemas rows live h.1) ∙ sym (ap (λ (o : Option (List NodeView)). cons_option o (schemas_of schemas rows)) h.0)
 
-was-true : (g : Registry) → IsRegistry g → (subject text : List ℕ) (was : WasAdmitted g subject text) → IsTrueForSchema g.schemas was.new (next_evidence g subject)
+was-true : (g : Registry) → IsRegistry g → (subject text : List ℕ) (was : IsAdmissible g subject text) → IsTrueForSchema g.schemas was.new (next_evidence g subject)
 was-true g ok subject text was =
     admitted-true g ok subject was.new
     (subst (λ (live : List (List NodeView)). Admits (level_in g subject) live was.new) (each_is g.schemas (live_rows (rows_of g subject)) was.live was.are) was.admits)

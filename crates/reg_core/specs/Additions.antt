@@ -15,7 +15,7 @@ use Rattle.reg_core.specs.Machine.{step}
 -- Schema Evolution and Compatibility, Compatibility Types: in `g`, the registry before the command, the text denotes `new`; the subject's
 -- live versions, in order of number, have the schemas `live`; and the level in force (the subject's own, else the global one) admits
 -- `new` after them
-pub record WasAdmitted (g : Registry) (subject text : List ℕ) : Type 0 where
+pub record IsAdmissible (g : Registry) (subject text : List ℕ) : Type 0 where
   pub new : List NodeView
   pub denotes : TextDenotes text new
   pub live : List (List NodeView)
@@ -30,7 +30,7 @@ pub record IsAddition (g : Registry) (command : Command) (after : Registry) (key
   pub text : List ℕ
   pub supported : Bool
   pub command_is : command ≡ Register subject text supported
-  pub admitted : WasAdmitted g subject text
+  pub admitted : IsAdmissible g subject text
   pub next : key ≡ (subject, next_number (rows_of g subject))
   pub absent : get g.rows key ≡ None
   pub has_schema : schema_at after.schemas version.id ≡ Some admitted.new

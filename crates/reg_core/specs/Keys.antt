@@ -7,6 +7,10 @@ use Rattle.std.specs.Char.{is_ascii_alphanumeric}
 abbrev pub is_key_byte : ℕ → Bool
 is_key_byte c = is_ascii_alphanumeric c || list_any (λ mark. c == mark) (codes "._-")
 
+-- this project's choice: the most bytes of a retry key
+abbrev pub max_key_length : ℕ
+max_key_length = 64
+
 -- this project's choice: a retry key is 1 to 64 bytes, and each of them is an `is_key_byte`
 abbrev pub IsKey : List ℕ → Type 0
-IsKey text = (0 < length text) × (length text ≤ 64) × All (λ c. IsTrue (is_key_byte c)) text
+IsKey text = (0 < length text) × (length text ≤ max_key_length) × All (λ c. IsTrue (is_key_byte c)) text

@@ -5,6 +5,9 @@ ghost use Rattle.reg_core.specs.Keys.{is_key_byte, IsKey};
 
 use std::marker::Model;
 
+/// The most bytes of a retry key.
+const MAX_KEY_LENGTH: usize = 64;
+
 /// A retry key, which identifies one delivery and its retries. It borrows its text. Contracts see
 /// the bytes.
 #[derive(Debug, Drop)]
@@ -36,7 +39,7 @@ impl<'a> Key<'a> {
         ensures { SomeIff result (IsKey text.now) text.now }
     {
         let bytes = text.as_bytes();
-        if bytes.is_empty() || bytes.len() > 64 {
+        if bytes.is_empty() || bytes.len() > MAX_KEY_LENGTH {
             return None;
         }
         if bytes.iter().all(|byte| is_key_byte(*byte)) {

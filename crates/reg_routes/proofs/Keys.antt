@@ -8,7 +8,7 @@ use Rattle.std.proofs.lemmas.Bool.Decides.{nat_tests}
 use Rattle.std.proofs.lemmas.List.{get_or_past}
 use Rattle.std.proofs.lemmas.List.Sums.{AllPass-from_list_all, list_all-from_AllPass}
 use Rattle.std.proofs.lemmas.Str.{IsUtf8-from_ascii}
-use Rattle.reg_core.specs.Keys.{is_key_byte, IsKey}
+use Rattle.reg_core.specs.Keys.{is_key_byte, max_key_length, IsKey}
 use Rattle.reg_routes.specs.Keys.{is_key}
 
 at_least_one : (n : ℕ) → nat_lt 0 n ≡ true → 0 < n
@@ -29,17 +29,17 @@ below i n e = grind (arith, nat_tests)
 pub is_key-true : (text : List ℕ) → is_key text ≡ true → IsKey text
 is_key-true text e =
     let some = nat_lt 0 (length text) in
-    let few = nat_le (length text) 64 in
+    let few = nat_le (length text) max_key_length in
     let bytes = and_parts (some && few) (list_all is_key_byte text) e in
     let sizes = and_parts some few bytes.0 in
-    (at_least_one (length text) sizes.0, at_most (length text) 64 sizes.1, AllPass-from_list_all is_key_byte text bytes.1)
+    (at_least_one (length text) sizes.0, at_most (length text) max_key_length sizes.1, AllPass-from_list_all is_key_byte text bytes.1)
 
 pub is_key-from : (text : List ℕ) → IsKey text → is_key text ≡ true
 is_key-from text k =
     let some = nat_lt 0 (length text) in
-    let few = nat_le (length text) 64 in
+    let few = nat_le (length text) max_key_length in
     and_from (some && few) (list_all is_key_byte text)
-    (and_from some few (from_one (length text) k.0) (from_most (length text) 64 k.1))
+    (and_from some few (from_one (length text) k.0) (from_most (length text) max_key_length k.1))
     (list_all-from_AllPass is_key_byte text k.2)
 
 key_byte_ascii : (c : ℕ) → is_key_byte c ≡ true → c < 128

@@ -4,12 +4,12 @@ use Rattle.std.specs.List.{list_all}
 use Rattle.reg_core.specs.declared.code.Code.{Code}
 use Rattle.reg_core.specs.declared.code.Code.TheVariants.{MalformedRequest}
 use Rattle.reg_core.specs.declared.command.Command.{Command}
-use Rattle.reg_core.specs.Keys.{is_key_byte}
+use Rattle.reg_core.specs.Keys.{is_key_byte, max_key_length}
 use Rattle.reg_core.specs.Machine.{is_write}
 
 -- a valid retry key has 1 to 64 bytes of those that keys may have
 abbrev pub is_key : List ℕ → Bool
-is_key text = nat_lt 0 (length text) && nat_le (length text) 64 && list_all is_key_byte text
+is_key text = nat_lt 0 (length text) && nat_le (length text) max_key_length && list_all is_key_byte text
 
 -- the retry key by the values of its field: no value, or one valid key
 abbrev pub retry_key_of : List (List ℕ) → Result (Option (List ℕ)) Code

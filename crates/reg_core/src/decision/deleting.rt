@@ -40,7 +40,7 @@ pub fn delete_version(
         → IsDecisionInput g (DeleteVersion subject.now version.now permanent) schema view.now
         → after_changes decision.changes.items g ≡ (permitted_step g (DeleteVersion subject.now version.now permanent)).0) }
     ensures fit { IfOk result (λ decision. (g : Registry) → ChangesFit decision.changes.items g) }
-    ensures adds { IfOk result (λ decision. AddNoVersion decision.changes.items) }
+    ensures adds_no_version { IfOk result (λ decision. AddNoVersion decision.changes.items) }
     ensures refusal { IfOk result (λ decision. decision.reply.status ≢ 200 → decision.changes.items ≡ []) }
     ensures own { IfOk result (λ decision. IsCommandReply decision.reply) }
 {
@@ -148,7 +148,7 @@ pub fn delete_subject(
         → IsDecisionInput g (DeleteSubject subject.now permanent) schema view.now
         → after_changes decision.changes.items g ≡ (permitted_step g (DeleteSubject subject.now permanent)).0) }
     ensures fit { IfOk result (λ decision. (g : Registry) → ChangesFit decision.changes.items g) }
-    ensures adds { IfOk result (λ decision. AddNoVersion decision.changes.items) }
+    ensures adds_no_version { IfOk result (λ decision. AddNoVersion decision.changes.items) }
     ensures refusal { IfOk result (λ decision. decision.reply.status ≢ 200 → decision.changes.items ≡ []) }
     ensures own { IfOk result (λ decision. IsCommandReply decision.reply) }
 {

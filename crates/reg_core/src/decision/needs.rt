@@ -42,10 +42,10 @@ pub fn ids_to_read(alloc: Global, command: &Command, view: &View) -> Result<Vec<
             version,
             deleted,
             ..
-        } => version_ids(alloc, view, version.as_str(), *deleted),
+        } => ids_for_version(alloc, view, version.as_str(), *deleted),
         Command::ById { .. } => latest_id(alloc, &view.rows),
         Command::Check { version, .. } => ids_for_check(alloc, view, version.as_str()),
-        Command::CheckAll { .. } => check_all_ids(alloc, view),
+        Command::CheckAll { .. } => ids_for_check_all(alloc, view),
         Command::SetGlobal { .. }
         | Command::SetLevel { .. }
         | Command::DeleteVersion { .. }
@@ -77,7 +77,7 @@ fn ids_for_register(alloc: Global, view: &View) -> Result<Vec<u32>, OutOfMemory>
 }
 
 /// The ids that CheckAll compares with.
-fn check_all_ids(alloc: Global, view: &View) -> Result<Vec<u32>, OutOfMemory>
+fn ids_for_check_all(alloc: Global, view: &View) -> Result<Vec<u32>, OutOfMemory>
     ensures { IfOk result (λ ids. ids.items
         ≡ map (λ row. row.1.id) (named_versions (level_of_view view.now) (live_rows view.now.rows.items))) }
 {
@@ -98,7 +98,7 @@ fn ids_for_check(alloc: Global, view: &View, version: &str) -> Result<Vec<u32>, 
 }
 
 /// The id of the version that the text chooses, if it is found.
-fn version_ids(
+fn ids_for_version(
     alloc: Global,
     view: &View,
     version: &str,

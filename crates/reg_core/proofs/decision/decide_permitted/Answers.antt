@@ -61,10 +61,10 @@ pub returns-in-SetMode-clause-evidence : goal.returns-in-SetMode-clause-evidence
 returns-in-SetMode-clause-evidence c = IfOk-weaker c.set-in-SetMode.result _ _ (λ d none g input. add_none-tell d.changes.items none g) c.set-in-SetMode.ensures.adds_no_version
 
 pub returns-in-DeleteVersion-clause-evidence : goal.returns-in-DeleteVersion-clause-evidence
-returns-in-DeleteVersion-clause-evidence c = IfOk-weaker c.delete_version.result _ _ (λ d none g input. add_none-tell d.changes.items none g) c.delete_version.ensures.adds
+returns-in-DeleteVersion-clause-evidence c = IfOk-weaker c.delete_version.result _ _ (λ d none g input. add_none-tell d.changes.items none g) c.delete_version.ensures.adds_no_version
 
 pub returns-in-DeleteSubject-clause-evidence : goal.returns-in-DeleteSubject-clause-evidence
-returns-in-DeleteSubject-clause-evidence c = IfOk-weaker c.delete_subject.result _ _ (λ d none g input. add_none-tell d.changes.items none g) c.delete_subject.ensures.adds
+returns-in-DeleteSubject-clause-evidence c = IfOk-weaker c.delete_subject.result _ _ (λ d none g input. add_none-tell d.changes.items none g) c.delete_subject.ensures.adds_no_version
 
 pub returns-in_ok-reply-in_default-clause-evidence : goal.returns-in_ok-reply-in_default-clause-evidence
 returns-in_ok-reply-in_default-clause-evidence c g input = subst (λ (items : List Change). UpdateEvidence items g) (sym c.unchanged.ensures.changes) (add_none-tell [] tt g)

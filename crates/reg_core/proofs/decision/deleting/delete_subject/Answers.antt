@@ -113,14 +113,14 @@ returns-clause-fit c =
     (λ decision h g. subst (λ (changes : List Change). ChangesFit changes g) (sym (h ∙ changes_seen false c.args.subject.now c.deref-else-permanent.result.now _ (λ i. now c.deref-else-permanent.result.now))) (changes_of-fit false c.args.subject.now (now c.deref-else-permanent.result.now) g))
     c.delete_all-else-permanent.ensures.changes
 
-pub returns-then-permanent-clause-adds : goal.returns-then-permanent-clause-adds
-returns-then-permanent-clause-adds c =
+pub returns-then-permanent-clause-adds_no_version : goal.returns-then-permanent-clause-adds_no_version
+returns-then-permanent-clause-adds_no_version c =
     IfOk-weaker c.delete_all.result _ _
     (λ decision h. subst AddNoVersion (sym (h ∙ changes_seen true c.args.subject.now c.deref-then-permanent.result.now _ (λ i. now c.deref-then-permanent.result.now))) (changes_of-add_none true c.args.subject.now (now c.deref-then-permanent.result.now)))
     c.delete_all.ensures.changes
 
-pub returns-clause-adds : goal.returns-clause-adds
-returns-clause-adds c =
+pub returns-clause-adds_no_version : goal.returns-clause-adds_no_version
+returns-clause-adds_no_version c =
     IfOk-weaker c.delete_all-else-permanent.result _ _
     (λ decision h. subst AddNoVersion (sym (h ∙ changes_seen false c.args.subject.now c.deref-else-permanent.result.now _ (λ i. now c.deref-else-permanent.result.now))) (changes_of-add_none false c.args.subject.now (now c.deref-else-permanent.result.now)))
     c.delete_all-else-permanent.ensures.changes

@@ -5,7 +5,7 @@ use Rattle.reg_core.specs.Registry.{Row}
 use Rattle.reg_core.specs.Rows.{live_rows}
 use Rattle.reg_core.specs.Views.{level_of_view}
 use Rattle.reg_core.proofs.VersionVerdicts.{named_ids}
-use Rattle.reg_core.proofs.decision.needs.check_all_ids.Goals as goal
+use Rattle.reg_core.proofs.decision.needs.ids_for_check_all.Goals as goal
 
 pub returns : goal.returns
 returns c =
