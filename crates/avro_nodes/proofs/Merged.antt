@@ -7,7 +7,7 @@ use Rattle.std.proofs.lemmas.Bool.{false≢true, and_parts}
 use Rattle.std.proofs.lemmas.Map.Text.{is_eq-slice_cmp}
 use Rattle.std.proofs.lemmas.Slice.Eq.{bytes_eq-Decides}
 use Rattle.serde_json.specs.Data.{Data, Members, no_members, member, put}
-use Rattle.avro_nodes.specs.Inside.Objects.{Attribute, put_attributes, before_then, rest_after, merged}
+use Rattle.avro_nodes.specs.Inside.Objects.{Attribute, put_attributes, members_before_then, rest_after, merged}
 
 abbrev pub order : List ℕ → List ℕ → Ordering
 order k l = slice_cmp nat_cmp k l
@@ -17,22 +17,22 @@ same_name k l e = (bytes_eq-Decides k l).0 (sym (is_eq-slice_cmp k l) ∙ ap is_
 
 -- ---- one attribute
 
-put-at : (o : Ordering) (k : List ℕ) (d : Data) (l : List ℕ) (e : Data) (ms : Members) → order k l ≡ o → put k d ms ≡ before_then k ms (member k d (rest_after k ms))
-    → put k d (member l e ms) ≡ before_then k (member l e ms) (member k d (rest_after k (member l e ms)))
+put-at : (o : Ordering) (k : List ℕ) (d : Data) (l : List ℕ) (e : Data) (ms : Members) → order k l ≡ o → put k d ms ≡ members_before_then k ms (member k d (rest_after k ms))
+    → put k d (member l e ms) ≡ members_before_then k (member l e ms) (member k d (rest_after k (member l e ms)))
 put-at Less k d l e ms is more = rw is refl
 put-at Equal k d l e ms is more = rw is (ap (λ (m : List ℕ). member m d ms) (sym (same_name k l is)))
 put-at Greater k d l e ms is more = rw is (ap (member l e) more)
 
-put-before_then : (k : List ℕ) (d : Data) (ms : Members) → put k d ms ≡ before_then k ms (member k d (rest_after k ms))
-put-before_then k d no_members = refl
-put-before_then k d (member l e ms) = put-at (order k l) k d l e ms refl (put-before_then k d ms)
+put-members_before_then : (k : List ℕ) (d : Data) (ms : Members) → put k d ms ≡ members_before_then k ms (member k d (rest_after k ms))
+put-members_before_then k d no_members = refl
+put-members_before_then k d (member l e ms) = put-at (order k l) k d l e ms refl (put-members_before_then k d ms)
 
 -- ---- an attribute before another one
 
 module _ (k l : List ℕ) (d : Data) (below : order k l ≡ Less) where
   -- an insertion after a name changes nothing before it
   abbrev Apart : Members → Type 0
-  Apart ms = ((more : Members) → before_then k (put l d ms) more ≡ before_then k ms more) × (rest_after k (put l d ms) ≡ put l d (rest_after k ms))
+  Apart ms = ((more : Members) → members_before_then k (put l d ms) more ≡ members_before_then k ms more) × (rest_after k (put l d ms) ≡ put l d (rest_after k ms))
 
   below_all : (m : List ℕ) → order l m ≡ Less → order k m ≡ Less
   below_all m e = nat_list_cmp_total.trans k l m below e
@@ -69,7 +69,7 @@ is_less Equal e = absurd (false≢true e)
 is_less Greater e = absurd (false≢true e)
 
 module _ (k : List ℕ) where
-  before_later : (ps : List Attribute) (others more : Members) → all_after k ps ≡ true → before_then k (put_attributes ps others) more ≡ before_then k others more
+  before_later : (ps : List Attribute) (others more : Members) → all_after k ps ≡ true → members_before_then k (put_attributes ps others) more ≡ members_before_then k others more
   before_later [] others more e = refl
   before_later ((l, None) ∷ ps) others more e = let h = and_parts (is_lt (order k l)) (all_after k ps) e in before_later ps others more h.1
   before_later ((l, Some d) ∷ ps) others more e =
@@ -88,14 +88,14 @@ merged-put_attributes [] others e = refl
 merged-put_attributes ((k, None) ∷ ps) others e = merged-put_attributes ps others (and_parts (all_after k ps) (ascending ps) e).1
 merged-put_attributes ((k, Some d) ∷ ps) others e =
     let h = and_parts (all_after k ps) (ascending ps) e in
-    ap (λ (ms : Members). before_then k others (member k d ms)) (merged-put_attributes ps (rest_after k others) h.1 ∙ sym (rest_later k ps others h.0))
+    ap (λ (ms : Members). members_before_then k others (member k d ms)) (merged-put_attributes ps (rest_after k others) h.1 ∙ sym (rest_later k ps others h.0))
     ∙ sym (before_later k ps others (member k d (rest_after k (put_attributes ps others))) h.0)
-    ∙ sym (put-before_then k d (put_attributes ps others))
+    ∙ sym (put-members_before_then k d (put_attributes ps others))
 
 -- ---- a member before the name
 
 pub rest_next : (k l : List ℕ) (d : Data) (ms : Members) → order k l ≡ Greater → rest_after k (member l d ms) ≡ rest_after k ms
 rest_next k l d ms is = rw is refl
 
-pub before_next : (k l : List ℕ) (d : Data) (ms more : Members) → order k l ≡ Greater → before_then k (member l d ms) more ≡ member l d (before_then k ms more)
+pub before_next : (k l : List ℕ) (d : Data) (ms more : Members) → order k l ≡ Greater → members_before_then k (member l d ms) more ≡ member l d (members_before_then k ms more)
 before_next k l d ms more is = rw is refl

@@ -52,7 +52,7 @@ is_point c = c == 46
 abbrev pub is_minus : ℕ → Bool
 is_minus c = c == 45
 
--- all before the first point, with the sign
+-- all before the first point, or everything if there is none; a sign stays
 abbrev pub whole_part : List ℕ → List ℕ
 whole_part s = before_first is_point s
 

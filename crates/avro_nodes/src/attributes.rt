@@ -12,7 +12,7 @@ ghost use Rattle.avro_nodes.specs.Inside.Objects.{WritesOthersBefore, WritesName
 use crate::compact::CompactWriter;
 use crate::names::has_dot;
 use crate::node::Order;
-use crate::value::{Others, write_member, write_value};
+use crate::value::{UnwrittenMembers, write_member, write_value};
 use serde_json::Value;
 use std::alloc::AllocError;
 use std::cmp::Ordering;
@@ -20,7 +20,7 @@ use std::cmp::Ordering;
 /// Writes the members that sort before the key, and skips a member with that key.
 fn write_others_before(
     out: &mut CompactWriter,
-    others: &mut Others<'_>,
+    others: &mut UnwrittenMembers<'_>,
     key: &str,
 ) -> Result<(), AllocError>
     ensures { OnOk result (WritesOthersBefore key.now (members_view others.old)
@@ -47,7 +47,7 @@ fn write_others_before(
 /// next.
 pub(crate) fn write_name(
     out: &mut CompactWriter,
-    others: &mut Others<'_>,
+    others: &mut UnwrittenMembers<'_>,
     key: &str,
 ) -> Result<(), AllocError>
     ensures { OnOk result (WritesName key.now (members_view others.old)
@@ -60,7 +60,7 @@ pub(crate) fn write_name(
 /// Writes an attribute whose value is a string.
 pub(crate) fn write_text(
     out: &mut CompactWriter,
-    others: &mut Others<'_>,
+    others: &mut UnwrittenMembers<'_>,
     key: &str,
     text: &str,
 ) -> Result<(), AllocError>
@@ -85,7 +85,7 @@ pub(crate) fn write_texts(out: &mut CompactWriter, list: &[String]) -> Result<()
 /// Writes the aliases of a type or a field, unless there are none.
 pub(crate) fn write_aliases(
     out: &mut CompactWriter,
-    others: &mut Others<'_>,
+    others: &mut UnwrittenMembers<'_>,
     aliases: &[String],
 ) -> Result<(), AllocError>
     ensures { OnOk result (WritesAttribute (codes "aliases", some_texts (texts_view aliases.now))
@@ -101,7 +101,7 @@ pub(crate) fn write_aliases(
 /// Writes a field's default, if any.
 pub(crate) fn write_default(
     out: &mut CompactWriter,
-    others: &mut Others<'_>,
+    others: &mut UnwrittenMembers<'_>,
     value: &Option<Value>,
 ) -> Result<(), AllocError>
     ensures { OnOk result (WritesAttribute (codes "default", option_map view value.now)
@@ -117,7 +117,7 @@ pub(crate) fn write_default(
 /// Writes an enum's default, if any.
 pub(crate) fn write_fallback(
     out: &mut CompactWriter,
-    others: &mut Others<'_>,
+    others: &mut UnwrittenMembers<'_>,
     fallback: &Option<String>,
 ) -> Result<(), AllocError>
     ensures { OnOk result (WritesAttribute (codes "default", option_map string (option_map string_bytes fallback.now))
@@ -132,7 +132,7 @@ pub(crate) fn write_fallback(
 /// Writes a field's order, unless it is ascending.
 pub(crate) fn write_order(
     out: &mut CompactWriter,
-    others: &mut Others<'_>,
+    others: &mut UnwrittenMembers<'_>,
     order: Order,
 ) -> Result<(), AllocError>
     ensures { OnOk result (WritesAttribute (codes "order", order_text order)
@@ -148,7 +148,7 @@ pub(crate) fn write_order(
 /// Writes an empty namespace, if a name of the null namespace is defined inside another namespace.
 pub(crate) fn write_namespace(
     out: &mut CompactWriter,
-    others: &mut Others<'_>,
+    others: &mut UnwrittenMembers<'_>,
     enclosing: &str,
     name: &str,
 ) -> Result<(), AllocError>

@@ -182,7 +182,9 @@ fn begins_number(run: &str) -> bool
     }
 }
 
-/// The text that replaces a run. It is `None` for a number that isn't whole or is out of range.
+/// The text that replaces a run. A run that doesn't begin with a digit or `-` stays as it is. The
+/// result is `None` if a number is malformed or out of range, or has an exponent, a leading zero or
+/// a fraction other than zeros.
 fn respell_run(run: &str) -> Option<&str>
     ensures { option_map (λ s. s.now) result ≡ piece_text (run_of run.now) }
 {

@@ -13,10 +13,10 @@ use std::alloc::AllocError;
 use std::collections::btree_map::Iter;
 
 /// The members of an object that aren't written yet, in byte order of their names.
-pub(crate) type Others<'a> = Iter<'a, String, Value>;
+pub(crate) type UnwrittenMembers<'a> = Iter<'a, String, Value>;
 
 /// All members of an object, in byte order of their names.
-pub(crate) fn others_of(members: &Members) -> Others<'_>
+pub(crate) fn unwritten_members(members: &Members) -> UnwrittenMembers<'_>
     ensures all { result ≡ members.now.entries }
     ensures ordered { AreOrdered (members_view members.now.entries) }
 {
@@ -74,7 +74,10 @@ pub(crate) fn write_member(
 }
 
 /// Writes the remaining members of an object and its closing bracket.
-pub(crate) fn write_rest(out: &mut CompactWriter, others: Others<'_>) -> Result<(), AllocError>
+pub(crate) fn write_rest(
+    out: &mut CompactWriter,
+    others: UnwrittenMembers<'_>,
+) -> Result<(), AllocError>
     ensures { OnOk result (EndsObject (members_view others.entry) out.old out.new) }
 {
     if others.len() == 0 {

@@ -19,7 +19,7 @@ use Rattle.avro_resolve.specs.declared.schemas.SchemaPair.{SchemaPair}
 use Rattle.avro_resolve.specs.Asking.{source_place}
 use Rattle.avro_resolve.specs.Resolution.{Pairs, Readable, first_named, source, Fits, Supports}
 use Rattle.avro_resolve.specs.Inside.Agreeing.{fields_of}
-use Rattle.avro_resolve.specs.Inside.Referrers.{element_place, AreReferrers, GivenBy, CanMatchLinks, HasBranch, IsOfNode, MayDepend}
+use Rattle.avro_resolve.specs.Inside.Referrers.{element_place, AreReferrers, GivenBy, CanMatchKinds, HasBranch, IsOfNode, LinkKindsMatch}
 use Rattle.avro_resolve.specs.Inside.Remaining.{DependsOn}
 use Rattle.avro_resolve.specs.Inside.Lists.{IsListedAt}
 use Rattle.avro_resolve.specs.Inside.Schemas.{columns, names_of, rows, IsValidSchemaPair}
@@ -192,7 +192,7 @@ module _ (schemas : SchemaPair) (is : IsValidSchemaPair schemas) (writer_links r
       let from = entry_some (source_place (fields_of a) t.field) p (sym entry ∙ told) in
       field_needed R x.referrer y.referrer p q t.index a b t.field t.there from t.at out fits
 
-  by_ways : (wx wy : LinkKind) → x.kind ≡ wx → y.kind ≡ wy → CanMatchLinks sources p x.referrer wx wy → IsOfNode (names_of schemas.writer) (Some schemas.rank_map.ranks.items) writer_links.aliased.items a x p
+  by_ways : (wx wy : LinkKind) → x.kind ≡ wx → y.kind ≡ wy → CanMatchKinds sources p x.referrer wx wy → IsOfNode (names_of schemas.writer) (Some schemas.rank_map.ranks.items) writer_links.aliased.items a x p
       → IsOfNode (names_of schemas.reader) None reader_links.aliased.items b y q → ⊥
   by_ways ByElement ByElement ex ey asks m t = contents_needed R x.referrer y.referrer p q a b (of_contents (names_of schemas.writer) (Some schemas.rank_map.ranks.items) writer_links.aliased.items a x p ex m)
       (of_contents (names_of schemas.reader) None reader_links.aliased.items b y q ey t) out fits
@@ -202,7 +202,7 @@ module _ (schemas : SchemaPair) (is : IsValidSchemaPair schemas) (writer_links r
   by_ways _ _ ex ey asks m t = absurd asks
 
 pub rests_by_links : (schemas : SchemaPair) → IsValidSchemaPair schemas → (writer_links reader_links : Links) (sources : List (Vec ℕ Global)) → AreReferrers schemas writer_links reader_links sources → (p q : ℕ) (x y : Link) → IsListedAt writer_links.lists.items x p → IsListedAt reader_links.lists.items y q
-    → x.label ≡ y.label → MayDepend sources p x y → DependsOn (rows schemas) (columns schemas) x.referrer y.referrer p q
+    → x.label ≡ y.label → LinkKindsMatch sources p x y → DependsOn (rows schemas) (columns schemas) x.referrer y.referrer p q
 rests_by_links schemas is writer_links reader_links sources are_referrers p q x y hx hy one asks R out s =
     let h = nodes_of_pair (rows schemas) (columns schemas) R x.referrer y.referrer s in
     by_ways schemas is writer_links reader_links sources are_referrers p q x y R out h.0 h.1 h.2 h.3 h.4 one x.kind y.kind refl refl asks (are_referrers.writer.links.meant x p hx h.0 h.2) (are_referrers.reader.links.meant y q hy h.1 h.3)

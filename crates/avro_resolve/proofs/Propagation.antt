@@ -21,7 +21,7 @@ use Rattle.avro_resolve.specs.Asking.{source_place, AsksFor}
 use Rattle.avro_resolve.specs.Resolution.{Pairs, first_named, source, Fits}
 use Rattle.avro_resolve.specs.Witnesses.{Pair}
 use Rattle.avro_resolve.specs.Inside.Agreeing.{fields_of}
-use Rattle.avro_resolve.specs.Inside.Referrers.{LinkedBy, HasLabel, AreReferrers, CanMatchLinks, IsNoUnion, Joins, MayDepend}
+use Rattle.avro_resolve.specs.Inside.Referrers.{LinkedBy, HasLabel, AreReferrers, CanMatchKinds, IsNoUnion, Joins, LinkKindsMatch}
 use Rattle.avro_resolve.specs.Inside.Remaining.{remains, AreRun, StillSupported, AllStillSupported, Ignores, WithinBut}
 use Rattle.avro_resolve.specs.Inside.Lists.{list_at, IsListedAt}
 use Rattle.avro_resolve.proofs.ListLemmas.{get_or_any, list_in, nothing_stands, same_place}
@@ -137,10 +137,10 @@ entry_told w r aliased sources are i number a field ea ef =
     subst (IsSourceEntry r (fields_of a) field) (sym told) entry.2
 
 module _ (sources : List (Vec ℕ Global)) (p : ℕ) where
-  may_ask : (x y : Link) → MayDepend sources p x y ⊎ (MayDepend sources p x y → ⊥)
+  may_ask : (x y : Link) → LinkKindsMatch sources p x y ⊎ (LinkKindsMatch sources p x y → ⊥)
   may_ask x y = by x.kind y.kind
     where
-      by : (v w : LinkKind) → CanMatchLinks sources p x.referrer v w ⊎ (CanMatchLinks sources p x.referrer v w → ⊥)
+      by : (v w : LinkKind) → CanMatchKinds sources p x.referrer v w ⊎ (CanMatchKinds sources p x.referrer v w → ⊥)
       by ByElement ByElement = inl tt
       by ByName ByName = inl tt
       by ByName (ByAlias number) = same_place (entry_at sources x.referrer number) (p + 1)
@@ -148,7 +148,7 @@ module _ (sources : List (Vec ℕ Global)) (p : ℕ) where
 
   -- links of the two places have the same label and can be matched
   abbrev Beside : ℕ → Link → Link → Type 0
-  Beside j x y = (y.referrer ≡ j) × ((x.label ≡ y.label) × MayDepend sources p x y)
+  Beside j x y = (y.referrer ≡ j) × ((x.label ≡ y.label) × LinkKindsMatch sources p x y)
 
   abbrev Above : List Link → ℕ → ℕ → Link → Type 0
   Above ys i j x = (x.referrer ≡ i) × ((y : Link) × Contains ys y × Beside j x y)
@@ -181,11 +181,11 @@ module _ (schemas : SchemaPair) (is : IsValidSchemaPair schemas) (writer_links r
   abbrev Listed : Type 0
   Listed = ((j ≡ q) × IsListedAt writer_links.unions.items i p) ⊎ (((i ≡ p) × IsListedAt reader_links.unions.items j q) ⊎ Meet sources p (list_at writer_links.lists.items p) (list_at reader_links.lists.items q) i j)
 
-  joined : (x y : ℕ) (P Q : Link → Type 0) → ((l m : Link) → l.referrer ≡ i → P l → Q m → (l.label ≡ m.label) × MayDepend sources p l m) → LinkedBy P writer_links.lists.items i x → LinkedBy Q reader_links.lists.items j y → x ≡ p → y ≡ q → Listed
+  joined : (x y : ℕ) (P Q : Link → Type 0) → ((l m : Link) → l.referrer ≡ i → P l → Q m → (l.label ≡ m.label) × LinkKindsMatch sources p l m) → LinkedBy P writer_links.lists.items i x → LinkedBy Q reader_links.lists.items j y → x ≡ p → y ≡ q → Listed
   joined x y P Q same (l, le, la, ls) (m, me, ma, ms) ep eq = inr (inr (l, subst (λ (z : ℕ). IsListedAt writer_links.lists.items l z) ep ls, (la, (m, subst (λ (z : ℕ). IsListedAt reader_links.lists.items m z) eq ms, (ma, same l m la le me)))))
 
-  together : (l m : Link) (v w : LinkKind) → l.kind ≡ v → m.kind ≡ w → CanMatchLinks sources p l.referrer v w → MayDepend sources p l m
-  together l m v w e f h = subst (λ (z : LinkKind). CanMatchLinks sources p l.referrer z m.kind) (sym e) (subst (λ (z : LinkKind). CanMatchLinks sources p l.referrer v z) (sym f) h)
+  together : (l m : Link) (v w : LinkKind) → l.kind ≡ v → m.kind ≡ w → CanMatchKinds sources p l.referrer v w → LinkKindsMatch sources p l m
+  together l m v w e f h = subst (λ (z : LinkKind). CanMatchKinds sources p l.referrer z m.kind) (sym e) (subst (λ (z : LinkKind). CanMatchKinds sources p l.referrer v z) (sym f) h)
 
   contained : (x y : ℕ) → LinkedBy (HasLabel 0 ByElement) writer_links.lists.items i x → LinkedBy (HasLabel 0 ByElement) reader_links.lists.items j y → (p ≡ x) × (q ≡ y) → Listed
   contained x y g h e = joined x y (HasLabel 0 ByElement) (HasLabel 0 ByElement) (λ l m la a b. (a.0 ∙ sym b.0, together l m ByElement ByElement a.1 b.1 tt)) g h (sym e.0) (sym e.1)
@@ -196,7 +196,7 @@ module _ (schemas : SchemaPair) (is : IsValidSchemaPair schemas) (writer_links r
   module _ (a b : NodeView) (ea : slice_get (rows schemas) i ≡ Some a) (eb : slice_get (columns schemas) j ≡ Some b) where
     -- a link of one of the aliases by which the field is read
     of_alias : (index : ℕ) (f : FieldView) → slice_get (fields_of b) index ≡ Some f → source_place (fields_of a) f ≡ Some p → (l : Link) → l.referrer ≡ i → (kind : LinkKind) → IsOf reader_links.aliased.items j index kind
-        → CanMatchLinks sources p l.referrer ByName kind
+        → CanMatchKinds sources p l.referrer ByName kind
     of_alias index f ef s l la ByElement of = of
     of_alias index f ef s l la ByName of = tt
     of_alias index f ef s l la (ByAlias number) of =

@@ -8,7 +8,7 @@ use Rattle.avro_resolve.specs.Asking.{ContainsAsked, at_roots, asked_by, AreReac
 use Rattle.avro_resolve.specs.declared.recursion.Walk.{Walk}
 use Rattle.avro_resolve.specs.declared.recursion.Answer.{Answer}
 use Rattle.avro_resolve.specs.declared.recursion.Answer.TheVariants.{Yes, No, Unfinished}
-use Rattle.avro_resolve.specs.Inside.Walking.{WalkInvariant, Extends, ExtendsWalk, AnswerHolds, AnswerShows}
+use Rattle.avro_resolve.specs.Inside.Walking.{WalkInvariant, Extends, ExtendsWalk, AnswerHolds, RootAnswerProves}
 use Rattle.avro_resolve.proofs.WalkSteps.{bounded}
 use Rattle.avro_resolve.proofs.PairLists.{member-nil, refuted}
 use Rattle.avro_resolve.proofs.Ends.{up_to}
@@ -57,7 +57,7 @@ module _ (w r : List NodeView) (s t : Walk) (e : s.assumed.items ≡ []) (f : s.
   abbrev AnswerResult : Answer → Type 0
   AnswerResult answer = AnswerHolds w r 0 s.assumed.items s.failed.items t (IsTrue (member t.assumed.items 0 0)) ((t.assumed.items ≡ s.assumed.items) × IsTrue (member t.failed.items 0 0)) answer
 
-  shown : (answer : Answer) → AnswerResult answer → AnswerShows w r t.visits answer
+  shown : (answer : Answer) → AnswerResult answer → RootAnswerProves w r t.visits answer
   shown Yes h = let l = h.0.good.at_least in yes_shown w r t.assumed.items t.failed.items t.visits (from_none w r s t e f h.1) h.2 (omega arith)
   shown No h = let l = h.0.good.at_least in no_shown w r t.failed.items t.visits h.0.good.refutes h.0.good.failed_differ h.2.1 (omega arith)
   shown Unfinished h = h.1
@@ -72,5 +72,5 @@ module _ (w r : List NodeView) (s t : Walk) (e : s.assumed.items ≡ []) (f : s.
   at_least No h = let l = h.0.good.at_least in let k = one_at_least t.failed.items 0 0 h.2.1 in omega arith
   at_least Unfinished h = let l = h.1 in omega arith
 
-  pub ended : (answer : Answer) → AnswerResult answer → AnswerShows w r t.visits answer × (1 ≤ t.visits) × ((ps : List Pair) → ContainsAsked w r ps → t.visits ≤ length ps * length ps)
+  pub ended : (answer : Answer) → AnswerResult answer → RootAnswerProves w r t.visits answer × (1 ≤ t.visits) × ((ps : List Pair) → ContainsAsked w r ps → t.visits ≤ length ps * length ps)
   ended answer h = (shown answer h, at_least answer h, at_most answer h)

@@ -4,7 +4,7 @@ ghost use Rattle.std.specs.Prelude.{◌<◌, ◌≡◌, ◌≤◌, ◌∷◌, �
 ghost use Rattle.std.specs.List.Sorted.{IsNonDecreasingBy};
 ghost use Rattle.avro_nodes.specs.Nodes.{nodes_view, union, NodeView};
 ghost use Rattle.avro_schema.specs.Texts.{IsSchema};
-ghost use Rattle.avro_resolve.specs.Inside.Referrers.{AreReferrers, AreUnions, HasBranch, IsNoUnion, Joins, MayDepend};
+ghost use Rattle.avro_resolve.specs.Inside.Referrers.{AreReferrers, AreUnions, HasBranch, IsNoUnion, Joins, LinkKindsMatch};
 ghost use Rattle.avro_resolve.specs.Inside.Remaining.{remains, AreRun, AreStillSupported, AreStillSupportedBut, IsRemainder, HasAgreedRemainder, IsStillSupported, IsPopped, DependsOn, Eliminates};
 ghost use Rattle.avro_resolve.specs.Inside.Lists.{list_at};
 ghost use Rattle.avro_resolve.specs.Inside.Schemas.{columns, rows};
@@ -53,7 +53,7 @@ pub fn eliminate_joined(
 ) -> AllocResult<()>
     requires popped { IsPopped schemas.now progress.old popped }
     requires rests { (x y : Link) → Contains writer_links.now x → Contains reader_links.now y → x.label ≡ y.label
-        → MayDepend sources.now popped.0 x y → DependsOn (rows schemas.now) (columns schemas.now) x.referrer y.referrer popped.0 popped.1 }
+        → LinkKindsMatch sources.now popped.0 x y → DependsOn (rows schemas.now) (columns schemas.now) x.referrer y.referrer popped.0 popped.1 }
     requires writer_links_in { All (λ x. x.referrer < length schemas.now.writer.schema.now) writer_links.now }
     requires reader_links_in { All (λ y. y.referrer < length schemas.now.reader.schema.now) reader_links.now }
     requires writer_links_sorted { IsNonDecreasingBy (λ (x : Link). x.label) writer_links.now }

@@ -18,7 +18,7 @@ use Rattle.std.specs.declared.cmp.Ordering.{Ordering}
 use Rattle.std.specs.declared.cmp.Ordering.TheVariants.{Less, Equal, Greater}
 use Rattle.avro_nodes.specs.declared.node.Field.{Field}
 use Rattle.avro_nodes.specs.Nodes.{field_view}
-use Rattle.avro_schema.specs.Inside.Distinct.{all_new, all_differ, text_hash}
+use Rattle.avro_schema.specs.Inside.Distinct.{all_new, all_distinct, text_hash}
 
 -- ---- one element at a time, and each pair
 
@@ -61,10 +61,10 @@ module _ {X : Type 0} (same : X → X → Bool) where
   none_seen [] = tt
   none_seen (x ∷ xs) = (refl, none_seen xs)
 
-  differ_if_distinct : (xs : List X) → IsDistinct same xs → all_differ same xs ≡ true
+  differ_if_distinct : (xs : List X) → IsDistinct same xs → all_distinct same xs ≡ true
   differ_if_distinct xs d = new_if_distinct (λ _. false) xs d (none_seen xs)
 
-  distinct_if_differ : (xs : List X) → all_differ same xs ≡ true → IsDistinct same xs
+  distinct_if_differ : (xs : List X) → all_distinct same xs ≡ true → IsDistinct same xs
   distinct_if_differ xs e = (distinct_if_new (λ _. false) xs e).0
 
 -- ---- sorted lists
@@ -111,14 +111,14 @@ module _ {A K : Type 0} (R : K → K → Ordering) (o : IsTotalOrder R) (same : 
       let alike = level (R (f (get_or ys k d)) (f (get_or ys (k + 1) d))) (R (f (get_or ys (k + 1) d)) (f (get_or ys k d))) (o.antisymm (f (get_or ys k d)) (f (get_or ys (k + 1) d))) (sym falls) (sorted k d (omega arith) within) in
       false≢true (sym (rw (at_place ys k before, at_place ys (k + 1) within) at apart) ∙ alike)
 
-  no_differ : (xs : List A) (b : Bool) → all_differ same (map f xs) ≡ b → (IsDistinct (eq_by_cmp R) (map f xs) → ⊥) → false ≡ b
+  no_differ : (xs : List A) (b : Bool) → all_distinct same (map f xs) ≡ b → (IsDistinct (eq_by_cmp R) (map f xs) → ⊥) → false ≡ b
   no_differ xs true e refuted = absurd (refuted (rw level_is (distinct_if_differ same (map f xs) e)))
   no_differ xs false e refuted = refl
 
   -- comparing the neighbours in the sorted list decides whether the list is distinct
-  pub rise_differ : (xs ys : List A) (b : Bool) → IsPermutation xs ys → IsSorted (λ x y. R (f x) (f y)) ys → IsAllAdjacentAnswer (λ x y r. r ≡ is_lt (R (f x) (f y))) ys b → b ≡ all_differ same (map f xs)
+  pub rise_differ : (xs ys : List A) (b : Bool) → IsPermutation xs ys → IsSorted (λ x y. R (f x) (f y)) ys → IsAllAdjacentAnswer (λ x y r. r ≡ is_lt (R (f x) (f y))) ys b → b ≡ all_distinct same (map f xs)
   rise_differ xs ys true moved sorted rise = sym (differ_if_distinct same (map f xs) (rw level_is at (sorted_distinct xs ys moved rise)))
-  rise_differ xs ys false moved sorted falls = no_differ xs (all_differ same (map f xs)) refl (λ distinct. twice xs ys falls.0 moved sorted falls.1 (falls.2 d) distinct)
+  rise_differ xs ys false moved sorted falls = no_differ xs (all_distinct same (map f xs)) refl (λ distinct. twice xs ys falls.0 moved sorted falls.1 (falls.2 d) distinct)
 
 -- texts with different hashes are different
 self_equal : (n : ℕ) → (n == n) ≡ true
@@ -141,7 +141,7 @@ module _ {A : Type 0} (text_of : A → List ℕ) where
   distinct_by_hash [] d = tt
   distinct_by_hash (x ∷ xs) d = (apart_by_hash x xs d.0, distinct_by_hash xs d.1)
 
-  pub differ_by_hash : (xs : List A) → all_differ (λ a b. a == b) (map (λ y. text_hash (text_of y)) xs) ≡ true → all_differ bytes_eq (map text_of xs) ≡ true
+  pub differ_by_hash : (xs : List A) → all_distinct (λ a b. a == b) (map (λ y. text_hash (text_of y)) xs) ≡ true → all_distinct bytes_eq (map text_of xs) ≡ true
   differ_by_hash xs e = differ_if_distinct bytes_eq (map text_of xs) (distinct_by_hash xs (distinct_if_differ (λ a b. a == b) (map (λ y. text_hash (text_of y)) xs) e))
 
 pub texts_level : eq_by_cmp (slice_cmp nat_cmp) ≡ bytes_eq

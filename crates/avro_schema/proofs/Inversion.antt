@@ -7,7 +7,7 @@ use Rattle.std.specs.Cmp.Lexicographic.{slice_cmp}
 use Rattle.std.specs.Ordering.{match_ordering}
 use Rattle.avro_nodes.specs.Limits.{max_places}
 use Rattle.avro_schema.specs.Denotes.{Lacks, AllDiffer}
-use Rattle.avro_schema.specs.Inside.Distinct.{all_new, all_differ}
+use Rattle.avro_schema.specs.Inside.Distinct.{all_new, all_distinct}
 use Rattle.std.proofs.lemmas.Option.{same_Some}
 use Rattle.serde_json.specs.Data.{Data, Members, no_members, member}
 use Rattle.serde_json.specs.Find.{get_member}
@@ -145,10 +145,10 @@ module _ {X : Type 0} (same : X → X → Bool) (tells : (x y : X) → same x y 
   none_seen [] = tt
   none_seen (x ∷ xs) = (refl, none_seen xs)
 
-pub texts_differ : (xs : List (List ℕ)) → all_differ bytes_eq xs ≡ true → AllDiffer xs
+pub texts_differ : (xs : List (List ℕ)) → all_distinct bytes_eq xs ≡ true → AllDiffer xs
 texts_differ xs e = (new_says bytes_eq not_same differ (λ _. false) xs e).1
 
-pub texts_apart : (xs : List (List ℕ)) → AllDiffer xs → all_differ bytes_eq xs ≡ true
+pub texts_apart : (xs : List (List ℕ)) → AllDiffer xs → all_distinct bytes_eq xs ≡ true
 texts_apart xs h = new_from bytes_eq not_same differ (λ _. false) xs (none_seen bytes_eq not_same differ xs) h
 
 number_tells : (x y : ℕ) → (x == y) ≡ false → x ≢ y
@@ -157,10 +157,10 @@ number_tells x y e = grind (arith, nat_tests)
 number_apart : (x y : ℕ) → x ≢ y → (x == y) ≡ false
 number_apart x y h = grind (arith, nat_tests)
 
-pub numbers_differ : (xs : List ℕ) → all_differ (λ a b. a == b) xs ≡ true → AllDiffer xs
+pub numbers_differ : (xs : List ℕ) → all_distinct (λ a b. a == b) xs ≡ true → AllDiffer xs
 numbers_differ xs e = (new_says (λ a b. a == b) number_tells number_apart (λ _. false) xs e).1
 
-pub numbers_apart : (xs : List ℕ) → AllDiffer xs → all_differ (λ a b. a == b) xs ≡ true
+pub numbers_apart : (xs : List ℕ) → AllDiffer xs → all_distinct (λ a b. a == b) xs ≡ true
 numbers_apart xs h = new_from (λ a b. a == b) number_tells number_apart (λ _. false) xs (none_seen (λ a b. a == b) number_tells number_apart xs) h
 
 -- ---- consecutive steps

@@ -6,13 +6,13 @@ use Rattle.serde_json.specs.Data as json
 use Rattle.serde_json.specs.Find.{get_member, as_object}
 use Rattle.avro_nodes.specs.Nodes.{NamedView, FieldView, NodeView, union, rec}
 use Rattle.avro_schema.specs.declared.keywords.Container.{Container}
-use Rattle.avro_schema.specs.declared.keywords.TypeName.{TypeName}
-use Rattle.avro_schema.specs.declared.keywords.TypeName.TheVariants.{Reference}
+use Rattle.avro_schema.specs.declared.keywords.TypeKind.{TypeKind}
+use Rattle.avro_schema.specs.declared.keywords.TypeKind.TheVariants.{Reference}
 use Rattle.avro_schema.specs.Names.{Known, defined}
 use Rattle.avro_nodes.specs.Names.{namespace_of}
-use Rattle.avro_schema.specs.Keywords.{type_name_of}
+use Rattle.avro_schema.specs.Keywords.{type_kind_of}
 use Rattle.avro_schema.specs.Attributes.{without_all, text_in, array_in}
-use Rattle.avro_schema.specs.Inside.Distinct.{all_differ}
+use Rattle.avro_schema.specs.Inside.Distinct.{all_distinct}
 use Rattle.avro_schema.specs.Inside.Declarations.{name_keys, named_in, FieldAttributesView, field_attributes_in, field_attribute_keys, bounded}
 use Rattle.avro_schema.specs.Inside.ValueReaders.{Part, PartReader, TypeReader, parts_of, room_at}
 use Rattle.avro_schema.specs.Inside.KindNumbers.{branch_number}
@@ -60,14 +60,14 @@ module _ (types : TypeReader) (space : List ℕ) (ms : Members) (known : Known) 
   no_word e = rw e refl
 
   module _ (type_name : List ℕ) (rest : Members) (says : text_in (codes "type") ms ≡ Some type_name) (rest_is : rest ≡ without_all (codes "type" ∷ []) ms) where
-    pub object_is : (w : TypeName) → w ≡ type_name_of type_name → object_at types space ms known first ≡ by_type_name w type_name types space rest known first
+    pub object_is : (w : TypeKind) → w ≡ type_kind_of type_name → object_at types space ms known first ≡ by_type_name w type_name types space rest known first
     unfolding object_at
     object_is w is = rw (says, ← is, rest_is) refl
 
-    pub reference_unbound : Reference ≡ type_name_of type_name → bounded rest ≡ None → object_at types space ms known first ≡ None
+    pub reference_unbound : Reference ≡ type_kind_of type_name → bounded rest ≡ None → object_at types space ms known first ≡ None
     reference_unbound is none = object_is Reference is ∙ rw none refl
 
-    pub reference_is : (extra : Members) → Reference ≡ type_name_of type_name → bounded rest ≡ Some extra → object_at types space ms known first ≡ reference_to space type_name known
+    pub reference_is : (extra : Members) → Reference ≡ type_kind_of type_name → bounded rest ≡ Some extra → object_at types space ms known first ≡ reference_to space type_name known
     reference_is extra is bound = object_is Reference is ∙ rw bound refl
 
 -- ---- arrays and maps
@@ -116,17 +116,17 @@ module _ (one : PartReader ℕ) (ds : Items) (known : Known) (first : ℕ) where
     unfolding union_at
     branches_fail none = rw (room, none) refl
 
-    pub branches_alike : (bs : List (ℕ × ℕ)) (before after : List NodeView) (known2 : Known) → AddsPart branches_read bs before after known2 → all_differ (λ a b. a == b) (map (λ b. b.1) bs) ≡ false → union_at one ds known first ≡ None
+    pub branches_alike : (bs : List (ℕ × ℕ)) (before after : List NodeView) (known2 : Known) → AddsPart branches_read bs before after known2 → all_distinct (λ a b. a == b) (map (λ b. b.1) bs) ≡ false → union_at one ds known first ≡ None
     unfolding union_at
     branches_alike bs before after known2 parts alike = rw (room, parts.is, alike) refl
 
-    union_is : (bs : List (ℕ × ℕ)) (nodes : List NodeView) (known2 : Known) → branches_read ≡ made bs nodes known2 → all_differ (λ a b. a == b) (map (λ b. b.1) bs) ≡ true
+    union_is : (bs : List (ℕ × ℕ)) (nodes : List NodeView) (known2 : Known) → branches_read ≡ made bs nodes known2 → all_distinct (λ a b. a == b) (map (λ b. b.1) bs) ≡ true
         → union_at one ds known first ≡ made place (union (map (λ b. b.0) bs) ∷ nodes) known2
     unfolding union_at
     union_is bs nodes known2 parts differ = rw (room, parts, differ) refl
 
     pub union_done : (bs : List (ℕ × ℕ)) (before mid after : List NodeView) (blank : NodeView) (known2 : Known) → place ≡ length before → mid ≡ before ++ blank ∷ []
-        → AddsPart branches_read bs mid after known2 → all_differ (λ a b. a == b) (map (λ b. b.1) bs) ≡ true
+        → AddsPart branches_read bs mid after known2 → all_distinct (λ a b. a == b) (map (λ b. b.1) bs) ≡ true
         → AddsPart (union_at one ds known first) place before (set after place (union (map (λ b. b.0) bs))) known2
     union_done bs before mid after blank known2 place_is mid_is parts differ =
         record {
@@ -211,18 +211,18 @@ module _ (types : TypeReader) (space : List ℕ) (ms : Members) (known : Known) 
           unfolding record_at
           fields_fail none = rw (room, e, f, bound, none) refl
 
-          pub fields_alike : (fields : List FieldView) (before after : List NodeView) (known2 : Known) → AddsPart fields_read fields before after known2 → all_differ bytes_eq (map (λ x. x.name) fields) ≡ false
+          pub fields_alike : (fields : List FieldView) (before after : List NodeView) (known2 : Known) → AddsPart fields_read fields before after known2 → all_distinct bytes_eq (map (λ x. x.name) fields) ≡ false
               → record_at types space ms known first ≡ None
           unfolding record_at
           fields_alike fields before after known2 parts alike = rw (room, e, f, bound, parts.is, alike) refl
 
-          record_is : (fields : List FieldView) (nodes : List NodeView) (known2 : Known) → fields_read ≡ made fields nodes known2 → all_differ bytes_eq (map (λ x. x.name) fields) ≡ true
+          record_is : (fields : List FieldView) (nodes : List NodeView) (known2 : Known) → fields_read ≡ made fields nodes known2 → all_distinct bytes_eq (map (λ x. x.name) fields) ≡ true
               → record_at types space ms known first ≡ made place (rec named fields extra ∷ nodes) known2
           unfolding record_at
           record_is fields nodes known2 parts differ = rw (room, e, f, bound, parts, differ) refl
 
           pub record_done : (fields : List FieldView) (before mid after : List NodeView) (blank : NodeView) (known2 : Known) → place ≡ length before → mid ≡ before ++ blank ∷ []
-              → AddsPart fields_read fields mid after known2 → all_differ bytes_eq (map (λ x. x.name) fields) ≡ true
+              → AddsPart fields_read fields mid after known2 → all_distinct bytes_eq (map (λ x. x.name) fields) ≡ true
               → AddsPart (record_at types space ms known first) place before (set after place (rec named fields extra)) known2
           record_done fields before mid after blank known2 place_is mid_is parts differ =
               record {

@@ -13,10 +13,10 @@ use Rattle.avro_nodes.specs.declared.node.Order.TheVariants.{Ascending, Descendi
 use Rattle.avro_nodes.specs.Names.{has_dot, namespace_of}
 use Rattle.avro_nodes.specs.Nodes.{NamedView, FieldView}
 use Rattle.avro_nodes.specs.Identity.{kind_text, texts, with_text, with_aliases, with_default, with_order, with_namespace}
-use Rattle.avro_schema.specs.declared.keywords.TypeName.{TypeName}
-use Rattle.avro_schema.specs.declared.keywords.TypeName.TheVariants as type_name
+use Rattle.avro_schema.specs.declared.keywords.TypeKind.{TypeKind}
+use Rattle.avro_schema.specs.declared.keywords.TypeKind.TheVariants as type_name
 use Rattle.avro_schema.specs.Names.{Known, is_simple, is_name_sequence, is_namespace, allowed, full_name, alias_in}
-use Rattle.avro_schema.specs.Keywords.{kind_of, type_name_of, order_of}
+use Rattle.avro_schema.specs.Keywords.{kind_of, type_kind_of, order_of}
 use Rattle.avro_schema.specs.Attributes.{◌>>=◌, without_all, text_in, array_in, text_if_any, texts_in, texts_if_any, size_of, symbol_in, fallback_in, order_in}
 use Rattle.avro_schema.specs.Denotes.{IsExtra, IsNamed, IsEnum, IsField, HasTypeName, array_keys, map_keys, fixed_keys, enum_keys, record_keys}
 use Rattle.avro_schema.proofs.Inversion.{bind_some, bind3, guard_some, not_same}
@@ -186,31 +186,31 @@ named_again space ms written known named good n name namespace aliases =
 
 -- ---- the values of `type`
 
-pub word_is_kind : (kind : PrimitiveKind) → type_name_of (kind_text kind) ≡ type_name.Primitive kind
-unfolding type_name_of
+pub word_is_kind : (kind : PrimitiveKind) → type_kind_of (kind_text kind) ≡ type_name.Primitive kind
+unfolding type_kind_of
 word_is_kind kind = rw (kind_again kind) refl
 
-typed : (w : TypeName) (name : List ℕ) (ms : Members) → type_name_of name ≡ w → get_member (codes "type") ms ≡ Some (string name) → HasTypeName ms w
+typed : (w : TypeKind) (name : List ℕ) (ms : Members) → type_kind_of name ≡ w → get_member (codes "type") ms ≡ Some (string name) → HasTypeName ms w
 typed w name ms is e = (name, text_found (codes "type") name ms e, is)
 
-word_array : type_name_of (codes "array") ≡ type_name.Array
-unfolding type_name_of kind_of
+word_array : type_kind_of (codes "array") ≡ type_name.Array
+unfolding type_kind_of kind_of
 word_array = refl
 
-word_map : type_name_of (codes "map") ≡ type_name.Map
-unfolding type_name_of kind_of
+word_map : type_kind_of (codes "map") ≡ type_name.Map
+unfolding type_kind_of kind_of
 word_map = refl
 
-word_fixed : type_name_of (codes "fixed") ≡ type_name.Fixed
-unfolding type_name_of kind_of
+word_fixed : type_kind_of (codes "fixed") ≡ type_name.Fixed
+unfolding type_kind_of kind_of
 word_fixed = refl
 
-word_enum : type_name_of (codes "enum") ≡ type_name.Enum
-unfolding type_name_of kind_of
+word_enum : type_kind_of (codes "enum") ≡ type_name.Enum
+unfolding type_kind_of kind_of
 word_enum = refl
 
-word_record : type_name_of (codes "record") ≡ type_name.Record
-unfolding type_name_of kind_of
+word_record : type_kind_of (codes "record") ≡ type_name.Record
+unfolding type_kind_of kind_of
 word_record = refl
 
 -- ---- defaults and orders

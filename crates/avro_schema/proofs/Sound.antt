@@ -9,14 +9,14 @@ use Rattle.serde_json.specs.Find.{get_member, as_object}
 use Rattle.avro_nodes.specs.Limits.{max_nesting}
 use Rattle.avro_nodes.specs.declared.node.PrimitiveKind.{PrimitiveKind}
 use Rattle.avro_nodes.specs.Nodes.{NamedView, FieldView, primitive, array, mapping, union, enumeration, fixed, rec}
-use Rattle.avro_schema.specs.declared.keywords.TypeName.{TypeName}
-use Rattle.avro_schema.specs.declared.keywords.TypeName.TheVariants as type_name
+use Rattle.avro_schema.specs.declared.keywords.TypeKind.{TypeKind}
+use Rattle.avro_schema.specs.declared.keywords.TypeKind.TheVariants as type_name
 use Rattle.avro_schema.specs.declared.keywords.Container.TheVariants as container
 use Rattle.avro_schema.specs.Names.{Known, is_simple, allowed, full_name, alias_in, defined, resolved}
 use Rattle.avro_nodes.specs.Names.{namespace_of, last_part}
-use Rattle.avro_schema.specs.Keywords.{kind_of, type_name_of}
+use Rattle.avro_schema.specs.Keywords.{kind_of, type_kind_of}
 use Rattle.avro_schema.specs.Attributes.{◌>>=◌, without_all, text_in, array_in, text_if_any, texts_in, texts_if_any, size_of, fallback_in, order_in}
-use Rattle.avro_schema.specs.Inside.Distinct.{all_differ}
+use Rattle.avro_schema.specs.Inside.Distinct.{all_distinct}
 use Rattle.avro_schema.specs.Inside.Declarations.{name_keys, if_new, new_name, named_in, symbols_in, enum_at, fixed_at, FieldAttributesView, field_attributes_in, field_attribute_keys, bounded, bounded_value}
 use Rattle.avro_schema.specs.Inside.ValueReaders.{Part, parts_of, room_at}
 use Rattle.avro_schema.specs.Kinds.{BranchKind}
@@ -91,14 +91,14 @@ enum_is : (ms : Members) (symbols : List (List ℕ)) (fallback : Option (List �
     → fallback_in symbols (get_member (codes "default") (without_all (codes "symbols" ∷ []) (without_all name_keys (inside ms)))) ≡ Some fallback → IsEnum ms symbols fallback
 unfolding symbols_in
 enum_is ms symbols fallback e f =
-    let p = bind2 (array_in (codes "symbols") (without_all name_keys (inside ms))) (λ items. texts_in (allowed is_simple) items) (λ _ found. cond (all_differ bytes_eq found) (Some found) None) symbols e in
-    let g = guard_some (all_differ bytes_eq p.1) (Some p.1) symbols p.4 in
+    let p = bind2 (array_in (codes "symbols") (without_all name_keys (inside ms))) (λ items. texts_in (allowed is_simple) items) (λ _ found. cond (all_distinct bytes_eq found) (Some found) None) symbols e in
+    let g = guard_some (all_distinct bytes_eq p.1) (Some p.1) symbols p.4 in
     let same : p.1 ≡ symbols = same_Some _ _ g.1 in
     record {
       items = p.0;
       items_are = sym (items_past (codes "symbols") (codes "type" ∷ name_keys) ms refl) ∙ p.2;
       symbols_are = p.3 ∙ ap (λ (x : List (List ℕ)). Some x) same;
-      differ = texts_differ symbols (ap (all_differ bytes_eq) (sym same) ∙ g.0);
+      differ = texts_differ symbols (ap (all_distinct bytes_eq) (sym same) ∙ g.0);
       fallback_is = ap (fallback_in symbols) (sym (get_past (codes "default") (codes "type" ∷ codes "name" ∷ codes "namespace" ∷ codes "aliases" ∷ codes "symbols" ∷ []) ms refl)) ∙ f;
     }
 
@@ -152,7 +152,7 @@ name_says None n space s known first p named e =
     let q = map_some (λ (x : ℕ). record { it = x; nodes = []; known = known }) (resolved known space s) p e in
     subst (λ (x : Part ℕ). Says_ (suc n) space (string s) known first x) q.2 (a_reference named q.1)
 
-reference_says : (n : ℕ) (space name : List ℕ) (ms : Members) (known : Known) (first : ℕ) (p : Part ℕ) → text_in (codes "type") ms ≡ Some name → type_name_of name ≡ type_name.Reference
+reference_says : (n : ℕ) (space name : List ℕ) (ms : Members) (known : Known) (first : ℕ) (p : Part ℕ) → text_in (codes "type") ms ≡ Some name → type_kind_of name ≡ type_name.Reference
     → (bounded (inside ms) >>= λ _. reference_to space name known) ≡ Some p → Says_ (suc n) space (json.object ms) known first p
 unfolding reference_to
 reference_says n space name ms known first p t w e =
@@ -265,8 +265,8 @@ module _ (n : ℕ) (says : AllSay n) where
   unfolding union_at
   union_says space ds known first p e =
       let q = bind2 (room_at first) (λ _. parts_of (branch_of (type_at n space)) ds known (first + 1))
-      (λ place ps. cond (all_differ (λ a b. a == b) (map (λ b. b.1) ps.it)) (Some (record { it = place; nodes = union (map (λ b. b.0) ps.it) ∷ ps.nodes; known = ps.known })) None) p e in
-      let g = guard_some (all_differ (λ a b. a == b) (map (λ b. b.1) q.1.it)) (Some (record { it = q.0; nodes = union (map (λ b. b.0) q.1.it) ∷ q.1.nodes; known = q.1.known })) p q.4 in
+      (λ place ps. cond (all_distinct (λ a b. a == b) (map (λ b. b.1) ps.it)) (Some (record { it = place; nodes = union (map (λ b. b.0) ps.it) ∷ ps.nodes; known = ps.known })) None) p e in
+      let g = guard_some (all_distinct (λ a b. a == b) (map (λ b. b.1) q.1.it)) (Some (record { it = q.0; nodes = union (map (λ b. b.0) q.1.it) ∷ q.1.nodes; known = q.1.known })) p q.4 in
       let room = room_is first q.0 q.2 in
       let said = branches_say space ds known (first + 1) q.1 q.3 in
       let differ = subst (λ (bs : List (ℕ × ℕ)). AllDiffer (map (λ b. b.1) bs)) (sym said.1) (numbers_differ (map (λ b. b.1) q.1.it) g.0) in
@@ -282,8 +282,8 @@ module _ (n : ℕ) (says : AllSay n) where
       let rest = without_all name_keys (inside ms) in
       let q = bind5 (room_at first) (λ _. named_in space (inside ms) known) (λ _ _. array_in (codes "fields") rest) (λ _ _ _. bounded (without_all (codes "fields" ∷ []) rest))
       (λ place named items _. parts_of (field_of (type_at n (namespace_of named.name))) items (defined known named.name place) (first + 1))
-      (λ place named _ extra ps. cond (all_differ bytes_eq (map (λ f. f.name) ps.it)) (Some (record { it = place; nodes = rec named ps.it extra ∷ ps.nodes; known = ps.known })) None) p e in
-      let g = guard_some (all_differ bytes_eq (map (λ f. f.name) q.4.it)) (Some (record { it = q.0; nodes = rec q.1 q.4.it q.3 ∷ q.4.nodes; known = q.4.known })) p q.10 in
+      (λ place named _ extra ps. cond (all_distinct bytes_eq (map (λ f. f.name) ps.it)) (Some (record { it = place; nodes = rec named ps.it extra ∷ ps.nodes; known = ps.known })) None) p e in
+      let g = guard_some (all_distinct bytes_eq (map (λ f. f.name) q.4.it)) (Some (record { it = q.0; nodes = rec q.1 q.4.it q.3 ∷ q.4.nodes; known = q.4.known })) p q.10 in
       let room = room_is first q.0 q.5 in
       let fields = subst (λ (place : ℕ). parts_of (field_of (type_at n (namespace_of q.1.name))) q.2 (defined known q.1.name place) (first + 1) ≡ Some q.4) (sym room.1) q.9 in
       subst (λ (x : Part ℕ). Says_ (suc n) space (json.object ms) known first x)
@@ -291,7 +291,7 @@ module _ (n : ℕ) (says : AllSay n) where
       (record_type s (named_is space ms known q.1 q.6) (sym (items_past (codes "fields") (codes "type" ∷ name_keys) ms refl) ∙ q.7) (others_are record_keys ms q.3 q.8) room.0
       (fields_say (namespace_of q.1.name) q.2 (defined known q.1.name first) (first + 1) q.4 fields) (texts_differ (map (λ f. f.name) q.4.it) g.0))
 
-  word_says : (w : TypeName) (space name : List ℕ) (ms : Members) (known : Known) (first : ℕ) (p : Part ℕ) → text_in (codes "type") ms ≡ Some name → type_name_of name ≡ w
+  word_says : (w : TypeKind) (space name : List ℕ) (ms : Members) (known : Known) (first : ℕ) (p : Part ℕ) → text_in (codes "type") ms ≡ Some name → type_kind_of name ≡ w
       → by_type_name w name (type_at n) space (inside ms) known first ≡ Some p → Says_ (suc n) space (json.object ms) known first p
   word_says (type_name.Primitive kind) space name ms known first p t w e = primitive_says n space ms known first kind p (name, t, w) e
   word_says type_name.Array space name ms known first p t w e = array_says space ms known first p (name, t, w) e
@@ -304,8 +304,8 @@ module _ (n : ℕ) (says : AllSay n) where
   object_says : (space : List ℕ) (ms : Members) (known : Known) (first : ℕ) (p : Part ℕ) → object_at (type_at n) space ms known first ≡ Some p → Says_ (suc n) space (json.object ms) known first p
   unfolding object_at
   object_says space ms known first p e =
-      let q = bind_some (text_in (codes "type") ms) (λ name. by_type_name (type_name_of name) name (type_at n) space (inside ms) known first) p e in
-      word_says (type_name_of q.0) space q.0 ms known first p q.1 refl q.2
+      let q = bind_some (text_in (codes "type") ms) (λ name. by_type_name (type_kind_of name) name (type_at n) space (inside ms) known first) p e in
+      word_says (type_kind_of q.0) space q.0 ms known first p q.1 refl q.2
 
 pub says : (n : ℕ) → AllSay n
 unfolding type_at name_at

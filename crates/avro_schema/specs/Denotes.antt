@@ -6,11 +6,11 @@ use Rattle.serde_json.specs.Find.{get_member}
 use Rattle.avro_nodes.specs.Limits.{max_nesting, max_places}
 use Rattle.avro_nodes.specs.declared.node.PrimitiveKind.{PrimitiveKind}
 use Rattle.avro_nodes.specs.Nodes.{NamedView, FieldView, NodeView, primitive, array, mapping, union, enumeration, fixed, rec}
-use Rattle.avro_schema.specs.declared.keywords.TypeName.{TypeName}
-use Rattle.avro_schema.specs.declared.keywords.TypeName.TheVariants as type_name
+use Rattle.avro_schema.specs.declared.keywords.TypeKind.{TypeKind}
+use Rattle.avro_schema.specs.declared.keywords.TypeKind.TheVariants as type_name
 use Rattle.avro_schema.specs.Names.{Known, is_simple, allowed, full_name, alias_in, resolved, defined}
 use Rattle.avro_nodes.specs.Names.{namespace_of, last_part}
-use Rattle.avro_schema.specs.Keywords.{kind_of, type_name_of}
+use Rattle.avro_schema.specs.Keywords.{kind_of, type_kind_of}
 use Rattle.avro_schema.specs.Attributes.{without_all, text_in, array_in, text_if_any, texts_in, texts_if_any, size_of, fallback_in, order_in}
 use Rattle.avro_schema.specs.Kinds.{BranchKind, branch_kind}
 
@@ -76,8 +76,8 @@ abbrev pub record_keys : List (List ℕ)
 record_keys = codes "type" ∷ codes "name" ∷ codes "namespace" ∷ codes "aliases" ∷ codes "fields" ∷ []
 
 -- the object's attribute `type` is a string with this meaning
-abbrev pub HasTypeName : Members → TypeName → Type 0
-HasTypeName ms w = (name : List ℕ) × (text_in (codes "type") ms ≡ Some name) × (type_name_of name ≡ w)
+abbrev pub HasTypeName : Members → TypeKind → Type 0
+HasTypeName ms w = (name : List ℕ) × (text_in (codes "type") ms ≡ Some name) × (type_kind_of name ≡ w)
 
 -- `Denotes n space value known first place nodes known2`: nested at most `n` levels deep, in the namespace `space` and with the names
 -- `known` defined, the value denotes the type at `place`. It adds `nodes` from the place `first` on: its own node, then those of the types
@@ -94,7 +94,7 @@ mutual
     primitive_type : {n : ℕ} {space : List ℕ} {ms extra : Members} {known : Known} {first : ℕ} {kind : PrimitiveKind} → HasTypeName ms (type_name.Primitive kind) → IsExtra (codes "type" ∷ []) ms extra → first < max_places
         → Denotes (suc n) space (json.object ms) known first first (primitive kind extra ∷ []) known
     -- an object whose `type` is a reference; its other attributes are dropped (this project's choice)
-    reference_type : {n : ℕ} {space name : List ℕ} {ms extra : Members} {known : Known} {first place : ℕ} → text_in (codes "type") ms ≡ Some name → type_name_of name ≡ type_name.Reference
+    reference_type : {n : ℕ} {space name : List ℕ} {ms extra : Members} {known : Known} {first place : ℕ} → text_in (codes "type") ms ≡ Some name → type_kind_of name ≡ type_name.Reference
         → IsExtra (codes "type" ∷ []) ms extra → resolved known space name ≡ Some place
         → Denotes (suc n) space (json.object ms) known first place [] known
     -- Complex Types, Arrays

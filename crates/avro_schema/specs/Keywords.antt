@@ -5,8 +5,8 @@ use Rattle.avro_nodes.specs.declared.node.PrimitiveKind.{PrimitiveKind}
 use Rattle.avro_nodes.specs.declared.node.PrimitiveKind.TheVariants.{Null, Boolean, Int, Long, Float, Double, Bytes, Text}
 use Rattle.avro_nodes.specs.declared.node.Order.{Order}
 use Rattle.avro_nodes.specs.declared.node.Order.TheVariants.{Ascending, Descending, Ignore}
-use Rattle.avro_schema.specs.declared.keywords.TypeName.{TypeName}
-use Rattle.avro_schema.specs.declared.keywords.TypeName.TheVariants.{Primitive, Array, Map, Fixed, Enum, Record, Reference}
+use Rattle.avro_schema.specs.declared.keywords.TypeKind.{TypeKind}
+use Rattle.avro_schema.specs.declared.keywords.TypeKind.TheVariants.{Primitive, Array, Map, Fixed, Enum, Record, Reference}
 
 -- the primitive type with this name
 unfoldable pub kind_of : List ℕ → Option PrimitiveKind
@@ -21,7 +21,7 @@ kind_of s =
     (if bytes_eq s (codes "string") then Some Text else None)))))))
 
 -- the complex type with this name, else a reference
-abbrev pub other_word : List ℕ → TypeName
+abbrev pub other_word : List ℕ → TypeKind
 other_word s =
     if bytes_eq s (codes "record") then Record else
     (if bytes_eq s (codes "enum") then Enum else
@@ -29,13 +29,13 @@ other_word s =
     (if bytes_eq s (codes "map") then Map else
     (if bytes_eq s (codes "fixed") then Fixed else Reference))))
 
-abbrev pub kind_or_other : Option PrimitiveKind → List ℕ → TypeName
+abbrev pub kind_or_other : Option PrimitiveKind → List ℕ → TypeKind
 kind_or_other (Some kind) s = Primitive kind
 kind_or_other None s = other_word s
 
--- the meaning of the attribute `type` of an object
-unfoldable pub type_name_of : List ℕ → TypeName
-type_name_of s = kind_or_other (kind_of s) s
+-- what an object with this `type` declares: a primitive type, a complex type or, for any other text, a reference
+unfoldable pub type_kind_of : List ℕ → TypeKind
+type_kind_of s = kind_or_other (kind_of s) s
 
 -- the `order` of a field (Avro 1.11 specification, Complex Types, Records)
 unfoldable pub order_of : List ℕ → Option Order

@@ -69,21 +69,29 @@ pub fn take_text_if_any<'a>(
     }
 }
 
-/// The name that an item of a list gives. With a namespace it is the full name of an alias, without
-/// one a simple name.
+/// The name that a text in a list of names denotes. With a namespace (empty for the null namespace)
+/// it is the full name of an alias. With `None` it is the text itself, which must be a simple name.
+///
+/// # Errors
+///
+/// `BadName` if the text isn't such a name, and `OutOfMemory` if allocation fails.
 #[tactic(auto, unfolding(crate::specs::Inside::Declarations::rule_by))]
-fn name_by(alloc: Global, text: &str, space: Option<&str>) -> Result<String, SchemaError>
+fn listed_name(
+    alloc: Global,
+    text: &str,
+    alias_namespace: Option<&str>,
+) -> Result<String, SchemaError>
     ensures { Gives string_bytes result
-        (rule_by (option_map (λ s. s.now) space.entry) text.now) }
+        (rule_by (option_map (λ s. s.now) alias_namespace.entry) text.now) }
 {
-    let Some(space) = space else {
+    let Some(namespace) = alias_namespace else {
         return if names::is_simple(text) {
             Ok(String::from_str(alloc, text)?)
         } else {
             Err(SchemaError::BadName)
         };
     };
-    match names::alias_in(alloc, space, text)? {
+    match names::alias_in(alloc, namespace, text)? {
         Some(name) => Ok(name),
         None => Err(SchemaError::BadName),
     }
@@ -109,7 +117,7 @@ pub fn names_of(
         let Some(text) = text_of(&item) else {
             return Err(SchemaError::BadShape);
         };
-        names.push(name_by(alloc, text, space)?)?;
+        names.push(listed_name(alloc, text, space)?)?;
     }
     Ok(names)
 }

@@ -216,7 +216,7 @@ fn drop_member(attributes: &mut Attributes<'_>, key: &str)
 ///
 /// # Errors
 ///
-/// `AllocError` if allocation fails.
+/// `AllocError` if allocation fails. The contract doesn't say which attributes are left then.
 pub fn put_reserved<'a>(
     attributes: &mut Attributes<'a>,
     key: &'a str,

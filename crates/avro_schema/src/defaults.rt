@@ -55,7 +55,8 @@ pub fn fits(
 }
 
 /// Whether the value fits the node. For a record, `table` is the table of its fields, if it was
-/// made. A union's branch is chosen by the caller.
+/// made. Nothing fits a union itself: the caller passes the union's first branch. Any string fits
+/// an enum. The values inside must nest less than `depth` levels deep.
 #[cycle(fit)]
 fn node_fits(
     value: &Value,

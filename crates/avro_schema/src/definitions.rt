@@ -16,7 +16,7 @@ ghost use Rattle.avro_schema.specs.Inside.NameTables.{known_in, KeepsNumbers};
 
 use crate::attributes::{names_if_any, names_of, size_of, take_items, take_text, take_text_if_any};
 use crate::borrowed::{Attributes, take};
-use crate::distinct::texts_differ;
+use crate::distinct::are_names_distinct;
 use crate::error::SchemaError;
 use crate::keywords::kind_of;
 use crate::name_table::NameTable;
@@ -138,7 +138,7 @@ fn symbols_of(alloc: Global, attributes: &mut Attributes<'_>) -> Result<Vec<Stri
         return Err(SchemaError::BadShape);
     };
     let symbols = names_of(alloc, items, None)?;
-    if texts_differ(alloc, &symbols)? {
+    if are_names_distinct(alloc, &symbols)? {
         Ok(symbols)
     } else {
         Err(SchemaError::Redefined)

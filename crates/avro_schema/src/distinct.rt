@@ -5,7 +5,7 @@ ghost use Rattle.std.specs.Cmp.Lexicographic.{slice_cmp};
 ghost use Rattle.std.specs.List.{IsAllAdjacentAnswer};
 ghost use Rattle.std.specs.Ordering.{is_lt, nat_cmp};
 ghost use Rattle.std.specs.Str.{bytes_eq};
-ghost use Rattle.avro_schema.specs.Inside.Distinct.{all_differ, text_hash};
+ghost use Rattle.avro_schema.specs.Inside.Distinct.{all_distinct, text_hash};
 
 use avro_nodes::Field;
 use std::alloc::{AllocError, Global};
@@ -90,8 +90,8 @@ fn hashes_of<T: HasName>(alloc: Global, items: &[T]) -> Result<Vec<u64>, AllocEr
 }
 
 /// Whether the hashes of the names are distinct. If so, the names are distinct, too.
-fn hashes_differ<T: HasName>(alloc: Global, items: &[T]) -> Result<bool, AllocError>
-    ensures { IfOk result (λ b. IsTrue b → true ≡ all_differ bytes_eq (map T.name_bytes items.now)) }
+fn are_hashes_distinct<T: HasName>(alloc: Global, items: &[T]) -> Result<bool, AllocError>
+    ensures { IfOk result (λ b. IsTrue b → true ≡ all_distinct bytes_eq (map T.name_bytes items.now)) }
 {
     let mut hashes = hashes_of(alloc, items)?;
     hashes.sort_unstable();
@@ -104,10 +104,10 @@ fn hashes_differ<T: HasName>(alloc: Global, items: &[T]) -> Result<bool, AllocEr
 /// # Errors
 ///
 /// `AllocError` if an allocation fails.
-pub fn texts_differ<T: HasName>(alloc: Global, items: &[T]) -> Result<bool, AllocError>
-    ensures { IfOk result (λ b. b ≡ all_differ bytes_eq (map T.name_bytes items.now)) }
+pub fn are_names_distinct<T: HasName>(alloc: Global, items: &[T]) -> Result<bool, AllocError>
+    ensures { IfOk result (λ b. b ≡ all_distinct bytes_eq (map T.name_bytes items.now)) }
 {
-    if hashes_differ(alloc, items)? {
+    if are_hashes_distinct(alloc, items)? {
         return Ok(true);
     }
     let mut names = item_names(alloc, items)?;
@@ -121,8 +121,8 @@ pub fn texts_differ<T: HasName>(alloc: Global, items: &[T]) -> Result<bool, Allo
 /// # Errors
 ///
 /// `AllocError` if an allocation fails.
-pub fn kinds_differ(alloc: Global, branches: &[(u32, u64)]) -> Result<bool, AllocError>
-    ensures { IfOk result (λ b. b ≡ all_differ (λ a c. a == c) (map (λ p. p.1) branches.now)) }
+pub fn are_kinds_distinct(alloc: Global, branches: &[(u32, u64)]) -> Result<bool, AllocError>
+    ensures { IfOk result (λ b. b ≡ all_distinct (λ a c. a == c) (map (λ p. p.1) branches.now)) }
 {
     let mut kinds: Vec<u64> = branches.iter().map(|branch| branch.1).collect(alloc)?;
     kinds.sort_unstable();

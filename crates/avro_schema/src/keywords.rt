@@ -1,13 +1,13 @@
 //! The keywords of declarations.
 
 ghost use Rattle.std.specs.Prelude.{◌≡◌, Some, None};
-ghost use Rattle.avro_schema.specs.Keywords.{kind_of, type_name_of, order_of};
+ghost use Rattle.avro_schema.specs.Keywords.{kind_of, type_kind_of, order_of};
 
 use avro_nodes::{Order, PrimitiveKind};
 
 /// The meaning of the attribute `type` of an object (Avro 1.11 specification, Schema Declaration).
 #[derive(Clone, Copy)]
-pub enum TypeName {
+pub enum TypeKind {
     /// a primitive type
     Primitive(PrimitiveKind),
     /// `array`
@@ -52,25 +52,25 @@ pub fn kind_of(name: &str) -> Option<PrimitiveKind>
 }
 
 /// The meaning of this name as the `type` of an object.
-#[tactic(auto, unfolding(crate::specs::Keywords::type_name_of))]
-pub fn type_name_of(name: &str) -> TypeName
-    ensures { result ≡ type_name_of name.now }
+#[tactic(auto, unfolding(crate::specs::Keywords::type_kind_of))]
+pub fn type_kind_of(name: &str) -> TypeKind
+    ensures { result ≡ type_kind_of name.now }
 {
     if let Some(kind) = kind_of(name) {
-        return TypeName::Primitive(kind);
+        return TypeKind::Primitive(kind);
     }
     if name == "record" {
-        TypeName::Record
+        TypeKind::Record
     } else if name == "enum" {
-        TypeName::Enum
+        TypeKind::Enum
     } else if name == "array" {
-        TypeName::Array
+        TypeKind::Array
     } else if name == "map" {
-        TypeName::Map
+        TypeKind::Map
     } else if name == "fixed" {
-        TypeName::Fixed
+        TypeKind::Fixed
     } else {
-        TypeName::Reference
+        TypeKind::Reference
     }
 }
 

@@ -11,10 +11,10 @@ ghost use Rattle.avro_schema.specs.Inside.NameTables.{known_in, HasNumber, Keeps
 use crate::attributes::{take_items, take_text};
 use crate::borrowed::{Attributes, Json, members_of, take};
 use crate::definitions::{enum_at, fixed_at, named_of, next_place, other_attributes};
-use crate::distinct::{kinds_differ, texts_differ};
+use crate::distinct::{are_kinds_distinct, are_names_distinct};
 use crate::error::SchemaError;
 use crate::field_attributes::field_attributes_of;
-use crate::keywords::{Container, TypeName, type_name_of};
+use crate::keywords::{Container, TypeKind, type_kind_of};
 use crate::name_table::{NameTable, Namespace};
 use crate::reading::kinds::{branch_number, member_name};
 use crate::reading::names::{name_at, primitive_at, reference_to};
@@ -87,26 +87,26 @@ fn object_at(
     let Some(name) = take_text(&mut attributes, "type") else {
         return Err(SchemaError::BadShape);
     };
-    match type_name_of(name) {
-        TypeName::Primitive(kind) => primitive_at(alloc, kind, attributes, nodes, known),
-        TypeName::Array => {
+    match type_kind_of(name) {
+        TypeKind::Primitive(kind) => primitive_at(alloc, kind, attributes, nodes, known),
+        TypeKind::Array => {
             let array = ContainerObject {
                 container: Container::Items,
                 attributes,
             };
             container_at(alloc, array, space, depth, nodes, known)
         }
-        TypeName::Map => {
+        TypeKind::Map => {
             let map = ContainerObject {
                 container: Container::Values,
                 attributes,
             };
             container_at(alloc, map, space, depth, nodes, known)
         }
-        TypeName::Fixed => fixed_at(alloc, attributes, space.text, nodes, known),
-        TypeName::Enum => enum_at(alloc, attributes, space.text, nodes, known),
-        TypeName::Record => record_at(alloc, attributes, space, depth, nodes, known),
-        TypeName::Reference => {
+        TypeKind::Fixed => fixed_at(alloc, attributes, space.text, nodes, known),
+        TypeKind::Enum => enum_at(alloc, attributes, space.text, nodes, known),
+        TypeKind::Record => record_at(alloc, attributes, space, depth, nodes, known),
+        TypeKind::Reference => {
             drop(other_attributes(alloc, attributes)?);
             reference_to(name, space, nodes, known)
         }
@@ -161,7 +161,7 @@ fn union_at(
     let place = next_place(nodes)?;
     nodes.push(blank(alloc))?;
     let read = branches_at(alloc, items, space, depth, nodes, known)?;
-    if !kinds_differ(alloc, &read)? {
+    if !are_kinds_distinct(alloc, &read)? {
         return Err(SchemaError::BadUnion);
     }
     let branches = read.iter().map(|b| b.0).collect(alloc)?;
@@ -243,7 +243,7 @@ fn record_at(
         number,
     };
     let fields = fields_at(alloc, items, &inside, depth, nodes, known)?;
-    if !texts_differ(alloc, &fields)? {
+    if !are_names_distinct(alloc, &fields)? {
         return Err(SchemaError::Redefined);
     }
     let node = Node::Rec {

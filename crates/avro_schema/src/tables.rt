@@ -16,7 +16,8 @@ const FEW_FIELDS: usize = 16;
 /// The indices of a record's fields.
 #[derive(Drop)]
 pub struct FieldTable<'a> {
-    /// fields to check for every default value: those without a default of their own
+    /// fields to check for every default value: those without a default of their own, and those
+    /// with the name of an earlier field in `by_name`
     pub required: Vec<usize>,
     /// fields with a default, which a default value may omit
     pub by_name: BTreeMap<&'a str, usize>,
@@ -31,18 +32,19 @@ impl<'a> FieldTable<'a> {
     }
 }
 
-/// The table of these fields. A later field with a repeated name counts as required.
+/// The table of these fields. If two fields with defaults have the same name, `required` has the
+/// later field.
 fn table_of(alloc: Global, fields: &[Field]) -> Result<FieldTable, AllocError>
     ensures { IfOk result (λ t. IsFieldTable t (map field_view fields.now)) }
 {
     let mut required = Vec::new(alloc);
     let mut by_name = BTreeMap::new(alloc);
-    for (at, field) in fields.iter().enumerate() {
+    for (index, field) in fields.iter().enumerate() {
         let name = field.name.as_str();
         if field.value.is_none() || by_name.contains_key(name) {
-            required.push(at)?;
+            required.push(index)?;
         } else {
-            by_name.insert(name, at)?;
+            by_name.insert(name, index)?;
         }
     }
     Ok(FieldTable { required, by_name })

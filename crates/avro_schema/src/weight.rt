@@ -7,10 +7,10 @@ ghost use Rattle.avro_nodes.specs.Limits.{max_nesting, max_text};
 ghost use Rattle.avro_schema.specs.Attributes.{text_in, array_in};
 ghost use Rattle.avro_schema.specs.Inside.Reserved.{is_reserved_name};
 ghost use Rattle.avro_schema.specs.Inside.Borrowed.{value_data, items_data, members_data};
-ghost use Rattle.avro_schema.specs.Inside.Weight.{if_any, items_weight, full_name_in, alias_weight, namespace_in, names_weight, definition_weight, field_weight, record_weight, object_weight, weight};
+ghost use Rattle.avro_schema.specs.Inside.Weight.{map_or_zero, items_weight, full_name_in, alias_weight, namespace_in, names_weight, enum_or_fixed_weight, field_weight, record_weight, object_weight, weight};
 
 use crate::borrowed::{Attributes, Json, array_of, find, object_of, text_of};
-use crate::keywords::{TypeName, type_name_of};
+use crate::keywords::{TypeKind, type_kind_of};
 use avro_nodes::{MAX_NESTING, MAX_TEXT, has_dot, namespace_of};
 
 /// The attribute with this name, if it is a string.
@@ -103,9 +103,9 @@ fn after_names(budget: usize, members: &Attributes<'_>, name: &str, space: &str)
 }
 
 /// What remains after a definition without types inside it.
-#[tactic(auto, unfolding(crate::specs::Inside::Weight::definition_weight))]
+#[tactic(auto, unfolding(crate::specs::Inside::Weight::enum_or_fixed_weight))]
 fn after_definition(budget: usize, members: &Attributes<'_>, enclosing: &str) -> usize
-    ensures { result ≡ budget - definition_weight enclosing.now (members_data members.now) }
+    ensures { result ≡ budget - enum_or_fixed_weight enclosing.now (members_data members.now) }
 {
     match text_at(members, "name") {
         Some(name) => after_names(
@@ -136,7 +136,7 @@ fn after_type(budget: usize, value: &Json<'_>, space: &str, depth: u32) -> usize
 
 #[cycle(weigh)]
 fn after_type_if_any(budget: usize, value: Option<&Json<'_>>, space: &str, depth: u32) -> usize
-    ensures { result ≡ budget - if_any (weight depth space.now) (option_map (λ v. value_data v.now) value.entry) }
+    ensures { result ≡ budget - map_or_zero (weight depth space.now) (option_map (λ v. value_data v.now) value.entry) }
 {
     match value {
         Some(value) => after_type(budget, value, space, depth),
@@ -163,12 +163,12 @@ fn after_object(budget: usize, members: &Attributes<'_>, space: &str, depth: u32
     let Some(name) = text_at(members, "type") else {
         return budget;
     };
-    match type_name_of(name) {
-        TypeName::Primitive(_) | TypeName::Reference => budget,
-        TypeName::Array => after_type_if_any(budget, find(members, "items"), space, depth),
-        TypeName::Map => after_type_if_any(budget, find(members, "values"), space, depth),
-        TypeName::Fixed | TypeName::Enum => after_definition(budget, members, space),
-        TypeName::Record => after_record(budget, members, space, depth),
+    match type_kind_of(name) {
+        TypeKind::Primitive(_) | TypeKind::Reference => budget,
+        TypeKind::Array => after_type_if_any(budget, find(members, "items"), space, depth),
+        TypeKind::Map => after_type_if_any(budget, find(members, "values"), space, depth),
+        TypeKind::Fixed | TypeKind::Enum => after_definition(budget, members, space),
+        TypeKind::Record => after_record(budget, members, space, depth),
     }
 }
 

@@ -26,10 +26,10 @@ abbrev pub put_attributes : List Attribute → Members → Members
 put_attributes [] others = others
 put_attributes (p ∷ ps) others = put_attribute p (put_attributes ps others)
 
--- the members before the name, and then `more`
-abbrev pub before_then : List ℕ → Members → Members → Members
-before_then k no_members more = more
-before_then k (member l e ms) more = match_ordering (slice_cmp nat_cmp k l) more more (member l e (before_then k ms more))
+-- the leading members whose names sort before `k`, and then `more` in place of the rest
+abbrev pub members_before_then : List ℕ → Members → Members → Members
+members_before_then k no_members more = more
+members_before_then k (member l e ms) more = match_ordering (slice_cmp nat_cmp k l) more more (member l e (members_before_then k ms more))
 
 -- the members from the first that isn't before the name, without one of that name
 abbrev pub rest_after : List ℕ → Members → Members
@@ -40,7 +40,7 @@ rest_after k (member l e ms) = match_ordering (slice_cmp nat_cmp k l) (member l 
 abbrev pub merged : List Attribute → Members → Members
 merged [] others = others
 merged ((k, None) ∷ ps) others = merged ps others
-merged ((k, Some d) ∷ ps) others = before_then k others (member k d (merged ps (rest_after k others)))
+merged ((k, Some d) ∷ ps) others = members_before_then k others (member k d (merged ps (rest_after k others)))
 
 -- ---- the tokens of members
 
@@ -63,7 +63,7 @@ WritesMember k d old new = (ms : Members) (end : List Token) → EndsObject ms n
 
 -- the members before the name are written, and one of that name is skipped
 abbrev pub WritesOthersBefore : List ℕ → Members → Members → List Token → List Token → Type 0
-WritesOthersBefore k others left old new = (left ≡ rest_after k others) × ((ms : Members) (end : List Token) → EndsObject ms new end → EndsObject (before_then k others ms) old end)
+WritesOthersBefore k others left old new = (left ≡ rest_after k others) × ((ms : Members) (end : List Token) → EndsObject ms new end → EndsObject (members_before_then k others ms) old end)
 
 -- The attribute is written after all members that sort before it; `left` are the members after it. For any later attributes `ps`:
 -- tokens that end the object from `new` with `ps` and `left` end it from `old` with all.

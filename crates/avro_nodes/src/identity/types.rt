@@ -15,7 +15,7 @@ use crate::attributes::{
 };
 use crate::compact::CompactWriter;
 use crate::node::{Field, Members, Named, PrimitiveKind};
-use crate::value::{Others, others_of, write_rest};
+use crate::value::{UnwrittenMembers, unwritten_members, write_rest};
 use std::alloc::AllocError;
 
 fn kind_text(kind: PrimitiveKind) -> &'static str
@@ -49,7 +49,7 @@ pub fn write_primitive(
     if extra.is_empty() {
         return out.string(kind_text(kind));
     }
-    let mut others = others_of(extra);
+    let mut others = unwritten_members(extra);
     out.begin_object()?;
     write_text(out, &mut others, "type", kind_text(kind))?;
     write_rest(out, others)
@@ -73,7 +73,7 @@ pub fn write_enum(
         (members_view extra.now.entries)) out.old out.new) }
 {
     let name = named.name.as_str();
-    let mut others = others_of(extra);
+    let mut others = unwritten_members(extra);
     out.begin_object()?;
     write_aliases(out, &mut others, &named.aliases)?;
     write_fallback(out, &mut others, fallback)?;
@@ -101,7 +101,7 @@ pub fn write_fixed(
         (members_view extra.now.entries)) out.old out.new) }
 {
     let name = named.name.as_str();
-    let mut others = others_of(extra);
+    let mut others = unwritten_members(extra);
     out.begin_object()?;
     write_aliases(out, &mut others, &named.aliases)?;
     write_text(out, &mut others, "name", name)?;
@@ -120,12 +120,12 @@ pub fn write_fixed(
 pub fn begin_array<'a>(
     out: &mut CompactWriter,
     extra: &'a Members,
-) -> Result<Others<'a>, AllocError>
+) -> Result<UnwrittenMembers<'a>, AllocError>
     ensures { IfOk result (λ others. AwaitsValue
         (λ items. array_value items (members_view extra.now.entries))
         (merged array_end (members_view others)) out.old out.new) }
 {
-    let mut others = others_of(extra);
+    let mut others = unwritten_members(extra);
     out.begin_object()?;
     write_name(out, &mut others, "items")?;
     Ok(others)
@@ -136,7 +136,10 @@ pub fn begin_array<'a>(
 /// # Errors
 ///
 /// `AllocError` if an allocation fails; a part may be written then.
-pub fn end_array(out: &mut CompactWriter, mut others: Others<'_>) -> Result<(), AllocError>
+pub fn end_array(
+    out: &mut CompactWriter,
+    mut others: UnwrittenMembers<'_>,
+) -> Result<(), AllocError>
     ensures { OnOk result (EndsObject (merged array_end (members_view others.entry)) out.old out.new) }
 {
     write_text(out, &mut others, "type", "array")?;
@@ -148,12 +151,15 @@ pub fn end_array(out: &mut CompactWriter, mut others: Others<'_>) -> Result<(), 
 /// # Errors
 ///
 /// `AllocError` if an allocation fails; a part may be written then.
-pub fn begin_map<'a>(out: &mut CompactWriter, extra: &'a Members) -> Result<Others<'a>, AllocError>
+pub fn begin_map<'a>(
+    out: &mut CompactWriter,
+    extra: &'a Members,
+) -> Result<UnwrittenMembers<'a>, AllocError>
     ensures { IfOk result (λ others. AwaitsValue
         (λ values. map_value values (members_view extra.now.entries))
         (members_view others) out.old out.new) }
 {
-    let mut others = others_of(extra);
+    let mut others = unwritten_members(extra);
     out.begin_object()?;
     write_text(out, &mut others, "type", "map")?;
     write_name(out, &mut others, "values")?;
@@ -169,14 +175,14 @@ pub fn begin_record<'a>(
     out: &mut CompactWriter,
     named: &Named,
     extra: &'a Members,
-) -> Result<Others<'a>, AllocError>
+) -> Result<UnwrittenMembers<'a>, AllocError>
     ensures { IfOk result (λ others. (enclosing : List ℕ) (fields : Items) (new end : List Token)
         → WritesValue (array fields) out.new new
         → EndsObject (merged (record_end enclosing (string_bytes named.now.name)) (members_view others)) new end
         → WritesValue (record_value enclosing (named_view named.now) fields
         (members_view extra.now.entries)) out.old end) }
 {
-    let mut others = others_of(extra);
+    let mut others = unwritten_members(extra);
     out.begin_object()?;
     write_aliases(out, &mut others, &named.aliases)?;
     write_name(out, &mut others, "fields")?;
@@ -190,7 +196,7 @@ pub fn begin_record<'a>(
 /// `AllocError` if an allocation fails; a part may be written then.
 pub fn end_record(
     out: &mut CompactWriter,
-    mut others: Others<'_>,
+    mut others: UnwrittenMembers<'_>,
     enclosing: &str,
     name: &str,
 ) -> Result<(), AllocError>
@@ -203,16 +209,20 @@ pub fn end_record(
     write_rest(out, others)
 }
 
-/// Writes the beginning of a field. The caller writes its type next.
+/// Writes the beginning of a field, with the key `type` at its end. The caller writes the type
+/// next, and then the returned members, by `write_rest`.
 ///
 /// # Errors
 ///
 /// `AllocError` if an allocation fails; a part may be written then.
-pub fn begin_field<'a>(out: &mut CompactWriter, field: &'a Field) -> Result<Others<'a>, AllocError>
+pub fn begin_field<'a>(
+    out: &mut CompactWriter,
+    field: &'a Field,
+) -> Result<UnwrittenMembers<'a>, AllocError>
     ensures { IfOk result (λ others. AwaitsValue (field_value (field_view field.now))
         (members_view others) out.old out.new) }
 {
-    let mut others = others_of(&field.extra);
+    let mut others = unwritten_members(&field.extra);
     out.begin_object()?;
     write_aliases(out, &mut others, &field.aliases)?;
     write_default(out, &mut others, &field.value)?;

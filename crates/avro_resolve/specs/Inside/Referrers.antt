@@ -154,17 +154,19 @@ pub record AreReferrers (schemas : SchemaPair) (writer_links reader_links : Link
   pub reader : HasReferrers (names_of schemas.reader) None (columns schemas) reader_links
   pub sources : AreSources (rows schemas) (columns schemas) reader_links.aliased.items table
 
--- two links can match: both are by element, both are by name, or the source of the reader's aliased field has its type at the writer's place
-abbrev pub CanMatchLinks : List (Vec ℕ Global) → ℕ → ℕ → LinkKind → LinkKind → Type 0
-CanMatchLinks sources place referrer ByElement ByElement = Unit {0}
-CanMatchLinks sources place referrer ByName ByName = Unit {0}
-CanMatchLinks sources place referrer ByName (ByAlias number) = entry_at sources referrer number ≡ place + 1
-CanMatchLinks sources place referrer _ _ = ⊥
+-- The kinds of two links can match: both are by element, both are by name, or the source of the reader's aliased field has its type at the
+-- writer's place.
+abbrev pub CanMatchKinds : List (Vec ℕ Global) → ℕ → ℕ → LinkKind → LinkKind → Type 0
+CanMatchKinds sources writer_place referrer ByElement ByElement = Unit {0}
+CanMatchKinds sources writer_place referrer ByName ByName = Unit {0}
+CanMatchKinds sources writer_place referrer ByName (ByAlias number) = entry_at sources referrer number ≡ writer_place + 1
+CanMatchKinds sources writer_place referrer _ _ = ⊥
 
--- the pair of the two referrers may depend on the pair of the places to which the links refer
-abbrev pub MayDepend : List (Vec ℕ Global) → ℕ → Link → Link → Type 0
-MayDepend sources place x y = CanMatchLinks sources place x.referrer x.kind y.kind
+-- The kinds of a writer's link to this place and of a reader's link match. If the labels of the links are equal too, the pair of their referrers
+-- depends on the pair of the places to which the links refer.
+abbrev pub LinkKindsMatch : List (Vec ℕ Global) → ℕ → Link → Link → Type 0
+LinkKindsMatch sources writer_place writer_link reader_link = CanMatchKinds sources writer_place writer_link.referrer writer_link.kind reader_link.kind
 
 -- each two such links with the same label have their referrers in the relation
 abbrev pub Joins : List (Vec ℕ Global) → ℕ → (ℕ → ℕ → Type 0) → List Link → List Link → Type 0
-Joins sources place Looked xs ys = (x y : Link) → Contains xs x → Contains ys y → x.label ≡ y.label → MayDepend sources place x y → Looked x.referrer y.referrer
+Joins sources place Looked xs ys = (x y : Link) → Contains xs x → Contains ys y → x.label ≡ y.label → LinkKindsMatch sources place x y → Looked x.referrer y.referrer

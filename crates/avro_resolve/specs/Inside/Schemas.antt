@@ -17,7 +17,8 @@ nodes_of indexed = nodes_view indexed.schema.now
 abbrev pub names_of : IndexedSchema → List (List ℕ)
 names_of indexed = texts_view indexed.index.now.names.items
 
--- each reference is to a node, the index is that of the nodes, a place plus 1 fits 16 bits, and each field of a record is its own source
+-- Each reference is to a node, the index is that of the nodes, and a place plus 1 fits 16 bits. If a record is read with itself, the source of each
+-- field is that field.
 pub record IsValidIndexedSchema (indexed : IndexedSchema) : Type 0 where
   pub whole : IsSelfContained (nodes_of indexed)
   pub index : IsIndex (nodes_of indexed) indexed.index.now

@@ -72,8 +72,9 @@ AnswerHolds w r depth ps qs t held lost Unfinished = HasWalkInvariant w r t × (
 abbrev pub WalkAnswerHolds : SchemaPair → ℕ → Walk → Walk → Type 0 → Type 0 → Answer → Type 0
 WalkAnswerHolds schemas depth s t held lost answer = AnswerHolds (rows schemas) (columns schemas) depth s.assumed.items s.failed.items t held lost answer
 
--- what the recursion's answer for the roots proves
-abbrev pub AnswerShows : List NodeView → List NodeView → ℕ → Answer → Type 0
-AnswerShows w r visits Yes = Resolves w r × HasClosedSet w r visits
-AnswerShows w r visits No = (Resolves w r → ⊥) × HasRefutation w r visits
-AnswerShows w r visits Unfinished = 1000 ≤ visits
+-- What the recursion's answer for the pair of the roots proves after this many visits. A yes and a no have a witness of at most so many pairs.
+-- Unfinished proves only that there were at least a thousand visits.
+abbrev pub RootAnswerProves : List NodeView → List NodeView → ℕ → Answer → Type 0
+RootAnswerProves w r visits Yes = Resolves w r × HasClosedSet w r visits
+RootAnswerProves w r visits No = (Resolves w r → ⊥) × HasRefutation w r visits
+RootAnswerProves w r visits Unfinished = 1000 ≤ visits

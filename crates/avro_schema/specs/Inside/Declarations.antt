@@ -12,7 +12,7 @@ use Rattle.avro_schema.specs.Names.{Known, is_simple, allowed, full_name, alias_
 use Rattle.avro_nodes.specs.Names.{namespace_of, last_part}
 use Rattle.avro_schema.specs.Keywords.{kind_of}
 use Rattle.avro_schema.specs.Attributes.{◌>>=◌, without_all, text_in, array_in, text_if_any, texts_in, texts_if_any, size_of, fallback_in, order_in}
-use Rattle.avro_schema.specs.Inside.Distinct.{all_differ}
+use Rattle.avro_schema.specs.Inside.Distinct.{all_distinct}
 use Rattle.avro_schema.specs.Inside.ValueReaders.{Part, room_at}
 
 -- these attributes, if they nest within the limit
@@ -58,7 +58,7 @@ unfoldable pub symbols_in : Members → Option (List (List ℕ))
 symbols_in ms = do
   items ← array_in (codes "symbols") ms
   symbols ← texts_in (allowed is_simple) items
-  if all_differ bytes_eq symbols then Some symbols else None
+  if all_distinct bytes_eq symbols then Some symbols else None
 
 -- the enum that these members declare, if they are valid, with the next place
 unfoldable pub enum_at : List ℕ → Members → Known → ℕ → Option (Part ℕ)

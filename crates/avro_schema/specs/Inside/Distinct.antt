@@ -6,8 +6,8 @@ unfoldable pub all_new : {X : Type 0} → (X → X → Bool) → (X → Bool) �
 all_new same seen [] = true
 all_new same seen (x ∷ xs) = not (seen x) && all_new same (λ y. cond (same x y) true (seen y)) xs
 
-abbrev pub all_differ : {X : Type 0} → (X → X → Bool) → List X → Bool
-all_differ same xs = all_new same (λ _. false) xs
+abbrev pub all_distinct : {X : Type 0} → (X → X → Bool) → List X → Bool
+all_distinct same xs = all_new same (λ _. false) xs
 
 -- a hash of a text
 abbrev pub text_hash : List ℕ → ℕ

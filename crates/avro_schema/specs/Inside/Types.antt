@@ -7,16 +7,16 @@ use Rattle.serde_json.specs.Data as json
 use Rattle.serde_json.specs.Find.{get_member, as_object}
 use Rattle.avro_nodes.specs.declared.node.PrimitiveKind.{PrimitiveKind}
 use Rattle.avro_nodes.specs.Nodes.{FieldView, NodeView, primitive, array, mapping, union, rec}
-use Rattle.avro_schema.specs.declared.keywords.TypeName.{TypeName}
-use Rattle.avro_schema.specs.declared.keywords.TypeName.TheVariants as type_name
+use Rattle.avro_schema.specs.declared.keywords.TypeKind.{TypeKind}
+use Rattle.avro_schema.specs.declared.keywords.TypeKind.TheVariants as type_name
 use Rattle.avro_schema.specs.declared.keywords.Container.{Container}
 use Rattle.avro_schema.specs.declared.keywords.Container.TheVariants.{Items as of_items, Values as of_values}
 use Rattle.avro_schema.specs.Inside.KindNumbers.{branch_number}
 use Rattle.avro_schema.specs.Names.{Known, resolved, defined}
 use Rattle.avro_nodes.specs.Names.{namespace_of}
-use Rattle.avro_schema.specs.Keywords.{kind_of, type_name_of}
+use Rattle.avro_schema.specs.Keywords.{kind_of, type_kind_of}
 use Rattle.avro_schema.specs.Attributes.{◌>>=◌, without_all, text_in, array_in}
-use Rattle.avro_schema.specs.Inside.Distinct.{all_differ}
+use Rattle.avro_schema.specs.Inside.Distinct.{all_distinct}
 use Rattle.avro_schema.specs.Inside.Declarations.{name_keys, named_in, enum_at, fixed_at, FieldAttributesView, field_attributes_in, field_attribute_keys, bounded}
 use Rattle.avro_schema.specs.Inside.ValueReaders.{Part, PartReader, TypeReader, parts_of, room_at}
 
@@ -69,7 +69,7 @@ unfoldable pub union_at : PartReader ℕ → Items → Known → ℕ → Option 
 union_at one ds known first = do
   place ← room_at first
   ps ← parts_of (branch_of one) ds known (first + 1)
-  if all_differ (λ a b. a == b) (map (λ b. b.1) ps.it) then Some (record { it = place; nodes = union (map (λ b. b.0) ps.it) ∷ ps.nodes; known = ps.known }) else None
+  if all_distinct (λ a b. a == b) (map (λ b. b.1) ps.it) then Some (record { it = place; nodes = union (map (λ b. b.0) ps.it) ∷ ps.nodes; known = ps.known }) else None
 
 -- ---- records
 
@@ -92,12 +92,12 @@ record_at types space ms known first = do
   items ← array_in (codes "fields") (without_all name_keys ms)
   extra ← bounded (without_all (codes "fields" ∷ []) (without_all name_keys ms))
   ps ← parts_of (field_of (types (namespace_of named.name))) items (defined known named.name place) (first + 1)
-  if all_differ bytes_eq (map (λ f. f.name) ps.it) then Some (record { it = place; nodes = rec named ps.it extra ∷ ps.nodes; known = ps.known }) else None
+  if all_distinct bytes_eq (map (λ f. f.name) ps.it) then Some (record { it = place; nodes = rec named ps.it extra ∷ ps.nodes; known = ps.known }) else None
 
 -- ---- types
 
 -- an object, by its type name; `ms` are its other members
-abbrev pub by_type_name : TypeName → List ℕ → TypeReader → List ℕ → Members → Known → ℕ → Option (Part ℕ)
+abbrev pub by_type_name : TypeKind → List ℕ → TypeReader → List ℕ → Members → Known → ℕ → Option (Part ℕ)
 by_type_name (type_name.Primitive kind) name types space ms known first = primitive_at kind ms known first
 by_type_name type_name.Array name types space ms known first = container_at of_items (types space) ms known first
 by_type_name type_name.Map name types space ms known first = container_at of_values (types space) ms known first
@@ -109,7 +109,7 @@ by_type_name type_name.Reference name types space ms known first = bounded ms >>
 unfoldable pub object_at : TypeReader → List ℕ → Members → Known → ℕ → Option (Part ℕ)
 object_at types space ms known first = do
   name ← text_in (codes "type") ms
-  by_type_name (type_name_of name) name types space (without_all (codes "type" ∷ []) ms) known first
+  by_type_name (type_kind_of name) name types space (without_all (codes "type" ∷ []) ms) known first
 
 -- a value, by its JSON form; `types` reads the types inside it
 abbrev pub form_at : TypeReader → List ℕ → PartReader ℕ

@@ -6,10 +6,10 @@ use Rattle.serde_json.specs.Data as json
 use Rattle.serde_json.specs.Find.{get_member, as_str, as_object}
 use Rattle.avro_nodes.specs.Names.{has_dot, namespace_of}
 use Rattle.avro_nodes.specs.Nodes.{NamedView, NodeView, primitive, array, mapping, union, enumeration, fixed, rec}
-use Rattle.avro_schema.specs.declared.keywords.TypeName.{TypeName}
-use Rattle.avro_schema.specs.declared.keywords.TypeName.TheVariants as type_name
+use Rattle.avro_schema.specs.declared.keywords.TypeKind.{TypeKind}
+use Rattle.avro_schema.specs.declared.keywords.TypeKind.TheVariants as type_name
 use Rattle.avro_schema.specs.Names.{qualified}
-use Rattle.avro_schema.specs.Keywords.{type_name_of}
+use Rattle.avro_schema.specs.Keywords.{type_kind_of}
 use Rattle.avro_schema.specs.Attributes.{text_in, array_in}
 
 abbrev pub texts_size : List (List ℕ) → ℕ
@@ -19,25 +19,26 @@ texts_size (t ∷ ts) = length t + texts_size ts
 abbrev pub named_size : NamedView → ℕ
 named_size named = length named.name + texts_size named.aliases
 
-abbrev pub node_size : NodeView → ℕ
-node_size (primitive kind extra) = 0
-node_size (array place extra) = 0
-node_size (mapping place extra) = 0
-node_size (union branches) = 0
-node_size (enumeration named symbols fallback extra) = named_size named
-node_size (fixed named size extra) = named_size named
-node_size (rec named fields extra) = named_size named
+-- the bytes of the full name and the aliases that the node defines; 0 for a type without a name
+abbrev pub node_names_size : NodeView → ℕ
+node_names_size (primitive kind extra) = 0
+node_names_size (array place extra) = 0
+node_names_size (mapping place extra) = 0
+node_names_size (union branches) = 0
+node_names_size (enumeration named symbols fallback extra) = named_size named
+node_names_size (fixed named size extra) = named_size named
+node_names_size (rec named fields extra) = named_size named
 
 -- the names and aliases in the nodes
 abbrev pub names_size : List NodeView → ℕ
 names_size [] = 0
-names_size (node ∷ nodes) = node_size node + names_size nodes
+names_size (node ∷ nodes) = node_names_size node + names_size nodes
 
 -- ---- the same for a JSON value; the number has no meaning if the value denotes no nodes
 
-abbrev pub if_any : {A : Type 0} → (A → ℕ) → Option A → ℕ
-if_any one None = 0
-if_any one (Some x) = one x
+abbrev pub map_or_zero : {A : Type 0} → (A → ℕ) → Option A → ℕ
+map_or_zero one None = 0
+map_or_zero one (Some x) = one x
 
 abbrev pub items_weight : (Data → ℕ) → Items → ℕ
 items_weight one no_items = 0
@@ -48,7 +49,7 @@ unfoldable pub full_name_in : List ℕ → List ℕ → List ℕ
 full_name_in space name = if has_dot name then name else qualified space name
 
 abbrev pub alias_weight : List ℕ → Data → ℕ
-alias_weight space d = if_any (λ alias. length (full_name_in space alias)) (as_str d)
+alias_weight space d = map_or_zero (λ alias. length (full_name_in space alias)) (as_str d)
 
 -- the namespace of a definition, by its name, its attributes and the enclosing namespace
 unfoldable pub namespace_in : List ℕ → List ℕ → Members → List ℕ
@@ -56,35 +57,36 @@ namespace_in enclosing name ms = if has_dot name then namespace_of name else unw
 
 -- the name and the aliases of a definition in the namespace
 unfoldable pub names_weight : List ℕ → List ℕ → Members → ℕ
-names_weight space name ms = length (full_name_in space name) + if_any (items_weight (alias_weight space)) (array_in (codes "aliases") ms)
+names_weight space name ms = length (full_name_in space name) + map_or_zero (items_weight (alias_weight space)) (array_in (codes "aliases") ms)
 
-unfoldable pub definition_weight : List ℕ → Members → ℕ
-definition_weight space ms = if_any (λ name. names_weight (namespace_in space name ms) name ms) (text_in (codes "name") ms)
+-- the bytes of the names of an enum or a fixed, given the enclosing namespace; 0 without a string `name`
+unfoldable pub enum_or_fixed_weight : List ℕ → Members → ℕ
+enum_or_fixed_weight enclosing ms = map_or_zero (λ name. names_weight (namespace_in enclosing name ms) name ms) (text_in (codes "name") ms)
 
 -- the bytes of a type, given the namespace
 abbrev pub Weigher : Type 0
 Weigher = List ℕ → Data → ℕ
 
 abbrev pub field_weight : (Data → ℕ) → Data → ℕ
-field_weight one d = if_any one (option_and_then (get_member (codes "type")) (as_object d))
+field_weight one d = map_or_zero one (option_and_then (get_member (codes "type")) (as_object d))
 
 unfoldable pub record_weight : Weigher → List ℕ → Members → ℕ
 record_weight types space ms =
-    if_any (λ name. names_weight (namespace_in space name ms) name ms + if_any (items_weight (field_weight (types (namespace_in space name ms)))) (array_in (codes "fields") ms))
+    map_or_zero (λ name. names_weight (namespace_in space name ms) name ms + map_or_zero (items_weight (field_weight (types (namespace_in space name ms)))) (array_in (codes "fields") ms))
     (text_in (codes "name") ms)
 
 -- the bytes of an object, by its type name
-abbrev pub by_type_name : TypeName → Weigher → List ℕ → Members → ℕ
+abbrev pub by_type_name : TypeKind → Weigher → List ℕ → Members → ℕ
 by_type_name (type_name.Primitive kind) types space ms = 0
-by_type_name type_name.Array types space ms = if_any (types space) (get_member (codes "items") ms)
-by_type_name type_name.Map types space ms = if_any (types space) (get_member (codes "values") ms)
-by_type_name type_name.Fixed types space ms = definition_weight space ms
-by_type_name type_name.Enum types space ms = definition_weight space ms
+by_type_name type_name.Array types space ms = map_or_zero (types space) (get_member (codes "items") ms)
+by_type_name type_name.Map types space ms = map_or_zero (types space) (get_member (codes "values") ms)
+by_type_name type_name.Fixed types space ms = enum_or_fixed_weight space ms
+by_type_name type_name.Enum types space ms = enum_or_fixed_weight space ms
 by_type_name type_name.Record types space ms = record_weight types space ms
 by_type_name type_name.Reference types space ms = 0
 
 unfoldable pub object_weight : Weigher → List ℕ → Members → ℕ
-object_weight types space ms = if_any (λ name. by_type_name (type_name_of name) types space ms) (text_in (codes "type") ms)
+object_weight types space ms = map_or_zero (λ name. by_type_name (type_kind_of name) types space ms) (text_in (codes "type") ms)
 
 abbrev pub form_weight : Weigher → Weigher
 form_weight types space (json.array ds) = items_weight (types space) ds

@@ -2,7 +2,7 @@ use Rattle.std.proofs.Common.{◌≡◌, ◌∷◌, List, string_bytes, Greater,
 use Rattle.serde_json.specs.View.{view, members_view}
 use Rattle.serde_json.specs.Data.{Members}
 use Rattle.serde_json.proofs.Views.{Entry}
-use Rattle.avro_nodes.specs.Inside.Objects.{EndsObject, rest_after, before_then}
+use Rattle.avro_nodes.specs.Inside.Objects.{EndsObject, rest_after, members_before_then}
 use Rattle.avro_nodes.proofs.Merged.{order, rest_next, before_next}
 use Rattle.avro_nodes.proofs.Written.{next_left}
 use Rattle.avro_nodes.proofs.attributes.write_others_before.Goals as goal
@@ -24,7 +24,7 @@ loop-name-preserved c =
       left = ap (λ (es : List Entry). rest_after k (members_view es)) same ∙ sym (rest_next k name value rest above) ∙ ap (λ (es : List Entry). rest_after k (members_view es)) (sym step) ∙ l.invariant.left;
       ends = λ ms end w.
           l.invariant.ends ms end
-          (subst (λ (es : List Entry). EndsObject (before_then k (members_view es) ms) l.out end) (sym step)
+          (subst (λ (es : List Entry). EndsObject (members_before_then k (members_view es) ms) l.out end) (sym step)
           (subst (λ (xs : Members). EndsObject xs l.out end) (sym (before_next k name value rest ms above))
-          (written (before_then k rest ms) end (subst (λ (es : List Entry). EndsObject (before_then k (members_view es) ms) c.write_member.new.out end) same w))));
+          (written (members_before_then k rest ms) end (subst (λ (es : List Entry). EndsObject (members_before_then k (members_view es) ms) c.write_member.new.out end) same w))));
     }

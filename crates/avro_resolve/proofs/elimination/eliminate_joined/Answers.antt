@@ -10,7 +10,7 @@ use Rattle.avro_resolve.specs.Inside.Schemas.{columns, rows}
 use Rattle.avro_resolve.specs.declared.links.Link.{Link}
 use Rattle.avro_resolve.specs.declared.links.LinkKind.{LinkKind}
 use Rattle.avro_resolve.specs.declared.links.LinkKind.TheVariants.{ByElement, ByName, ByAlias}
-use Rattle.avro_resolve.specs.Inside.Referrers.{CanMatchLinks, MayDepend}
+use Rattle.avro_resolve.specs.Inside.Referrers.{CanMatchKinds, LinkKindsMatch}
 use Rattle.avro_resolve.specs.Inside.Remaining.{remains, StillSupported}
 use Rattle.avro_resolve.specs.Inside.Sources.{entry_at}
 use Rattle.avro_resolve.proofs.ListLemmas.{get_or_any}
@@ -29,7 +29,7 @@ returns-clause-still_supported c = λ x y hx hy one asks.
     let lx = hx.1 in let below : hx.0 < c.loop-link.link-index = omega (arith, past, lx) in
     let same : (get_or xs hx.0 x).label ≡ (get_or ys hy.0 y).label = ap (λ (z : Link). z.label) hx.2 ∙ one ∙ sym (ap (λ (z : Link). z.label) hy.2) in
     subst (λ (z : Link). StillSupported w r t ps z.referrer y.referrer) hx.2 (subst (λ (z : Link). StillSupported w r t ps (get_or xs hx.0 x).referrer z.referrer) hy.2 (c.loop-link.invariant.still_supported hx.0 hy.0 x y below hy.1 same
-    (subst (λ (z : Link). MayDepend c.args.sources.now c.args.popped.0 z (get_or ys hy.0 y)) (sym hx.2) (subst (λ (z : Link). MayDepend c.args.sources.now c.args.popped.0 x z) (sym hy.2) asks))))
+    (subst (λ (z : Link). LinkKindsMatch c.args.sources.now c.args.popped.0 z (get_or ys hy.0 y)) (sym hx.2) (subst (λ (z : Link). LinkKindsMatch c.args.sources.now c.args.popped.0 x z) (sym hy.2) asks))))
 
 pub first_at_label-from-requires-clause-passed : goal.first_at_label-from-requires-clause-passed
 first_at_label-from-requires-clause-passed c = λ k d l. c.loop-link.invariant.skipped k c.loop-link.link-index d none l (omega arith) c.loop-link-test.true
@@ -44,18 +44,18 @@ loop-at-init c = record {
 }
 
 -- whether two links match, by their kinds
-by_ways : (sources : List (Vec ℕ Global)) (p : ℕ) (x y : Link) (v w : LinkKind) → x.kind ≡ v → y.kind ≡ w → (CanMatchLinks sources p x.referrer v w → MayDepend sources p x y) × (MayDepend sources p x y → CanMatchLinks sources p x.referrer v w)
+by_ways : (sources : List (Vec ℕ Global)) (p : ℕ) (x y : Link) (v w : LinkKind) → x.kind ≡ v → y.kind ≡ w → (CanMatchKinds sources p x.referrer v w → LinkKindsMatch sources p x y) × (LinkKindsMatch sources p x y → CanMatchKinds sources p x.referrer v w)
 by_ways s p x y v w e f = (
-  (λ h. subst (λ (z : LinkKind). CanMatchLinks s p x.referrer z y.kind) (sym e) (subst (λ (z : LinkKind). CanMatchLinks s p x.referrer v z) (sym f) h)),
-  (λ h. subst (λ (z : LinkKind). CanMatchLinks s p x.referrer v z) f (subst (λ (z : LinkKind). CanMatchLinks s p x.referrer z y.kind) e h)),
+  (λ h. subst (λ (z : LinkKind). CanMatchKinds s p x.referrer z y.kind) (sym e) (subst (λ (z : LinkKind). CanMatchKinds s p x.referrer v z) (sym f) h)),
+  (λ h. subst (λ (z : LinkKind). CanMatchKinds s p x.referrer v z) f (subst (λ (z : LinkKind). CanMatchKinds s p x.referrer z y.kind) e h)),
 )
 
-no_contents : (sources : List (Vec ℕ Global)) (p referrer : ℕ) (w : LinkKind) → (w ≡ ByElement → ⊥) → CanMatchLinks sources p referrer ByElement w → ⊥
+no_contents : (sources : List (Vec ℕ Global)) (p referrer : ℕ) (w : LinkKind) → (w ≡ ByElement → ⊥) → CanMatchKinds sources p referrer ByElement w → ⊥
 no_contents s p referrer ByElement n h = n refl
 no_contents s p referrer ByName n h = h
 no_contents s p referrer (ByAlias number) n h = h
 
-no_alias : (sources : List (Vec ℕ Global)) (p referrer number : ℕ) (w : LinkKind) → CanMatchLinks sources p referrer (ByAlias number) w → ⊥
+no_alias : (sources : List (Vec ℕ Global)) (p referrer number : ℕ) (w : LinkKind) → CanMatchKinds sources p referrer (ByAlias number) w → ⊥
 no_alias s p referrer number ByElement h = h
 no_alias s p referrer number ByName h = h
 no_alias s p referrer number (ByAlias other) h = h
@@ -67,7 +67,7 @@ eliminate_pair-requires-clause-unsupported c =
     let label : link.label ≡ other.label =
     (let within = c.loop-at-test.true in let first = c.first_at_label-from.result in
     let one_if = c.requires.reader_links_sorted first at none on within in let least = c.first_at_label-from.ensures.at none (omega arith) in let most = c.if-reader_links-at.true in omega arith) in
-    let asks : MayDepend c.args.sources.now c.args.popped.0 link other = elim c.match-link.branch [
+    let asks : LinkKindsMatch c.args.sources.now c.args.popped.0 link other = elim c.match-link.branch [
       | in-ByName-ByAlias w ↦ (
           let popped : w.from.result ≡ entry_at s link.referrer w.in-ByName-ByAlias.number = search rules in
           let same : w.from.result ≡ p + 1 = grind (arith, nat_tests) in
@@ -114,16 +114,16 @@ loop-at-preserved-then-not-asks c =
     let link = get_or c.args.writer_links.now c.loop-link.link-index none in let ys = c.args.reader_links.now in let at = c.loop-at.at in let inv = c.loop-at.invariant in
     let within : at < length ys = c.loop-at-test.true in
     let other = get_or ys at none in let s = c.args.sources.now in let p = c.args.popped.0 in
-    let never : MayDepend c.args.sources.now c.args.popped.0 link (get_or ys at none) → ⊥ = elim c.match-link.branch [
+    let never : LinkKindsMatch c.args.sources.now c.args.popped.0 link (get_or ys at none) → ⊥ = elim c.match-link.branch [
       | in-ByName-ByAlias w ↦ λ h. (
           let popped : w.from.result ≡ entry_at s link.referrer w.in-ByName-ByAlias.number = search rules in
           let entry : entry_at s link.referrer w.in-ByName-ByAlias.number ≡ p + 1 = (by_ways s p link other ByName (ByAlias w.in-ByName-ByAlias.number) w.in-ByName-ByAlias.is-0 w.in-ByName-ByAlias.is-1).1 h in
           let same : w.from.result ≡ p + 1 = popped ∙ entry in
           grind (arith, nat_tests)
           )
-      | in_default w ↦ λ h. no_contents s p link.referrer other.kind w.in_default.not-ByElement-1 (subst (λ (v : LinkKind). CanMatchLinks s p link.referrer v other.kind) w.in_default.is-0 h)
+      | in_default w ↦ λ h. no_contents s p link.referrer other.kind w.in_default.not-ByElement-1 (subst (λ (v : LinkKind). CanMatchKinds s p link.referrer v other.kind) w.in_default.is-0 h)
       | in_default-2 w ↦ λ h. (by_ways s p link other ByName ByElement w.in_default.is-0 w.in_default.is-1).1 h
-      | in_default-3 w ↦ λ h. no_alias s p link.referrer w.in_default.field-0-0 other.kind (subst (λ (v : LinkKind). CanMatchLinks s p link.referrer v other.kind) w.in_default.is-0 h)
+      | in_default-3 w ↦ λ h. no_alias s p link.referrer w.in_default.field-0-0 other.kind (subst (λ (v : LinkKind). CanMatchKinds s p link.referrer v other.kind) w.in_default.is-0 h)
       | in-ByElement-ByElement w ↦ absurd (true≢false (sym w.asks-is ∙ c.if-not-asks.true))
       | in-ByElement-ByElement-2 w ↦ absurd (true≢false (sym w.asks-is ∙ c.if-not-asks.true))
     ] in
@@ -136,7 +136,7 @@ loop-at-preserved-then-not-asks c =
         | inl g ↦ inv.still_supported k d le g one asks
         | inr g ↦ (let e : at ≡ k = omega arith in
             let row : get_or ys at none ≡ get_or ys k d = get_or_any ys at none d within ∙ ap (λ (n : ℕ). get_or ys n d) e in
-            absurd (never (subst (λ (y : Link). MayDepend c.args.sources.now c.args.popped.0 link y) (sym row) asks)))
+            absurd (never (subst (λ (y : Link). LinkKindsMatch c.args.sources.now c.args.popped.0 link y) (sym row) asks)))
       ];
     }
 
@@ -191,7 +191,7 @@ loop-link-preserved c =
             elim (cases_lt k c.first_at_label-from.result) [
               | inl h ↦ (let less = c.first_at_label-from.ensures.below k d h in absurd (omega (arith, less, label)))
               | inr h ↦ elim (cases_lt k c.loop-at.at) [
-                | inl j ↦ subst (λ (x : Link). StillSupported w r v rs x.referrer (get_or ys k d).referrer) same (inner.still_supported k d h j label (subst (λ (x : Link). MayDepend c.args.sources.now c.args.popped.0 x (get_or ys k d)) (sym same) asks))
+                | inl j ↦ subst (λ (x : Link). StillSupported w r v rs x.referrer (get_or ys k d).referrer) same (inner.still_supported k d h j label (subst (λ (x : Link). LinkKindsMatch c.args.sources.now c.args.popped.0 x (get_or ys k d)) (sym same) asks))
                 | inr j ↦ (let more = past k d j lk in absurd (omega (arith, more, label)))
               ]
             ]

@@ -1,7 +1,7 @@
 use Rattle.std.proofs.Common.{◌≡◌, ℕ, ◌-◌, ◌<◌, ◌≤◌, get_or, length}
 use Rattle.avro_resolve.specs.Inside.Schemas.{columns, rows}
 use Rattle.avro_resolve.specs.declared.links.Link.{Link}
-use Rattle.avro_resolve.specs.Inside.Referrers.{MayDepend}
+use Rattle.avro_resolve.specs.Inside.Referrers.{LinkKindsMatch}
 use Rattle.avro_resolve.specs.Inside.Remaining.{IsAgreedRemainder, QueuesEliminated, StillSupported}
 use Rattle.avro_resolve.proofs.elimination.eliminate_joined.Given as goal
 
@@ -11,7 +11,7 @@ invariant-loop-link l = record {
   lists : QueuesEliminated l.initial.progress.table l.initial.progress.eliminated.items l.progress.table l.progress.eliminated.items;
   within : l.from ≤ length l.reader_links;
   skipped : (k m : ℕ) (d e : Link) → k < l.from → l.link-index ≤ m → m < length l.writer_links → (get_or l.reader_links k d).label < (get_or l.writer_links m e).label;
-  still_supported : (m k : ℕ) (e d : Link) → m < l.link-index → k < length l.reader_links → (get_or l.writer_links m e).label ≡ (get_or l.reader_links k d).label → MayDepend l.sources l.popped.0 (get_or l.writer_links m e) (get_or l.reader_links k d)
+  still_supported : (m k : ℕ) (e d : Link) → m < l.link-index → k < length l.reader_links → (get_or l.writer_links m e).label ≡ (get_or l.reader_links k d).label → LinkKindsMatch l.sources l.popped.0 (get_or l.writer_links m e) (get_or l.reader_links k d)
       → StillSupported (rows l.schemas) (columns l.schemas) l.progress.table l.progress.eliminated.items (get_or l.writer_links m e).referrer (get_or l.reader_links k d).referrer;
 }
 
@@ -21,7 +21,7 @@ invariant-loop-at l = record {
   within : l.at ≤ length l.reader_links;
   rest : IsAgreedRemainder (rows l.schemas) (columns l.schemas) l.progress.table;
   lists : QueuesEliminated l.initial.progress.table l.initial.progress.eliminated.items l.progress.table l.progress.eliminated.items;
-  still_supported : (k : ℕ) (d : Link) → l.from ≤ k → k < l.at → l.link.label ≡ (get_or l.reader_links k d).label → MayDepend l.sources l.popped.0 l.link (get_or l.reader_links k d)
+  still_supported : (k : ℕ) (d : Link) → l.from ≤ k → k < l.at → l.link.label ≡ (get_or l.reader_links k d).label → LinkKindsMatch l.sources l.popped.0 l.link (get_or l.reader_links k d)
       → StillSupported (rows l.schemas) (columns l.schemas) l.progress.table l.progress.eliminated.items l.link.referrer (get_or l.reader_links k d).referrer;
 }
 

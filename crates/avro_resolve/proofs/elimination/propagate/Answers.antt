@@ -6,7 +6,7 @@ use Rattle.std.proofs.lemmas.List.Elements.{Contains-get_or}
 use Rattle.avro_nodes.specs.Nodes.{node_view}
 use Rattle.avro_resolve.specs.declared.links.Link.{Link}
 use Rattle.avro_resolve.specs.Witnesses.{Pair}
-use Rattle.avro_resolve.specs.Inside.Referrers.{Joins, MayDepend}
+use Rattle.avro_resolve.specs.Inside.Referrers.{Joins, LinkKindsMatch}
 use Rattle.avro_resolve.specs.Inside.Remaining.{AreRun, StillSupported}
 use Rattle.avro_resolve.specs.Inside.Lists.{list_at}
 use Rattle.avro_resolve.specs.Inside.Schemas.{columns, rows}
@@ -23,7 +23,7 @@ eliminate_joined-requires-clause-rests c = λ x y hx hy one asks.
     let beside_are = c.list_of-reader_links.ensures ∙ ap (λ (ls : List (Vec Link Global)). list_at ls c.from.result) c.deref-in-loop-j.ensures.value ∙ ap (list_at c.args.dependents.now.columns.lists.items) (c.from.ensures ∙ sym c.from-in-loop-j.ensures) in
     rests_by_links c.args.schemas.now c.requires.rest.0 c.args.dependents.now.rows c.args.dependents.now.columns c.args.dependents.now.sources.items c.requires.referrers p q x y
     (subst (λ (ls : List Link). Contains ls x) above_are hx) (subst (λ (ls : List Link). Contains ls y) beside_are hy) one
-    (subst (λ (table : List (Vec ℕ Global)). MayDepend table p x y) c.deref-in-loop-j-2.ensures.value asks)
+    (subst (λ (table : List (Vec ℕ Global)). LinkKindsMatch table p x y) c.deref-in-loop-j-2.ensures.value asks)
 
 pub eliminate_joined-requires-clause-writer_links_in : goal.eliminate_joined-requires-clause-writer_links_in
 eliminate_joined-requires-clause-writer_links_in c = λ k d l.

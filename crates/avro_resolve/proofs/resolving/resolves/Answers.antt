@@ -6,7 +6,7 @@ use Rattle.avro_resolve.specs.declared.recursion.Walk.{Walk}
 use Rattle.avro_resolve.specs.Asking.{ContainsAsked}
 use Rattle.avro_resolve.specs.Witnesses.{Pair, HasClosedSet, HasRefutation}
 use Rattle.avro_resolve.specs.Resolution.{Resolves}
-use Rattle.avro_resolve.specs.Inside.Walking.{WalkInvariant, Represents, IsReady, AnswerShows}
+use Rattle.avro_resolve.specs.Inside.Walking.{WalkInvariant, Represents, IsReady, RootAnswerProves}
 use Rattle.avro_resolve.specs.Inside.Schemas.{columns, rows}
 use Rattle.avro_resolve.proofs.Denoted.{some_node, is_whole}
 use Rattle.avro_resolve.proofs.MarkLemmas.{marks_none}
@@ -51,7 +51,7 @@ returns c =
     let w = rows c.in_ok-schemas.schemas in let r = columns c.in_ok-schemas.schemas in let wn = nodes_view c.args.writer.now in let rn = nodes_view c.args.reader.now in
     let s : Walk = record { alloc = c.args.alloc; assumed = c.new.result; failed = c.new-2.result; assumed_set = c.none.result; failed_set = c.none-2.result; visits = 0; meter = c.none-3.result } in
     let t = c.check_pair.new.walk in let answer = c.in_ok-answer.answer in let n = t.visits in let yes = c.match-answer.yes in
-    let end = both (λ x y. AnswerShows x y n answer × (1 ≤ n) × ((ps : List Pair) → ContainsAsked x y ps → n ≤ length ps * length ps)) w wn r rn (ap nodes_view c.in_ok-schemas.ensures.writer) (ap nodes_view c.in_ok-schemas.ensures.reader)
+    let end = both (λ x y. RootAnswerProves x y n answer × (1 ≤ n) × ((ps : List Pair) → ContainsAsked x y ps → n ≤ length ps * length ps)) w wn r rn (ap nodes_view c.in_ok-schemas.ensures.writer) (ap nodes_view c.in_ok-schemas.ensures.reader)
     (ended w r s t c.new.ensures.items c.new-2.ensures.items answer c.in_ok-answer.ensures) in
     let told : (IsTrue yes ↔ Resolves wn rn) × (IsTrue yes → n < 1000 → HasClosedSet wn rn n) × (yes ≡ false → n < 1000 → HasRefutation wn rn n) = elim c.match-answer.branch [
       | in-Yes q ↦ (let shows = rw q.in-Yes.is at end.0 in rw q.yes-is (((λ h. shows.0), (λ h. refl)), (λ h l. shows.1), (λ h l. absurd (true≢false h))))

@@ -9,11 +9,11 @@ returns-in_default c =
     let at = rw c.in-Some.ensures.steps.0 at c.loop-item.invariant.0 in
     rw (← c.into_iter-item-iterator.ensures.into_iter_gives.0) (at ∙ no_text _ _ _ _ (sym c.in_default.ensures))
 
-pub returns-in_err-name_by : goal.returns-in_err-name_by
-returns-in_err-name_by c =
+pub returns-in_err-listed_name : goal.returns-in_err-listed_name
+returns-in_err-listed_name c =
     let at = rw c.in-Some.ensures.steps.0 at c.loop-item.invariant.0 in
-    gives_exit _ _ _ _ c.from_residual-in_err-name_by.ensures.1
-    (rw (← c.into_iter-item-iterator.ensures.into_iter_gives.0) (fails_from _ _ _ (λ none. at ∙ no_name _ _ _ _ _ (sym c.in-Some-text_of.ensures) none) c.in_err-name_by.ensures))
+    gives_exit _ _ _ _ c.from_residual-in_err-listed_name.ensures.1
+    (rw (← c.into_iter-item-iterator.ensures.into_iter_gives.0) (fails_from _ _ _ (λ none. at ∙ no_name _ _ _ _ _ (sym c.in-Some-text_of.ensures) none) c.in_err-listed_name.ensures))
 
 pub loop-item-preserved : goal.loop-item-preserved
 loop-item-preserved c =
@@ -21,8 +21,8 @@ loop-item-preserved c =
     let longer = c.in-Some.ensures.steps.1 in
     let short = ap length c.in-Some.ensures.steps.0 in
     let was = c.loop-item.invariant.1 in (
-      rw (c.in_ok-push.ensures.items, map_push string_bytes c.loop-item.names.items c.in_ok-name_by.field-0)
-          (at ∙ name_more _ _ _ _ _ _ (sym c.in-Some-text_of.ensures) c.in_ok-name_by.ensures),
+      rw (c.in_ok-push.ensures.items, map_push string_bytes c.loop-item.names.items c.in_ok-listed_name.field-0)
+          (at ∙ name_more _ _ _ _ _ _ (sym c.in-Some-text_of.ensures) c.in_ok-listed_name.ensures),
       omega arith,
     )
 

@@ -7,7 +7,7 @@ use Rattle.avro_schema.proofs.BorrowedLemmas.{of_Null, of_Bool, of_Text, of_Arra
 use Rattle.avro_nodes.specs.Nodes.{field_view}
 use Rattle.avro_nodes.specs.Names.{namespace_of}
 use Rattle.avro_schema.specs.Inside.KindNumbers.{branch_number}
-use Rattle.avro_schema.specs.Inside.Distinct.{all_differ}
+use Rattle.avro_schema.specs.Inside.Distinct.{all_distinct}
 use Rattle.avro_schema.proofs.AttributeLemmas.{nothing_left}
 use Rattle.avro_schema.proofs.BorrowedMembers.{key_reserved}
 use Rattle.avro_schema.proofs.DistinctLemmas.{field_names}
@@ -198,7 +198,7 @@ union_at-returns-in_err-read-clause-read t c =
 pub union_at-returns-then-not-branch-clause-read : goal.union_at-returns-then-not-branch-clause-read
 union_at-returns-then-not-branch-clause-read t c =
     let next = one_more _ _ _ c.in_ok-push.ensures.items in
-    let alike = rw c.deref.ensures.value at (sym c.in_ok-kinds_differ.ensures ∙ c.if-not-branch.true) in
+    let alike = rw c.deref.ensures.value at (sym c.in_ok-are_kinds_distinct.ensures ∙ c.if-not-branch.true) in
     branches_alike _ _ _ _ _ c.in_ok-place.ensures.room _ _ _ _ (rw next at c.in_ok-read.ensures.read) alike
 
 pub union_at-fill_blank-requires : goal.union_at-fill_blank-requires
@@ -209,7 +209,7 @@ union_at-fill_blank-requires t c =
 pub union_at-returns-clause-read : goal.union_at-returns-clause-read
 union_at-returns-clause-read t c =
     let next = one_more _ _ _ c.in_ok-push.ensures.items in
-    let differ = rw c.deref.ensures.value at (sym c.in_ok-kinds_differ.ensures ∙ c.if-not-branch.false) in
+    let differ = rw c.deref.ensures.value at (sym c.in_ok-are_kinds_distinct.ensures ∙ c.if-not-branch.false) in
     let places : c.in_ok-branches.branches.items ≡ map (λ b. b.0) c.in_ok-read.read.items = search rules in
     rw (c.fill_blank.ensures, places)
     (union_done _ _ _ _ _ c.in_ok-place.ensures.room _ _ _ _ _ _ (c.in_ok-place.ensures.place ∙ sym (length-nodes _)) (nodes_push _ _ _ c.in_ok-push.ensures.items) (rw next at c.in_ok-read.ensures.read) differ)
@@ -324,8 +324,8 @@ record_at-returns-then-not-branch-clause-read t c =
     let next = one_more _ _ _ c.in_ok-push.ensures.items in
     let inside : c.namespace_of.result.now ≡ namespace_of (string_bytes c.in_ok-named.named.name) = c.namespace_of.ensures ∙ ap namespace_of c.as_str-2.ensures.value in
     let known = rw c.as_str.ensures.value at c.in_ok-number.ensures.defined in
-    let alike = rw c.deref.ensures.value at (sym c.in_ok-texts_differ.ensures ∙ c.if-not-branch.true) in
-    fields_alike _ _ _ _ _ _ c.in_ok-place.ensures.room _ c.in_ok-named.ensures.named _ listed _ (rw rest at c.in_ok-extra.ensures) _ _ _ _ (rw (inside, known, next) at c.in_ok-fields.ensures.read) (ap (all_differ bytes_eq) (field_names c.in_ok-fields.fields.items) ∙ alike)
+    let alike = rw c.deref.ensures.value at (sym c.in_ok-are_names_distinct.ensures ∙ c.if-not-branch.true) in
+    fields_alike _ _ _ _ _ _ c.in_ok-place.ensures.room _ c.in_ok-named.ensures.named _ listed _ (rw rest at c.in_ok-extra.ensures) _ _ _ _ (rw (inside, known, next) at c.in_ok-fields.ensures.read) (ap (all_distinct bytes_eq) (field_names c.in_ok-fields.fields.items) ∙ alike)
 
 pub record_at-fill_blank-requires : goal.record_at-fill_blank-requires
 record_at-fill_blank-requires t c =
@@ -339,9 +339,9 @@ record_at-returns-clause-read t c =
     let next = one_more _ _ _ c.in_ok-push.ensures.items in
     let inside : c.namespace_of.result.now ≡ namespace_of (string_bytes c.in_ok-named.named.name) = c.namespace_of.ensures ∙ ap namespace_of c.as_str-2.ensures.value in
     let known = rw c.as_str.ensures.value at c.in_ok-number.ensures.defined in
-    let differ = rw c.deref.ensures.value at (sym c.in_ok-texts_differ.ensures ∙ c.if-not-branch.false) in
+    let differ = rw c.deref.ensures.value at (sym c.in_ok-are_names_distinct.ensures ∙ c.if-not-branch.false) in
     rw c.fill_blank.ensures
-    (record_done _ _ _ _ _ _ c.in_ok-place.ensures.room _ c.in_ok-named.ensures.named _ listed _ (rw rest at c.in_ok-extra.ensures) _ _ _ _ _ _ (c.in_ok-place.ensures.place ∙ sym (length-nodes _)) (nodes_push _ _ _ c.in_ok-push.ensures.items) (rw (inside, known, next) at c.in_ok-fields.ensures.read) (ap (all_differ bytes_eq) (field_names c.in_ok-fields.fields.items) ∙ differ))
+    (record_done _ _ _ _ _ _ c.in_ok-place.ensures.room _ c.in_ok-named.ensures.named _ listed _ (rw rest at c.in_ok-extra.ensures) _ _ _ _ _ _ (c.in_ok-place.ensures.place ∙ sym (length-nodes _)) (nodes_push _ _ _ c.in_ok-push.ensures.items) (rw (inside, known, next) at c.in_ok-fields.ensures.read) (ap (all_distinct bytes_eq) (field_names c.in_ok-fields.fields.items) ∙ differ))
 
 pub record_at-returns-clause-kept : goal.record_at-returns-clause-kept
 record_at-returns-clause-kept t c = keeps_then c.args.known.now c.define.new.self c.fields_at.new.known c.in_ok-number.ensures.kept c.in_ok-fields.ensures.kept

@@ -5,5 +5,5 @@ use Rattle.avro_nodes.specs.Nodes.{field_view}
 use Rattle.avro_schema.specs.Inside.FieldTables.{CoversFirst}
 use Rattle.avro_schema.proofs.tables.table_of.Given as goal
 
-abbrev pub invariant-loop-at : goal.invariant-loop-at
-invariant-loop-at l = CoversFirst l.at l.required.items (λ q. get_by (λ k. slice_cmp nat_cmp q k.now) l.by_name) (map field_view l.fields)
+abbrev pub invariant-loop-index : goal.invariant-loop-index
+invariant-loop-index l = CoversFirst l.index l.required.items (λ q. get_by (λ k. slice_cmp nat_cmp q k.now) l.by_name) (map field_view l.fields)

@@ -8,5 +8,5 @@ use Rattle.avro_nodes.proofs.identity.types.begin_array.Goals as goal
 
 pub returns : goal.returns
 returns c = λ items new end value rest.
-    made ((codes "items", Some items) ∷ array_end) c.args.extra.now.entries c.others_of-others.result (array_value items (members_view c.args.extra.now.entries)) c.args.out.now c.begin_object.new.self end (refl) refl c.in_ok-begin_object.ensures c.others_of-others.ensures.all c.others_of-others.ensures.ordered
+    made ((codes "items", Some items) ∷ array_end) c.args.extra.now.entries c.unwritten_members-others.result (array_value items (members_view c.args.extra.now.entries)) c.args.out.now c.begin_object.new.self end (refl) refl c.in_ok-begin_object.ensures c.unwritten_members-others.ensures.all c.unwritten_members-others.ensures.ordered
     (c.in_ok-write_name.ensures items new value array_end end rest)

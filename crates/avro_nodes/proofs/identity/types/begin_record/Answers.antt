@@ -11,5 +11,5 @@ pub returns : goal.returns
 returns c = λ enclosing fields new end value rest.
     let named = named_view c.args.named.now in
     let aliases = rw c.deref.ensures.value at c.in_ok-write_aliases.ensures in
-    made (record_attributes enclosing named fields) c.args.extra.now.entries c.others_of-others.result (record_value enclosing named fields (members_view c.args.extra.now.entries)) c.args.out.now c.begin_object.new.self end (record_put enclosing named fields (members_view c.args.extra.now.entries)) refl c.in_ok-begin_object.ensures c.others_of-others.ensures.all c.others_of-others.ensures.ordered
+    made (record_attributes enclosing named fields) c.args.extra.now.entries c.unwritten_members-others.result (record_value enclosing named fields (members_view c.args.extra.now.entries)) c.args.out.now c.begin_object.new.self end (record_put enclosing named fields (members_view c.args.extra.now.entries)) refl c.in_ok-begin_object.ensures c.unwritten_members-others.ensures.all c.unwritten_members-others.ensures.ordered
     (aliases _ end (c.in_ok-write_name.ensures (array fields) new value (record_end enclosing named.name) end rest))

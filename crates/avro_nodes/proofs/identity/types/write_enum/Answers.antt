@@ -19,6 +19,6 @@ returns c =
     let name = rw c.as_str-name.ensures.value at c.in_ok-write_text.ensures in
     let namespace = rw c.as_str-name.ensures.value at c.in_ok-write_namespace.ensures in
     on_ok_weaker c.write_rest.result (λ rest.
-    made (ps) c.args.extra.now.entries c.others_of-others.result (enum_value space named symbols fallback (members_view c.args.extra.now.entries)) c.args.out.now c.begin_object.new.self end (enum_put space named symbols fallback (members_view c.args.extra.now.entries)) refl c.in_ok-begin_object.ensures c.others_of-others.ensures.all c.others_of-others.ensures.ordered
+    made (ps) c.args.extra.now.entries c.unwritten_members-others.result (enum_value space named symbols fallback (members_view c.args.extra.now.entries)) c.args.out.now c.begin_object.new.self end (enum_put space named symbols fallback (members_view c.args.extra.now.entries)) refl c.in_ok-begin_object.ensures c.unwritten_members-others.ensures.all c.unwritten_members-others.ensures.ordered
     (aliases (drop 1 ps) end (c.in_ok-write_fallback.ensures (drop 2 ps) end (name (drop 3 ps) end (namespace (drop 4 ps) end (c.in_ok-write_name.ensures (array (texts symbols)) c.write_texts.new.out c.in_ok-write_texts.ensures (drop 5 ps) end (c.in_ok-write_text-2.ensures [] end rest)))))))
     c.write_rest.ensures

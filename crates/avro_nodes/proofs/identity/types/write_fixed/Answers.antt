@@ -22,6 +22,6 @@ returns c =
     let spells = unsigned_text (unsigned c.args.size) c.args.size refl (omega arith) in
     let size = number_written (unsigned c.args.size) c.write_name.new.out c.unsigned.new.self (decimal c.args.size, rw wide at c.in_ok-unsigned.ensures, spells.0, spells.1) in
     on_ok_weaker c.write_rest.result (λ rest.
-    made (ps) c.args.extra.now.entries c.others_of-others.result (fixed_value space named c.args.size (members_view c.args.extra.now.entries)) c.args.out.now c.begin_object.new.self end (fixed_put space named c.args.size (members_view c.args.extra.now.entries)) refl c.in_ok-begin_object.ensures c.others_of-others.ensures.all c.others_of-others.ensures.ordered
+    made (ps) c.args.extra.now.entries c.unwritten_members-others.result (fixed_value space named c.args.size (members_view c.args.extra.now.entries)) c.args.out.now c.begin_object.new.self end (fixed_put space named c.args.size (members_view c.args.extra.now.entries)) refl c.in_ok-begin_object.ensures c.unwritten_members-others.ensures.all c.unwritten_members-others.ensures.ordered
     (aliases (drop 1 ps) end (name (drop 2 ps) end (namespace (drop 3 ps) end (c.in_ok-write_name.ensures (number (unsigned c.args.size)) c.unsigned.new.self size (drop 4 ps) end (c.in_ok-write_text-2.ensures [] end rest))))))
     c.write_rest.ensures

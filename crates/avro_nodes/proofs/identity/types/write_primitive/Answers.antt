@@ -21,6 +21,6 @@ returns c =
     let some = primitive_with c.args.kind c.args.extra.now.entries (λ e. true≢false (sym (c.is_empty.ensures.1 e) ∙ c.if-is_empty.false)) in
     let kind = rw c.kind_text-2.ensures at c.in_ok-write_text.ensures in
     on_ok_weaker c.write_rest.result (λ rest.
-    made ((codes "type", Some (string (kind_text c.args.kind))) ∷ []) c.args.extra.now.entries c.others_of-others.result (primitive_value c.args.kind (members_view c.args.extra.now.entries)) c.args.out.now c.begin_object.new.self end (some) refl c.in_ok-begin_object.ensures c.others_of-others.ensures.all c.others_of-others.ensures.ordered
+    made ((codes "type", Some (string (kind_text c.args.kind))) ∷ []) c.args.extra.now.entries c.unwritten_members-others.result (primitive_value c.args.kind (members_view c.args.extra.now.entries)) c.args.out.now c.begin_object.new.self end (some) refl c.in_ok-begin_object.ensures c.unwritten_members-others.ensures.all c.unwritten_members-others.ensures.ordered
     (kind [] end rest))
     c.write_rest.ensures
