@@ -47,7 +47,7 @@ class Tried:
     files = keys = 0
 
 
-def kept_line(count):
+def migrated_line(count):
     return f"layout 2: {count} versions kept\n"
 
 
@@ -120,7 +120,7 @@ def check_migration(where, folder):
             with open(f"{folder}/{it}", "rb") as file:
                 write_file(copied, it, file.read())
         before = rows(copied)
-    check_outcome(f"{where}: migrate", (0, kept_line(len(before[0]["versions"])), ""), run_program(["migrate", "--db", "F"], folder=folder))
+    check_outcome(f"{where}: migrate", (0, migrated_line(len(before[0]["versions"])), ""), run_program(["migrate", "--db", "F"], folder=folder))
     if os.listdir(folder) != ["F"]:
         raise_difference(f"{where}: the files", ["F"], os.listdir(folder))
     check_migrated(where, folder, before)
@@ -208,7 +208,7 @@ def lines():
 
     line = lambda text: (2, "", f"avroreg: {text}\n")
     layout = lambda number: FIRST(f"UPDATE meta SET value = '{number}' WHERE name = 'layout'")
-    check_run("kept", SMALL(), (0, kept_line(3), ""), stays=False)
+    check_run("kept", SMALL(), (0, migrated_line(3), ""), stays=False)
     check_run("layout 2", layout(2), (0, NOTHING_TO_DO, ""))
     check_run("layout 3", layout(3), line("F has layout 3, newer than this program"))
     check_run("no file", None, line("cannot open F"))
@@ -233,7 +233,7 @@ def check_either(where, folder, before, migrated, must_be_migrated=False):
     found = tables(folder, "F")
     if found not in ([migrated] if must_be_migrated else [before, migrated]):
         raise_difference(f"{where}: the tables", migrated, found)
-    expected = NOTHING_TO_DO if found == migrated else kept_line(3)
+    expected = NOTHING_TO_DO if found == migrated else migrated_line(3)
     check_outcome(f"{where}: migrate again", (0, expected, ""), run_program(["migrate", "--db", "F"], folder=folder))
     if tables(folder, "F") != migrated:
         raise_difference(f"{where}: the tables after it", migrated, tables(folder, "F"))
@@ -246,7 +246,7 @@ def each_call(name, environment, tries_of, other_ends):
         write_file(folder, "F", SMALL())
         before = tables(folder, "F")
         ran = run_program(["migrate", "--db", "F"], folder=folder, env={**environment({}), f"{name}_COUNT": "count"})
-        check_outcome(name, (0, kept_line(3), ""), ran)
+        check_outcome(name, (0, migrated_line(3), ""), ran)
         with open(f"{folder}/count") as file:
             calls = int(file.read().split()[0])
         os.remove(f"{folder}/count")
@@ -256,7 +256,7 @@ def each_call(name, environment, tries_of, other_ends):
         with temporary_folder() as folder:
             write_file(folder, "F", SMALL())
             ran = run_program(["migrate", "--db", "F"], folder=folder, env={**environment(tried), f"{name}_COUNT": "count"})
-            actual, done = (ran.returncode, ran.stdout, ran.stderr), (0, kept_line(3).encode(), b"")
+            actual, done = (ran.returncode, ran.stdout, ran.stderr), (0, migrated_line(3).encode(), b"")
             if actual not in (done, *other_ends):
                 raise_difference(f"{tried}: the end", other_ends, actual)
             if os.path.exists(f"{folder}/count"):
@@ -283,7 +283,7 @@ def stops():
                     yield {"FAULT": f"{kind}:{nth}"} | ({} if seed is None else {"FAULT_SEED": str(seed)})
 
     each_call("FAULT", lambda tried: {"LD_PRELOAD": os.environ["FAULTS"], **tried}, tries_of,
-              [(2, b"", b"avroreg: cannot open F\n"), *((KILLED, output, b"") for output in (b"", kept_line(3).encode()))])
+              [(2, b"", b"avroreg: cannot open F\n"), *((KILLED, output, b"") for output in (b"", migrated_line(3).encode()))])
 
 
 KINDS = {"old": old, "many": many, "lines": lines, "memory": memory, "stops": stops}

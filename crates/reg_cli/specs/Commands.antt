@@ -11,8 +11,8 @@ abbrev pub option_rule : Text → Rule
 option_rule name = record (new_rule name) { long = Some name; value_names = 1 }
 
 -- a required argument
-abbrev pub needed : Rule → Rule
-needed rule = record rule { required = true }
+abbrev pub required : Rule → Rule
+required rule = record rule { required = true }
 
 -- an argument that is a number from 1 to `greatest`
 abbrev pub numbered : ℕ → Rule → Rule
@@ -28,31 +28,38 @@ abbrev pub database_rule : Rule
 database_rule = option_rule (codes "db")
 
 abbrev pub port_rule : Rule
-port_rule = numbered max_port (needed (option_rule (codes "port")))
+port_rule = numbered max_port (required (option_rule (codes "port")))
 
 abbrev pub connections_rule : Rule
 connections_rule = numbered max_connections (option_rule (codes "connections"))
 
+-- `run [--db F]`
 abbrev pub run_command : App
 run_command = with_rule (new_app (codes "run")) database_rule
 
+-- `serve --db F --port N [--connections N]`
 abbrev pub serve_command : App
-serve_command = with_rule (with_rule (with_rule (new_app (codes "serve")) (needed database_rule)) port_rule) connections_rule
+serve_command = with_rule (with_rule (with_rule (new_app (codes "serve")) (required database_rule)) port_rule) connections_rule
 
+-- `check --reader F --writer F`
 abbrev pub check_command : App
-check_command = with_rule (with_rule (new_app (codes "check")) (needed (option_rule (codes "reader")))) (needed (option_rule (codes "writer")))
+check_command = with_rule (with_rule (new_app (codes "check")) (required (option_rule (codes "reader")))) (required (option_rule (codes "writer")))
 
+-- `text F`
 abbrev pub text_command : App
-text_command = with_rule (new_app (codes "text")) (needed (new_rule (codes "F")))
+text_command = with_rule (new_app (codes "text")) (required (new_rule (codes "F")))
 
+-- `list --db F W`
 abbrev pub list_command : App
-list_command = with_rule (with_rule (new_app (codes "list")) (needed database_rule)) (needed (new_rule (codes "W")))
+list_command = with_rule (with_rule (new_app (codes "list")) (required database_rule)) (required (new_rule (codes "W")))
 
+-- `migrate --db F`
 abbrev pub migrate_command : App
-migrate_command = with_rule (new_app (codes "migrate")) (needed database_rule)
+migrate_command = with_rule (new_app (codes "migrate")) (required database_rule)
 
+-- `audit --db F`
 abbrev pub audit_command : App
-audit_command = with_rule (new_app (codes "audit")) (needed database_rule)
+audit_command = with_rule (new_app (codes "audit")) (required database_rule)
 
 -- the program without its subcommands: the arguments don't include the program's name, and a subcommand is required
 abbrev pub root_command : App

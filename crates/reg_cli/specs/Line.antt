@@ -24,35 +24,35 @@ connections_in (Some text) = number_in 32 text
 abbrev pub port_in : List Row → Option ℕ
 port_in rows = option_and_then (number_in 16) (first_of (codes "port") rows)
 
--- `run [--db F]`
+-- the task of `run [--db F]`; never `None`
 abbrev pub run_in : List Row → Option TaskView
 run_in rows = Some (run_task (first_of (codes "db") rows))
 
--- `serve --db F --port N [--connections N]`
+-- the task of `serve --db F --port N [--connections N]`; `None` if there is no value for `--db` or `--port`, or a number is invalid
 abbrev pub serve_in : List Row → Option TaskView
 serve_in rows =
     option_and_then (λ database. option_and_then (λ port. option_map (serve_task database port)
     (connections_in (first_of (codes "connections") rows))) (port_in rows)) (first_of (codes "db") rows)
 
--- `check --reader F --writer F`
+-- the task of `check --reader F --writer F`; `None` if there is no value for `--reader` or `--writer`
 abbrev pub check_in : List Row → Option TaskView
 check_in rows = option_and_then (λ reader. option_map (check_task reader) (first_of (codes "writer") rows)) (first_of (codes "reader") rows)
 
--- `text F`
+-- the task of `text F`; `None` if there is no value for `F`
 abbrev pub text_in : List Row → Option TaskView
 text_in rows = option_map text_task (first_of (codes "F") rows)
 
--- `list --db F W`
+-- the task of `list --db F W`; `None` if there is no value for `--db` or `W`, or `W` names no listing
 abbrev pub list_in : List Row → Option TaskView
 list_in rows =
     option_and_then (λ database. option_map (list_task database)
     (option_and_then listing_in (first_of (codes "W") rows))) (first_of (codes "db") rows)
 
--- `migrate --db F`
+-- the task of `migrate --db F`; `None` if there is no value for `--db`
 abbrev pub migrate_in : List Row → Option TaskView
 migrate_in rows = option_map migrate_task (first_of (codes "db") rows)
 
--- `audit --db F`
+-- the task of `audit --db F`; `None` if there is no value for `--db`
 abbrev pub audit_in : List Row → Option TaskView
 audit_in rows = option_map audit_task (first_of (codes "db") rows)
 

@@ -8,9 +8,10 @@ use Rattle.clap.specs.Words.{Text}
 abbrev pub is_number : ℕ → Text → Bool
 is_number bits digits = is_numeral digits && nat_lt (digits_value 10 digits) (2 ^ bits)
 
-abbrev pub number_of : ℕ → Text → Option ℕ
-number_of bits digits = if is_number bits digits then Some (digits_value 10 digits) else None
+-- the number that a text of decimal digits, without a sign, writes; `None` for any other text, and for a number of more than `bits` bits
+abbrev pub number_without_sign : ℕ → Text → Option ℕ
+number_without_sign bits text = if is_number bits text then Some (digits_value 10 text) else None
 
--- a text as a number of at most `bits` bits
+-- the number that a text writes in decimal digits, with an optional leading plus; `None` if it writes none, or one of more than `bits` bits
 abbrev pub number_in : ℕ → Text → Option ℕ
-number_in bits text = number_of bits (without_leading_plus text)
+number_in bits text = number_without_sign bits (without_leading_plus text)

@@ -3,7 +3,7 @@
 ghost use Rattle.std.specs.Prelude.{◌≡◌, IfOk, false};
 ghost use Rattle.clap.specs.Words.{App, new_app, new_rule, rule_of, with_subcommand};
 ghost use Rattle.reg_cli.specs.Commands.{IsApp, audit_command, root_command, check_command};
-ghost use Rattle.reg_cli.specs.Commands.{connections_rule, database_rule, list_command, migrate_command, needed};
+ghost use Rattle.reg_cli.specs.Commands.{connections_rule, database_rule, list_command, migrate_command, required};
 ghost use Rattle.reg_cli.specs.Commands.{option_rule, port_rule, program, run_command, serve_command};
 ghost use Rattle.reg_cli.specs.Commands.{text_command};
 
@@ -24,7 +24,7 @@ fn option<'a>(alloc: Global, name: &'a str, value: &'a str, help: &'a str) -> Ar
 
 /// A required positional argument with a help text.
 fn positional<'a>(alloc: Global, name: &'a str, help: &'a str) -> Arg<'a>
-    ensures rule { rule_of result ≡ needed (new_rule name.entry.now) }
+    ensures rule { rule_of result ≡ required (new_rule name.entry.now) }
     ensures local { result.global ≡ false }
 {
     Arg::new(alloc, name).required(true).help(help)
@@ -56,7 +56,7 @@ fn connections<'a>(alloc: Global) -> Arg<'a>
 
 /// `--db F`, which is required.
 fn database<'a>(alloc: Global) -> Arg<'a>
-    ensures rule { rule_of result ≡ needed database_rule }
+    ensures rule { rule_of result ≡ required database_rule }
     ensures local { result.global ≡ false }
 {
     option(alloc, "db", "F", "The registry's file").required(true)

@@ -8,7 +8,7 @@ use Rattle.reg_http.specs.Output.{AppendsPrefix}
 use Rattle.reg_jobs.specs.declared.auditing.AuditOutcome.{AuditOutcome}
 use Rattle.reg_jobs.specs.declared.auditing.AuditOutcome.TheVariants.{Verdict, Unread, NotWritten}
 
--- the line for a verdict
+-- the line that `audit` prints for a verdict on the evidence
 abbrev pub evidence_line : Bool → List ℕ
 evidence_line true = codes "evidence holds\n"
 evidence_line false = codes "evidence does not hold\n"

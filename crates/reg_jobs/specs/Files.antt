@@ -36,7 +36,7 @@ PrintsAs file old new (Nothing fault) = FailsAs file fault × Appends old new []
 PrintsAs file old new NotWritten =
     (nodes : List NodeView) × (part : List ℕ) × FileHolds file nodes × IsPrefix part (identity_line nodes) × Appends old new part
 
--- the line for a verdict
+-- the line that `check` prints for a verdict
 abbrev pub verdict_line : Bool → List ℕ
 verdict_line true = codes "compatible\n"
 verdict_line false = codes "incompatible\n"

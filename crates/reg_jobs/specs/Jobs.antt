@@ -49,18 +49,18 @@ file_of (ListJob database kind) = string_bytes database
 file_of (Migrate database) = string_bytes database
 file_of (Audit database) = string_bytes database
 
--- the writer's file of a job that names two, otherwise the job's file
-abbrev pub writer_file_of : Job → List ℕ
-writer_file_of (Run database) = file_of (Run database)
-writer_file_of (TextJob file) = string_bytes file
-writer_file_of (CheckJob reader writer) = string_bytes writer
-writer_file_of (ListJob database kind) = string_bytes database
-writer_file_of (Migrate database) = string_bytes database
-writer_file_of (Audit database) = string_bytes database
+-- the name of the file with the writer's schema, for `check`; for any other job the result of `file_of`
+abbrev pub writer_schema_file_of : Job → List ℕ
+writer_schema_file_of (Run database) = file_of (Run database)
+writer_schema_file_of (TextJob file) = string_bytes file
+writer_schema_file_of (CheckJob reader writer) = string_bytes writer
+writer_schema_file_of (ListJob database kind) = string_bytes database
+writer_schema_file_of (Migrate database) = string_bytes database
+writer_schema_file_of (Audit database) = string_bytes database
 
 -- the result of a job: the program's status, or a fault and its file
 abbrev pub job_result : Job → Outcome → Result ℕ (Fault × List ℕ)
-job_result job outcome = result_of outcome (file_of job) (writer_file_of job)
+job_result job outcome = result_of outcome (file_of job) (writer_schema_file_of job)
 
 -- a file's bytes; none if no such file was given, or it couldn't be read
 abbrev pub bytes_of : Option (Option (Vec ℕ Global)) → Option (List ℕ)
@@ -171,29 +171,30 @@ OverDatabase g OrphanedLog P = ⊥
 OverDatabase g (Fresh old) P = ⊥
 OverDatabase g (Database old) P = P (state g old)
 
--- why a job that only reads finds no registry in what was opened, and the connection that is returned. It creates none in an empty
--- database, which is returned unchanged
-abbrev pub FindsNone : {S : Type 0} (g : Ghosts S) → Opened S → Option (Held S) → StoreError → Type 0
-FindsNone g Nothing returned error = LacksRegistry g Nothing returned error
-FindsNone g (Texts texts) returned error = LacksRegistry g (Texts texts) returned error
-FindsNone g Failed returned error = LacksRegistry g Failed returned error
-FindsNone g Empty returned error = LacksRegistry g Empty returned error
-FindsNone g OrphanedLog returned error = LacksRegistry g OrphanedLog returned error
-FindsNone g (Fresh old) returned error = (returned ≡ Some old) × (error ≡ NotARegistry)
-FindsNone g (Database old) returned error = LacksRegistry g (Database old) returned error
+-- why a job that creates no registry finds none in what was opened, and the connection that is returned. The connection to an empty
+-- database is returned unchanged
+abbrev pub LacksExistingRegistry : {S : Type 0} (g : Ghosts S) → Opened S → Option (Held S) → StoreError → Type 0
+LacksExistingRegistry g Nothing returned error = LacksRegistry g Nothing returned error
+LacksExistingRegistry g (Texts texts) returned error = LacksRegistry g (Texts texts) returned error
+LacksExistingRegistry g Failed returned error = LacksRegistry g Failed returned error
+LacksExistingRegistry g Empty returned error = LacksRegistry g Empty returned error
+LacksExistingRegistry g OrphanedLog returned error = LacksRegistry g OrphanedLog returned error
+LacksExistingRegistry g (Fresh old) returned error = (returned ≡ Some old) × (error ≡ NotARegistry)
+LacksExistingRegistry g (Database old) returned error = LacksRegistry g (Database old) returned error
 
--- a listing of the registry of a database, which the tables still spell
-pub record ListsOver (old : State) (kind : ListingKind) (writer writer' : Option (List ℕ)) (listed : ListOutcome) (new : State) : Type 0 where
+-- A listing of the registry that a database's tables spelled. If the connection is still open, they still spell it. If the registry can't
+-- be read, the error is `Memory` or `Disk`.
+pub record ListsOver (old : State) (kind : ListingKind) (output output' : Option (List ℕ)) (list_outcome : ListOutcome) (new : State) : Type 0 where
   pub was : Stored
   pub begins : SpellsUnopened old.now was
-  pub lists : ListsAs (listing_of kind) was.registry writer writer' listed
-  pub fault : IfUnread listed (λ error. IsTrue (is_fault error))
+  pub lists : ListsAs (listing_of kind) was.registry output output' list_outcome
+  pub fault : IfUnread list_outcome (λ error. IsTrue (is_fault error))
   pub spells : SpellsWhileOpen new was
 
 -- no registry was found, and nothing was written
 pub record FindsNoRegistry {S : Type 0} (g : Ghosts S) (opened : Opened S) (returned : Option (Held S)) (writer writer' : Option (List ℕ)) (error : StoreError) : Type 0 where
   pub unwritten : writer' ≡ writer
-  pub lacks : FindsNone g opened returned error
+  pub lacks : LacksExistingRegistry g opened returned error
 
 -- what is true after a listing: for each outcome that it can have, what was written and which connection was returned; no other outcome occurs
 abbrev pub ListsOn : {S : Type 0} (g : Ghosts S) → Opened S → ListingKind → Option (Held S) → Option (List ℕ) → Option (List ℕ) → Outcome → Type 0

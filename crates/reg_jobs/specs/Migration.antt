@@ -16,9 +16,9 @@ use Rattle.reg_jobs.specs.declared.outcome.Outcome.TheVariants.{Unopened, Migrat
 use Rattle.reg_jobs.specs.declared.migration.MigrateOutcome.{MigrateOutcome}
 use Rattle.reg_jobs.specs.declared.migration.MigrateOutcome.TheVariants.{Whole, NotWritten}
 
--- the line with the number of versions that were kept
-abbrev pub kept_line : ℕ → List ℕ
-kept_line count = codes "layout 2: " ++ (decimal count ++ codes " versions kept\n")
+-- the line that `migrate` prints after a migration, with the number of rows of `versions`, including soft-deleted ones
+abbrev pub migrated_line : ℕ → List ℕ
+migrated_line count = codes "layout 2: " ++ (decimal count ++ codes " versions kept\n")
 
 -- the line for a database that has layout 2
 abbrev pub nothing_line : List ℕ
@@ -33,7 +33,7 @@ PrintsLine line old new NotWritten = AppendsPrefix old new line
 pub record MigratesPrinting (old new : State) (writer writer' : Option (List ℕ)) (printed : MigrateOutcome) : Type 0 where
   pub count : ℕ
   pub moves : Migrates old new count
-  pub prints : PrintsLine (kept_line count) writer writer' printed
+  pub prints : PrintsLine (migrated_line count) writer writer' printed
 
 -- Why a database wasn't migrated. If its tables spell a registry in layout 1, the error is `Memory` or `Disk`. A layout above 1 is reported,
 -- unless memory or the disk fails. Nothing is committed. A crash leaves what it could leave before, or layout 2 if layout 1 spelled a
@@ -60,7 +60,9 @@ pub record IsMigrated (old new : State) (writer writer' : Option (List ℕ)) (ou
   pub outcome_is : outcome ≡ Migrated printed
   pub migrated : MigratesPrinting old new writer writer' printed
 
-pub record IsNotMigrated (old new : State) (writer writer' : Option (List ℕ)) (outcome : Outcome) : Type 0 where
+-- `migrate` returned an error, and committed nothing. If the database has layout 2 already, the outcome is `Migrated`, and the printed line
+-- says that there is nothing to do.
+pub record HasMigrateError (old new : State) (writer writer' : Option (List ℕ)) (outcome : Outcome) : Type 0 where
   pub error : MigrateError
   pub fails : FailsToMigrate old new error
   pub reports : PrintsUnmigrated error writer writer' outcome
@@ -74,4 +76,4 @@ pub record IsBusy (old : State) (writer writer' : Option (List ℕ)) (outcome : 
 -- the outcome of a migration of a database, and what was printed
 abbrev pub MigratesAs : State → State → Option (List ℕ) → Option (List ℕ) → Outcome → Type 0
 MigratesAs old new writer writer' outcome =
-    IsMigrated old new writer writer' outcome ⊎ (IsNotMigrated old new writer writer' outcome ⊎ IsBusy old writer writer' outcome)
+    IsMigrated old new writer writer' outcome ⊎ (HasMigrateError old new writer writer' outcome ⊎ IsBusy old writer writer' outcome)

@@ -27,21 +27,21 @@ OpensExisting (Fresh connection) = ⊥
 OpensExisting (Database connection) = ⊤
 
 -- this number of schema files, readable or not
-abbrev pub OpensTexts : {S : Type 0} → ℕ → Opened S → Type 0
-OpensTexts count Nothing = ⊥
-OpensTexts count (Texts texts) = length texts.items ≡ count
-OpensTexts count Failed = ⊥
-OpensTexts count Empty = ⊥
-OpensTexts count OrphanedLog = ⊥
-OpensTexts count (Fresh connection) = ⊥
-OpensTexts count (Database connection) = ⊥
+abbrev pub AreSchemaFiles : {S : Type 0} → ℕ → Opened S → Type 0
+AreSchemaFiles count Nothing = ⊥
+AreSchemaFiles count (Texts files) = length files.items ≡ count
+AreSchemaFiles count Failed = ⊥
+AreSchemaFiles count Empty = ⊥
+AreSchemaFiles count OrphanedLog = ⊥
+AreSchemaFiles count (Fresh connection) = ⊥
+AreSchemaFiles count (Database connection) = ⊥
 
 -- what is opened for a job, by its kind
 abbrev pub OpensFor : {S : Type 0} → Job → Opened S → Type 0
 OpensFor (Run None) opened = opened ≡ Nothing
 OpensFor (Run (Some file)) opened = OpensOrCreates opened
-OpensFor (TextJob file) opened = OpensTexts 1 opened
-OpensFor (CheckJob reader writer) opened = OpensTexts 2 opened
+OpensFor (TextJob file) opened = AreSchemaFiles 1 opened
+OpensFor (CheckJob reader writer) opened = AreSchemaFiles 2 opened
 OpensFor (ListJob database kind) opened = OpensExisting opened
 OpensFor (Migrate database) opened = OpensExisting opened
 OpensFor (Audit database) opened = OpensExisting opened

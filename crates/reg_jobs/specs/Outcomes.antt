@@ -91,16 +91,16 @@ line_with (FaultNewerLayout number) file digits = codes "avroreg: " ++ (file ++ 
 line_with (CannotListen port) file digits = codes "avroreg: cannot listen on port " ++ (digits ++ codes "\n")
 line_with CannotAccept file digits = codes "avroreg: cannot accept connections\n"
 
--- the layout or the port that a fault names, otherwise 0
-abbrev pub number_of : Fault → ℕ
-number_of (FaultOldLayout layout) = layout
-number_of (FaultNewerLayout layout) = layout
-number_of (CannotListen port) = port
-number_of _ = 0
+-- the layout or the port that a fault's line shows; 0 for a fault whose line shows none
+abbrev pub layout_or_port_of : Fault → ℕ
+layout_or_port_of (FaultOldLayout layout) = layout
+layout_or_port_of (FaultNewerLayout layout) = layout
+layout_or_port_of (CannotListen port) = port
+layout_or_port_of _ = 0
 
 -- the line for a fault, with the file's name as it is shown
 abbrev pub line_of : Fault → List ℕ → List ℕ
-line_of fault file = line_with fault (shown_name file) (decimal (number_of fault))
+line_of fault file = line_with fault (shown_name file) (decimal (layout_or_port_of fault))
 
 -- the text of the parts of a line
 abbrev pub text_of_parts : List (Bor (List ℕ)) → List ℕ

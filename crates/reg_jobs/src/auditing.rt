@@ -24,7 +24,7 @@ pub enum AuditOutcome {
     NotWritten,
 }
 
-/// The line for a verdict.
+/// The line that `audit` prints for a verdict on the evidence.
 fn evidence_line(holds: bool) -> &'static str
     ensures { result.now ≡ evidence_line holds }
 {

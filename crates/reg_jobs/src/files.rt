@@ -91,7 +91,7 @@ pub enum CheckOutcome {
     NotWritten,
 }
 
-/// A verdict's line.
+/// The line that `check` prints for a verdict.
 fn verdict_line(yes: bool) -> &'static str
     ensures { result.now ≡ verdict_line yes }
 {
@@ -102,12 +102,13 @@ fn verdict_line(yes: bool) -> &'static str
     }
 }
 
-/// Prints a verdict's line.
-fn print_verdict<W: Write>(yes: bool, writer: &mut W) -> CheckOutcome
-    ensures { PrintsVerdict yes (W.contents writer.old) (W.contents writer.new) result }
+/// Prints the line of `check` for a verdict. Returns the verdict, or `NotWritten` if a write
+/// failed. Then a beginning of the line was written.
+fn print_verdict<W: Write>(is_compatible: bool, writer: &mut W) -> CheckOutcome
+    ensures { PrintsVerdict is_compatible (W.contents writer.old) (W.contents writer.new) result }
 {
-    if write_whole(writer, verdict_line(yes).as_bytes()) {
-        CheckOutcome::Verdict(yes)
+    if write_whole(writer, verdict_line(is_compatible).as_bytes()) {
+        CheckOutcome::Verdict(is_compatible)
     } else {
         CheckOutcome::NotWritten
     }

@@ -4,7 +4,7 @@ ghost use Rattle.std.specs.Prelude.{◌≡◌, IfOk, IfErr, false, option_map};
 ghost use Rattle.sqlite.specs.State.{HasCleanDisk};
 ghost use Rattle.reg_store.specs.Opening.{OpensOver};
 ghost use Rattle.reg_store.specs.Stores.{has_failed, state_of};
-ghost use Rattle.reg_jobs.specs.Jobs.{AuditsOn, DoesJob, FindsNone, HasRegistry, LacksRegistry, ListsOn, OverDatabase, RunsInMemory, RunsJob, RunsOn, MigratesOn, file_of, writer_file_of};
+ghost use Rattle.reg_jobs.specs.Jobs.{AuditsOn, DoesJob, LacksExistingRegistry, HasRegistry, LacksRegistry, ListsOn, OverDatabase, RunsInMemory, RunsJob, RunsOn, MigratesOn, file_of, writer_schema_file_of};
 
 use crate::auditing::audit_store;
 use crate::database::{create_in, open_in, run_on_store};
@@ -59,9 +59,10 @@ fn file_of(job: &Job) -> &str
     }
 }
 
-/// The writer's file of a job that names two, otherwise the job's file.
-fn writer_file_of(job: &Job) -> &str
-    ensures { result.now ≡ writer_file_of job.entry.now }
+/// The name of the file with the writer's schema, for `check`; for any other job the result of
+/// `file_of`.
+fn writer_schema_file_of(job: &Job) -> &str
+    ensures { result.now ≡ writer_schema_file_of job.entry.now }
 {
     match job {
         Job::Check { writer, .. } => writer.as_str(),
@@ -112,7 +113,7 @@ fn run_in_memory<R: Read, W: Write>(alloc: Global, reader: &mut R, writer: &mut 
     Outcome::Session(serve(alloc, reader, writer, &mut service))
 }
 
-/// Opens a store over what was opened, for a job that only reads. It creates no registry.
+/// Opens a store over what was opened. It creates no registry.
 ///
 /// # Errors
 ///
@@ -126,7 +127,7 @@ fn open_existing_store<S: Alter + Drop>(
     ensures over { IfOk result (λ store. OverDatabase S.Store opened
         (λ old. HasCleanDisk (state_of store) → OpensOver old (state_of store))) }
     ensures unfailed { IfOk result (λ store. has_failed store ≡ false) }
-    ensures none { IfErr result (λ e. FindsNone S.Store opened e.1 e.0) }
+    ensures none { IfErr result (λ e. LacksExistingRegistry S.Store opened e.1 e.0) }
 {
     match opened {
         Opened::Database(connection) => open_in(alloc, connection),
@@ -241,8 +242,9 @@ fn migrate_on<S: Alter + Drop, W: Write>(
     }
 }
 
-/// Audits what was opened, prints the verdict, and returns the connection. Without a registry
-/// nothing is written.
+/// Audits the registry of what was opened, and prints the verdict. It creates no registry. It
+/// prints nothing if there is no registry, or if the registry can't be read. Returns the opened
+/// connection, or `None`.
 fn audit_on<S: Alter + Drop, W: Write>(
     alloc: Global,
     opened: Opened<S>,
@@ -252,8 +254,8 @@ fn audit_on<S: Alter + Drop, W: Write>(
 {
     match open_existing_store(alloc, opened) {
         Ok(store) => {
-            let (audited, connection) = audit_store(store, writer);
-            (Outcome::Audited(audited), Some(connection))
+            let (audit_outcome, connection) = audit_store(store, writer);
+            (Outcome::Audited(audit_outcome), Some(connection))
         }
         Err((error, connection)) => (Outcome::Unopened(error), connection),
     }
@@ -287,6 +289,6 @@ pub fn do_job<S: Alter + Drop, R: Read, W: Write, E: Write + Drop>(
         Job::Migrate { .. } => migrate_on(alloc, opened, writer),
         Job::Audit { .. } => audit_on(alloc, opened, writer),
     };
-    let answer = result_of(outcome, file_of(job), writer_file_of(job));
+    let answer = result_of(outcome, file_of(job), writer_schema_file_of(job));
     (report_result(errors, answer), connection)
 }

@@ -3,7 +3,7 @@
 ghost use Rattle.std.specs.Prelude.{◌≡◌};
 ghost use Rattle.reg_jobs.specs.Errors.{Puts};
 ghost use Rattle.reg_jobs.specs.Names.{shown_name};
-ghost use Rattle.reg_jobs.specs.Outcomes.{PrintsFault, result_of, line_of, line_with, result_view, number_of, status_of, text_of_line, text_of_parts};
+ghost use Rattle.reg_jobs.specs.Outcomes.{PrintsFault, result_of, line_of, line_with, result_view, layout_or_port_of, status_of, text_of_line, text_of_parts};
 
 use crate::errors::Errors;
 use crate::name::put_name;
@@ -38,8 +38,8 @@ fn file_line<'a>(front: &'a str, name: &'a str, rest: [&'a str; 3]) -> ErrorLine
 }
 
 /// The layout or the port that a fault names, otherwise 0.
-fn number_of(fault: Fault) -> u32
-    ensures { result ≡ number_of fault }
+fn layout_or_port_of(fault: Fault) -> u32
+    ensures { result ≡ layout_or_port_of fault }
 {
     match fault {
         Fault::OldLayout(layout) => layout,
@@ -104,7 +104,7 @@ pub fn put_job_error<E: Write + Drop>(errors: &mut Errors<E>, job_error: JobErro
     ensures { Puts E.contents errors.old errors.new (line_of job_error.entry.fault job_error.entry.file.now) }
 {
     let mut digits = Buffer::new();
-    let number = digits.format(number_of(job_error.fault));
+    let number = digits.format(layout_or_port_of(job_error.fault));
     put_line(errors, line_of(job_error.fault, job_error.file, number));
 }
 

@@ -4,7 +4,7 @@ ghost use Rattle.std.specs.Prelude.{◌≡◌};
 ghost use Rattle.sqlite.specs.Held.{state};
 ghost use Rattle.sqlite.specs.State.{HasCleanDisk};
 ghost use Rattle.reg_jobs.specs.Outcomes.{text_of_parts};
-ghost use Rattle.reg_jobs.specs.Migration.{MigratesAs, PrintsLine, PrintsUnmigrated, kept_line};
+ghost use Rattle.reg_jobs.specs.Migration.{MigratesAs, PrintsLine, PrintsUnmigrated, migrated_line};
 
 use crate::outcome::Outcome;
 use itoa::Buffer;
@@ -38,7 +38,7 @@ fn print_parts<W: Write>(writer: &mut W, parts: &[&str]) -> MigrateOutcome
 
 /// Prints the number of versions that were kept.
 fn print_kept<W: Write>(writer: &mut W, versions: u64) -> MigrateOutcome
-    ensures { PrintsLine (kept_line versions) (W.contents writer.old) (W.contents writer.new) result }
+    ensures { PrintsLine (migrated_line versions) (W.contents writer.old) (W.contents writer.new) result }
 {
     let mut digits = Buffer::new();
     let number = digits.format(versions);

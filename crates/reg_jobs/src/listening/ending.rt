@@ -9,10 +9,10 @@ use std::time::Clock;
 
 /// The seconds for which the server reads what a client still sends. In that time the client can
 /// take its last response. Other clients wait as long.
-const LINGER: u64 = 1;
+const LINGER_SECONDS: u64 = 1;
 
 /// The same time, as a number of reads that time out.
-const SILENCE: u64 = LINGER * 1000 / SOCKET_TIMEOUT_MILLIS;
+const MAX_SILENT_READS: u64 = LINGER_SECONDS * 1000 / SOCKET_TIMEOUT_MILLIS;
 
 /// The maximum number of bytes that are dropped at once.
 const MAX_DROP_BYTES: usize = 16_384;
@@ -31,19 +31,21 @@ pub fn has_bytes(stream: &TcpStream) -> bool {
     }
 }
 
-/// Reads and drops bytes until the input ends, or for a second.
-fn drop_rest<C: Clock>(clock: &C, mut stream: &TcpStream) {
+/// Reads and discards bytes until the input ends, a read fails, `LINGER_SECONDS` have passed, or
+/// `MAX_SILENT_READS` reads have timed out. If the clock can't be read, it reads for as long as a
+/// client keeps sending.
+fn discard_rest<C: Clock>(clock: &C, mut stream: &TcpStream) {
     let begun = time(clock);
     let mut dropped = [0u8; MAX_DROP_BYTES];
-    let mut silent = 0;
+    let mut timeouts = 0;
     for _ in 0..u64::MAX {
-        if silent >= SILENCE || has_passed(clock, begun, LINGER) {
+        if timeouts >= MAX_SILENT_READS || has_passed(clock, begun, LINGER_SECONDS) {
             return;
         }
         match stream.read(&mut dropped) {
             Ok(0) => return,
             Ok(_) => {}
-            Err(error) if error.kind() == ErrorKind::WouldBlock => silent += 1,
+            Err(error) if error.kind() == ErrorKind::WouldBlock => timeouts += 1,
             Err(error) if error.kind() == ErrorKind::Interrupted => {}
             Err(_) => return,
         }
@@ -63,6 +65,6 @@ fn may_be_sending(ended: Ended, has_ended: bool, has_more: bool) -> bool {
 /// Ends a connection. If its client may still be sending, the server closes its writing half first.
 pub fn end<C: Clock>(clock: &C, stream: &TcpStream, ended: Ended, has_ended: bool, has_more: bool) {
     if may_be_sending(ended, has_ended, has_more) && stream.shutdown(Shutdown::Write).is_ok() {
-        drop_rest(clock, stream);
+        discard_rest(clock, stream);
     }
 }

@@ -56,21 +56,23 @@ impl<'a, 'b, C: Clock> Incoming<'a, 'b, C> {
     /// Whether the connection ends between two requests because another one waits. A request that
     /// arrived before the other connection was seen is still served, unless it was read together
     /// with an earlier one.
-    fn yields_now(&mut self, is_idle: bool) -> bool {
+    fn yields_now(&mut self, has_timed_out: bool) -> bool {
         if self.yields {
             return true;
         }
-        if is_idle || self.timing.has_had_its_turn() {
+        if has_timed_out || self.timing.has_had_its_turn() {
             self.yields = self.queue.has_next();
         }
         self.yields && (!self.pending.is_empty() || !has_bytes(self.stream))
     }
 
-    /// Whether the connection ends instead of reading more: between two requests if it yields its
-    /// turn, and during a request if its time is over.
-    fn is_over(&mut self, is_idle: bool) -> bool {
-        if self.timing.is_between() {
-            self.yields_now(is_idle)
+    /// Whether the connection ends instead of reading more. Between two requests it ends if it
+    /// yields its turn; to find out, it may accept the connection that waits. During a request it
+    /// ends if the request's time is over and no bytes are pending. `has_timed_out` is whether a
+    /// read of this call has timed out.
+    fn must_end(&mut self, has_timed_out: bool) -> bool {
+        if self.timing.is_between_requests() {
+            self.yields_now(has_timed_out)
         } else {
             self.pending.is_empty() && self.timing.is_late()
         }
@@ -88,7 +90,7 @@ impl<'a, 'b, C: Clock> Incoming<'a, 'b, C> {
                 return Ok(0);
             }
         }
-        if self.timing.is_between() {
+        if self.timing.is_between_requests() {
             self.timing.begin_request();
             self.progress = Progress::of_new_request();
         }
@@ -99,14 +101,20 @@ impl<'a, 'b, C: Clock> Incoming<'a, 'b, C> {
 }
 
 impl<'a, 'b, C: Clock> Read for Incoming<'a, 'b, C> {
+    /// Returns the next part of the bytes, or `Ok(0)` if the client ended its side.
+    ///
+    /// # Errors
+    ///
+    /// `TimedOut` if the connection must end (`must_end`), or if no byte arrived in `MAX_TIMEOUTS`
+    /// reads. Any other error is that of the read.
     fn read(&mut self, buf: &mut [u8]) -> io::Result<usize> {
-        for slices in 0..MAX_TIMEOUTS {
-            if self.is_over(slices > 0) {
+        for timeouts in 0..MAX_TIMEOUTS {
+            if self.must_end(timeouts > 0) {
                 break;
             }
             match self.read_part(buf) {
                 Err(error) if error.kind() == ErrorKind::WouldBlock => {}
-                read => return read,
+                result => return result,
             }
         }
         Err(io::Error::from(ErrorKind::TimedOut))
@@ -127,7 +135,7 @@ impl<'a, C: Clock> Outgoing<'a, C> {
     }
 
     /// Writes the rest of a response once, for at most the socket's timeout.
-    fn write_slice(&mut self, buf: &[u8]) -> io::Result<usize>
+    fn write_once(&mut self, buf: &[u8]) -> io::Result<usize>
         ensures { WritesAtMost result buf.now }
     {
         let mut stream = self.stream;
@@ -140,15 +148,21 @@ impl<'a, C: Clock> Outgoing<'a, C> {
 }
 
 impl<'a, C: Clock> Write for Outgoing<'a, C> {
+    /// Writes as much of `buf` as the system takes. `buf` is all that is left of one response.
+    ///
+    /// # Errors
+    ///
+    /// `TimedOut` if no byte is taken in `MAX_TIMEOUTS` writes, or if the response took as long as
+    /// it may. Any other error is that of the write.
     fn write(&mut self, buf: &[u8]) -> io::Result<usize> {
         self.timing.begin_response();
         for _ in 0..MAX_TIMEOUTS {
             if self.timing.is_late() {
                 break;
             }
-            match self.write_slice(buf) {
+            match self.write_once(buf) {
                 Err(error) if error.kind() == ErrorKind::WouldBlock => {}
-                written => return written,
+                result => return result,
             }
         }
         Err(io::Error::from(ErrorKind::TimedOut))

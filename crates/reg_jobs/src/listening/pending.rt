@@ -44,11 +44,11 @@ fn line_length(bytes: &[u8]) -> usize
     }
 }
 
-/// The length of the lines up to the first empty one, or of all bytes if none is empty, and the
-/// progress after them. `passed` bytes of the first line were passed on before. A line of one byte
-/// and LF counts as empty, even if that byte isn't CR. Then the rest of the head is passed on line
-/// by line, which does no harm.
-fn head_part(bytes: &[u8], passed: usize) -> (usize, Progress)
+/// The length of the lines up to and including the first empty one, or of all bytes if none is
+/// empty. Also returns the progress after these bytes. `passed` bytes of the first line were passed
+/// on before. A line of one byte and LF counts as empty, even if that byte isn't CR. Then the rest
+/// of the head is passed on line by line, which does no harm.
+fn head_part_length(bytes: &[u8], passed: usize) -> (usize, Progress)
     ensures { result.0 ≤ length bytes.now }
 {
     let mut line_bytes = passed;
@@ -70,7 +70,7 @@ fn next_part(bytes: &[u8], progress: Progress) -> (usize, Progress)
     ensures { result.0 ≤ length bytes.now }
 {
     match progress {
-        Progress::Head(passed) => head_part(bytes, passed),
+        Progress::Head(passed) => head_part_length(bytes, passed),
         Progress::Body => (line_length(bytes), Progress::Body),
     }
 }
@@ -159,8 +159,8 @@ impl Pending {
         ensures rest { self.new ≡ drop result.0 self.old }
     {
         let held = self.held();
-        let most = held.len().min(room.len());
-        let (count, progress) = next_part(&held[..most], progress);
+        let limit = held.len().min(room.len());
+        let (count, progress) = next_part(&held[..limit], progress);
         (self.give(count, room), progress)
     }
 }

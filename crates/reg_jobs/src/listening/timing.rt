@@ -40,8 +40,8 @@ pub fn time<C: Clock>(clock: &C) -> Option<Instant> {
     Instant::now(clock).ok()
 }
 
-/// Whether at least this number of seconds has passed since `since`. If that is `None`, or the clock
-/// can't be read, the result is `false`.
+/// Whether at least this number of seconds has passed since `since`. If that is `None`, or the
+/// clock can't be read, the result is `false`.
 pub fn has_passed<C: Clock>(clock: &C, since: Option<Instant>, seconds: u64) -> bool {
     match (since, time(clock)) {
         (Some(since), Some(now)) => now.duration_since(since) >= Duration::from_secs(seconds),
@@ -79,7 +79,7 @@ impl<'a, C: Clock> Timing<'a, C> {
     }
 
     /// Whether no byte was read since the last response was taken in full, or since the start.
-    pub fn is_between(&self) -> bool {
+    pub fn is_between_requests(&self) -> bool {
         matches!(self.phase.get(), Phase::Between)
     }
 
@@ -100,7 +100,7 @@ impl<'a, C: Clock> Timing<'a, C> {
 
     /// Records that bytes of a request were read.
     pub fn begin_request(&self) {
-        if self.is_between() {
+        if self.is_between_requests() {
             self.phase.set(Phase::Arriving(time(self.clock)));
         }
     }

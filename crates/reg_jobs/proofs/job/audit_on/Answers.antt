@@ -6,10 +6,10 @@ pub returns-in-Ok : goal.returns-in-Ok
 returns-in-Ok g c =
     OverDatabase-map g.S.Store c.args.opened _ _
     (λ old opens. record {
-      connection = c.audit_store-audited.result.1;
+      connection = c.audit_store-audit_outcome.result.1;
       given = refl;
-      holds = λ clean. AuditsOver-found old _ _ _ _ c.audit_store-audited.result.0
-          (opens (c.audit_store-audited.ensures.clean clean)) (c.audit_store-audited.ensures.audits clean) (c.audit_store-audited.ensures.same clean);
+      holds = λ clean. AuditsOver-found old _ _ _ _ c.audit_store-audit_outcome.result.0
+          (opens (c.audit_store-audit_outcome.ensures.clean clean)) (c.audit_store-audit_outcome.ensures.audits clean) (c.audit_store-audit_outcome.ensures.same clean);
     })
     c.in-Ok.ensures.over
 

@@ -19,7 +19,7 @@ returns g c =
       | in-Audit w ↦ rw (w.in-Audit.is, w.outcome-is, w.writer-is, w.reader-is) (refl, w.audit_on.ensures)
     ] in
     let answer : result_view c.result_of-answer.result ≡ job_result c.args.job.now c.match-job.outcome.0 =
-    rw (c.file_of.ensures, c.writer_file_of.ensures) at c.result_of-answer.ensures in
+    rw (c.file_of.ensures, c.writer_schema_file_of.ensures) at c.result_of-answer.ensures in
     let reports : PrintsFault g.E.Write.contents (job_result c.args.job.now c.match-job.outcome.0) c.args.errors.now c.report_result.new.errors =
     rw answer at c.report_result.ensures.reports in
     record { outcome = c.match-job.outcome.0; has_outcome = comes; reports = reports; status_is = c.report_result.ensures.status ∙ ap status_of answer }
