@@ -13,18 +13,18 @@ use Rattle.reg_http.specs.declared.answering.Stop.{Stop}
 use Rattle.reg_http.specs.declared.answering.Stop.TheVariants.{Waiting}
 use Rattle.reg_http.specs.Inside.Readings.{end_of}
 use Rattle.reg_http.specs.Sessions.{ProcessesMessages, EndsAs, Session}
-use Rattle.reg_http.specs.Inside.SessionSteps.{AnswersAs, Waits, AnsweredSoFar}
+use Rattle.reg_http.specs.Inside.SessionSteps.{AnswersAs, IsIncompleteUntil, AnsweredSoFar}
 use Rattle.reg_http.proofs.SessionLemmas.{Joins, ProcessesMessages-nil, AnsweredSoFar-more, AnswersAs-after}
 
 -- the buffer, if it has less than a whole message
-held : (bytes : List ℕ) (needs : ℕ) → Waits bytes needs → (bytes ≡ []) ⊎ Follows bytes Part
+held : (bytes : List ℕ) (needs : ℕ) → IsIncompleteUntil bytes needs → (bytes ≡ []) ⊎ Follows bytes Part
 held bytes needs w =
     let e : bytes ++ [] ≡ bytes = append-nil bytes in
     subst (λ (b : List ℕ). (b ≡ []) ⊎ Follows b Part) e (w.part [] (omega (arith, w.short, ap length e)))
 
 -- the buffer is empty
-pub Waits-nothing : (bytes : List ℕ) → bytes ≡ [] → Waits bytes 1
-Waits-nothing bytes none = record {
+pub IsIncompleteUntil-nothing : (bytes : List ℕ) → bytes ≡ [] → IsIncompleteUntil bytes 1
+IsIncompleteUntil-nothing bytes none = record {
   short = omega (arith, ap length none);
   fits = omega arith;
   part = λ more few. inl (no_bytes (bytes ++ more) few);
@@ -35,16 +35,16 @@ Waits-nothing bytes none = record {
     no_bytes (x ∷ xs) few = absurd (omega arith)
 
 -- the buffer has a part of a message
-pub Waits-part : (bytes : List ℕ) (needs : ℕ) → IsPartialUntil bytes needs → Waits bytes needs
-Waits-part bytes needs p = record {
+pub IsIncompleteUntil-part : (bytes : List ℕ) (needs : ℕ) → IsPartialUntil bytes needs → IsIncompleteUntil bytes needs
+IsIncompleteUntil-part bytes needs p = record {
   short = p.short;
   fits = omega (arith, p.fits);
   part = λ more few. inr (p.part more few);
 }
 
 -- more bytes, but still too few
-pub Waits-more : (bytes more : List ℕ) (needs : ℕ) → Waits bytes needs → length (bytes ++ more) < needs → Waits (bytes ++ more) needs
-Waits-more bytes more needs w short = record {
+pub IsIncompleteUntil-more : (bytes more : List ℕ) (needs : ℕ) → IsIncompleteUntil bytes needs → length (bytes ++ more) < needs → IsIncompleteUntil (bytes ++ more) needs
+IsIncompleteUntil-more bytes more needs w short = record {
   short = short;
   fits = w.fits;
   part = λ others few.
@@ -69,7 +69,7 @@ module _ (P : List Exchange → Type 0) (r r' w w' : Option (List ℕ)) (input r
   whole = sym (append-nil (responses s.answered))
 
   -- the input ended
-  pub Session-ended : (needs : ℕ) → Waits rest needs → IsAtEnd r' → Session P r r' w w' (end_of rest)
+  pub Session-ended : (needs : ℕ) → IsIncompleteUntil rest needs → IsAtEnd r' → Session P r r' w w' (end_of rest)
   Session-ended needs waits end = by rest refl
     where
       by : (held_now : List ℕ) → rest ≡ held_now → Session P r r' w w' (end_of held_now)
@@ -81,7 +81,7 @@ module _ (P : List Exchange → Type 0) (r r' w w' : Option (List ℕ)) (input r
           inside (inr part) = so_far Malformed (inr (s.stay, end, part, whole))
 
   -- a read failed
-  pub Session-failed : (needs : ℕ) → Waits rest needs → Session P r r' w w' ReadFailed
+  pub Session-failed : (needs : ℕ) → IsIncompleteUntil rest needs → Session P r r' w w' ReadFailed
   Session-failed needs waits = by (held rest needs waits)
     where
       by : (rest ≡ []) ⊎ Follows rest Part → Session P r r' w w' ReadFailed

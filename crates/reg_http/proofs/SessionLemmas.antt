@@ -12,7 +12,7 @@ use Rattle.reg_http.specs.declared.writing.WriteOutcome.{WriteOutcome}
 use Rattle.reg_http.specs.declared.writing.WriteOutcome.TheVariants.{Whole, CutShort, OutOfMemory as NoMemory}
 use Rattle.reg_http.specs.declared.answering.Stop.{Stop}
 use Rattle.reg_http.specs.declared.answering.Stop.TheVariants.{Waiting, AtClose, AtFault, NotWritten, OutOfMemory}
-use Rattle.reg_messages.specs.Messages.{Message, StartsWithMessage, ParsesInto, Follows, Faulty}
+use Rattle.reg_messages.specs.Messages.{Message, StartsWithMessage, StartsWithMessages, Follows, Faulty}
 use Rattle.reg_messages.specs.Closing.{closes}
 use Rattle.reg_messages.specs.Responses.{fault_response}
 use Rattle.reg_messages.proofs.Fronts.{StartsWithMessage-more}
@@ -20,15 +20,15 @@ use Rattle.reg_routes.specs.Deliveries.{delivery_of}
 use Rattle.reg_http.specs.Output.{AnsweredMessage, response_to, exchange_of, exchanges, AreRejected, StayOpen, LastCloses, responses, IsPrefix, IsCutShort}
 use Rattle.reg_http.specs.Inside.Replying.{IsReplyTo}
 use Rattle.reg_http.specs.Sessions.{ProcessesMessages}
-use Rattle.reg_http.specs.Inside.SessionSteps.{StopsAs, AnswersAs, AnswersOne, FaultAs, NextAs, AnsweredSoFar, next_after}
+use Rattle.reg_http.specs.Inside.SessionSteps.{StopsAs, AnswersAs, AnswersOne, FaultAs, NextAs, AnsweredSoFar, step_outcome}
 
 -- the message of an exchange
 abbrev message_of : AnsweredMessage → Message
 message_of x = x.0
 
-ParsesInto-append : (bytes mid rest : List ℕ) (ms ks : List Message) → ParsesInto bytes ms mid → ParsesInto mid ks rest → ParsesInto bytes (ms ++ ks) rest
-ParsesInto-append bytes mid rest [] ks e p = subst (λ (t : List ℕ). ParsesInto t ks rest) (sym e) p
-ParsesInto-append bytes mid rest (m ∷ ms) ks p q = (p.0, p.1, ParsesInto-append p.0 mid rest ms ks p.2 q)
+StartsWithMessages-append : (bytes mid rest : List ℕ) (ms ks : List Message) → StartsWithMessages bytes ms mid → StartsWithMessages mid ks rest → StartsWithMessages bytes (ms ++ ks) rest
+StartsWithMessages-append bytes mid rest [] ks e p = subst (λ (t : List ℕ). StartsWithMessages t ks rest) (sym e) p
+StartsWithMessages-append bytes mid rest (m ∷ ms) ks p q = (p.0, p.1, StartsWithMessages-append p.0 mid rest ms ks p.2 q)
 
 AreRejected-append : (xs ys : List AnsweredMessage) → AreRejected xs → AreRejected ys → AreRejected (xs ++ ys)
 AreRejected-append [] ys p q = q
@@ -62,8 +62,8 @@ ProcessesMessages-one P w w' bytes rest out m reply p r a = record {
 ProcessesMessages-append : (P Q R : List Exchange → Type 0) → Joins P Q R → (w w1 w2 : Option (List ℕ)) (bytes behind rest out out2 : List ℕ) (xs ys : List AnsweredMessage)
     → ProcessesMessages P w w1 bytes xs behind out → ProcessesMessages Q w1 w2 behind ys rest out2 → ProcessesMessages R w w2 bytes (xs ++ ys) rest (out ++ out2)
 ProcessesMessages-append P Q R joins w w1 w2 bytes behind rest out out2 xs ys p q = record {
-  leads = subst (λ (ms : List Message). ParsesInto bytes ms rest) (sym (map-append message_of xs ys))
-      (ParsesInto-append bytes behind rest (map message_of xs) (map message_of ys) p.leads q.leads);
+  leads = subst (λ (ms : List Message). StartsWithMessages bytes ms rest) (sym (map-append message_of xs ys))
+      (StartsWithMessages-append bytes behind rest (map message_of xs) (map message_of ys) p.leads q.leads);
   rejected = AreRejected-append xs ys p.rejected q.rejected;
   serves = subst R (sym (exchanges-append xs ys)) (joins (exchanges xs) (exchanges ys) p.serves q.serves);
   writes = Appends-trans w w1 w2 out out2 p.writes q.writes;
@@ -77,7 +77,7 @@ LastCloses-after : (xs ys : List AnsweredMessage) → StayOpen xs → LastCloses
 LastCloses-after xs ys p c = record {
   before = xs ++ c.before;
   last = c.last;
-  all = ap (λ zs. xs ++ zs) c.all ∙ sym (append_assoc xs c.before (c.last ∷ []));
+  split = ap (λ zs. xs ++ zs) c.split ∙ sym (append_assoc xs c.before (c.last ∷ []));
   stay = StayOpen-append xs c.before p c.stay;
   closes_it = c.closes_it;
 }
@@ -159,18 +159,18 @@ AnswersAs-fault P w w' bytes code AtClose none f a = absurd a
 AnswersAs-fault P w w' bytes code (Waiting needs) none f a = absurd a
 
 -- a whole message got its response, or a beginning of it
-pub Next-message : (P : List Exchange → Type 0) (w w' : Option (List ℕ)) (bytes : List ℕ) (size : ℕ) (m : Message) (reply : ReplyView)
+pub StepOutcome-message : (P : List Exchange → Type 0) (w w' : Option (List ℕ)) (bytes : List ℕ) (size : ℕ) (m : Message) (reply : ReplyView)
     (sent : WriteOutcome) (close : Bool) → StartsWithMessage bytes m (drop size bytes) → IsReplyTo P (delivery_of m) reply → closes m ≡ close
     → (part : List ℕ) → IsPrefix part (response_to m reply) → Appends w w' part → (sent ≡ Whole → Appends w w' (response_to m reply))
-    → NextAs P w w' bytes (next_after sent close size)
-Next-message P w w' bytes size m reply Whole true is r c part front a whole = record {
+    → NextAs P w w' bytes (step_outcome sent close size)
+StepOutcome-message P w w' bytes size m reply Whole true is r c part front a whole = record {
   answered = (m, reply) ∷ [];
   rest = drop size bytes;
   out = response_to m reply;
   processes = ProcessesMessages-one P w w' bytes (drop size bytes) (response_to m reply) m reply is r (whole refl);
   stops = (record { before = []; last = (m, reply); all = refl; stay = tt; closes_it = c }, sym (append-nil (response_to m reply)));
 }
-Next-message P w w' bytes size m reply Whole false is r c part front a whole =
+StepOutcome-message P w w' bytes size m reply Whole false is r c part front a whole =
     let Q : List ℕ → Type 0 = λ out. ProcessesMessages P w w' bytes ((m, reply) ∷ []) (drop size bytes) out in
     record {
       answered = (m, reply);
@@ -178,14 +178,14 @@ Next-message P w w' bytes size m reply Whole false is r c part front a whole =
       processes = subst Q (sym (append-nil (response_to m reply)))
           (ProcessesMessages-one P w w' bytes (drop size bytes) (response_to m reply) m reply is r (whole refl));
     }
-Next-message P w w' bytes size m reply CutShort close is r c part front a whole = record {
+StepOutcome-message P w w' bytes size m reply CutShort close is r c part front a whole = record {
   answered = (m, reply) ∷ [];
   rest = drop size bytes;
   out = part;
   processes = ProcessesMessages-one P w w' bytes (drop size bytes) part m reply is r a;
   stops = inl (record { before = []; last = (m, reply); part = part; all = refl; stay = tt; front = front; written = refl });
 }
-Next-message P w w' bytes size m reply NoMemory close is r c part front a whole = record {
+StepOutcome-message P w w' bytes size m reply NoMemory close is r c part front a whole = record {
   answered = (m, reply) ∷ [];
   rest = drop size bytes;
   out = part;
@@ -193,9 +193,9 @@ Next-message P w w' bytes size m reply NoMemory close is r c part front a whole 
   stops = inr (inl (record { before = []; last = (m, reply); part = part; all = refl; stay = tt; front = front; written = refl }));
 }
 
-ParsesInto-more : (bytes rest more : List ℕ) (ms : List Message) → ParsesInto bytes ms rest → ParsesInto (bytes ++ more) ms (rest ++ more)
-ParsesInto-more bytes rest more [] e = ap (λ t. t ++ more) e
-ParsesInto-more bytes rest more (m ∷ ms) p = (p.0 ++ more, StartsWithMessage-more bytes p.0 more m p.1, ParsesInto-more p.0 rest more ms p.2)
+StartsWithMessages-more : (bytes rest more : List ℕ) (ms : List Message) → StartsWithMessages bytes ms rest → StartsWithMessages (bytes ++ more) ms (rest ++ more)
+StartsWithMessages-more bytes rest more [] e = ap (λ t. t ++ more) e
+StartsWithMessages-more bytes rest more (m ∷ ms) p = (p.0 ++ more, StartsWithMessage-more bytes p.0 more m p.1, StartsWithMessages-more p.0 rest more ms p.2)
 
 -- more bytes were appended to the buffer
 pub AnsweredSoFar-more : (P : List Exchange → Type 0) (w w' : Option (List ℕ)) (bytes held more : List ℕ) → AnsweredSoFar P w w' bytes held → AnsweredSoFar P w w' (bytes ++ more) (held ++ more)
@@ -203,7 +203,7 @@ AnsweredSoFar-more P w w' bytes held more s = record {
   answered = s.answered;
   stay = s.stay;
   processes = record {
-    leads = ParsesInto-more bytes held more (map message_of s.answered) s.processes.leads;
+    leads = StartsWithMessages-more bytes held more (map message_of s.answered) s.processes.leads;
     rejected = s.processes.rejected;
     serves = s.processes.serves;
     writes = s.processes.writes;

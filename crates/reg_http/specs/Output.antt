@@ -48,7 +48,7 @@ StayOpen (x ∷ xs) = (closes x.0 ≡ false) × StayOpen xs
 pub record LastCloses (xs : List AnsweredMessage) : Type 0 where
   pub before : List AnsweredMessage
   pub last : AnsweredMessage
-  pub all : xs ≡ before ++ last ∷ []
+  pub split : xs ≡ before ++ last ∷ []
   pub stay : StayOpen before
   pub closes_it : closes last.0 ≡ true
 
@@ -56,7 +56,7 @@ pub record LastCloses (xs : List AnsweredMessage) : Type 0 where
 abbrev pub responses : List AnsweredMessage → List ℕ
 responses xs = flat_map (λ x. response_to x.0 x.1) xs
 
--- the response to what follows the messages: to a fault, otherwise nothing
+-- the response to what follows the whole messages: that of the fault, or no bytes if nothing or a part of a message follows
 abbrev pub tail_response : Tail → List ℕ
 tail_response End = []
 tail_response Part = []

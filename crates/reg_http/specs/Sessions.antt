@@ -5,12 +5,12 @@ use Rattle.reg_core.specs.declared.code.Code.{Code}
 use Rattle.reg_service.specs.Deliveries.{Exchange}
 use Rattle.reg_http.specs.declared.serving.Ended.{Ended}
 use Rattle.reg_http.specs.declared.serving.Ended.TheVariants.{Closed, ReadFailed, WriteFailed, Malformed, Memory}
-use Rattle.reg_messages.specs.Messages.{ParsesInto, Follows, End, Part, Faulty}
+use Rattle.reg_messages.specs.Messages.{StartsWithMessages, Follows, End, Part, Faulty}
 use Rattle.reg_http.specs.Output.{AnsweredMessage, AreRejected, StayOpen, LastCloses, exchanges, responses, output, IsCutShort}
 
 -- The messages at the front of `bytes` were processed, `rest` follows them, and `out` was written. `AreServed` is true of their exchanges.
 pub record ProcessesMessages (AreServed : List Exchange → Type 0) (old new : Option (List ℕ)) (bytes : List ℕ) (xs : List AnsweredMessage) (rest out : List ℕ) : Type 0 where
-  pub leads : ParsesInto bytes (map (λ x. x.0) xs) rest
+  pub leads : StartsWithMessages bytes (map (λ x. x.0) xs) rest
   pub rejected : AreRejected xs
   pub serves : AreServed (exchanges xs)
   pub writes : Appends old new out

@@ -7,7 +7,7 @@ ghost use Rattle.reg_service.specs.Services.{state_in};
 ghost use Rattle.reg_routes.specs.Deliveries.{allow_field, requested_by};
 ghost use Rattle.reg_http.specs.Transitions.{StoredTransition};
 ghost use Rattle.reg_http.specs.Inside.Replying.{IsReplyTo};
-ghost use Rattle.reg_http.specs.Inside.SessionSteps.{AnswersAs, FaultAs, IsWithin, NextAs, WaitsAt, next_after};
+ghost use Rattle.reg_http.specs.Inside.SessionSteps.{AnswersAs, FaultAs, IsWithin, NextAs, IsIncompleteAt, step_outcome};
 
 use crate::buffer::ReadBuffers;
 use crate::writing::{WriteOutcome, send};
@@ -35,10 +35,10 @@ pub enum Stop {
     OutOfMemory,
 }
 
-/// One step: a whole message of this many bytes got its response and the connection stays open, or
-/// processing stops.
+/// The outcome of one step: a whole message of this many bytes got its response and the connection
+/// stays open, or processing stopped.
 #[derive(Clone, Copy)]
-pub enum Next {
+pub enum StepOutcome {
     Answered(usize),
     Stopped(Stop),
 }
@@ -62,15 +62,16 @@ fn reply_to<S: Alter>(
     }
 }
 
-/// The step after a response was sent.
-fn next_after(sent: WriteOutcome, close: bool, size: usize) -> Next
-    ensures { result ≡ next_after sent close size }
+/// The outcome of processing a message of `message_size` bytes, by the outcome of writing its
+/// response. If `close` is true, the message ends the connection.
+fn step_outcome(outcome: WriteOutcome, close: bool, message_size: usize) -> StepOutcome
+    ensures { result ≡ step_outcome outcome close message_size }
 {
-    match sent {
-        WriteOutcome::Whole if close => Next::Stopped(Stop::AtClose),
-        WriteOutcome::Whole => Next::Answered(size),
-        WriteOutcome::CutShort => Next::Stopped(Stop::NotWritten),
-        WriteOutcome::OutOfMemory => Next::Stopped(Stop::OutOfMemory),
+    match outcome {
+        WriteOutcome::Whole if close => StepOutcome::Stopped(Stop::AtClose),
+        WriteOutcome::Whole => StepOutcome::Answered(message_size),
+        WriteOutcome::CutShort => StepOutcome::Stopped(Stop::NotWritten),
+        WriteOutcome::OutOfMemory => StepOutcome::Stopped(Stop::OutOfMemory),
     }
 }
 
@@ -94,7 +95,7 @@ fn answer_front<W: Write, S: Alter>(
     headers: &mut [HeaderSpan],
     writer: &mut W,
     service: &mut Service<S>,
-) -> Next
+) -> StepOutcome
     ensures clean { HasCleanDisk (state_in service.new) → HasCleanDisk (state_in service.old) }
     ensures within { IsWithin bytes.now result }
     ensures next { HasCleanDisk (state_in service.new) → StoredTransition (state_in service.old) (state_in service.new)
@@ -107,14 +108,14 @@ fn answer_front<W: Write, S: Alter>(
             let close = request.closes();
             let (reply, allow) = reply_to(alloc, routes, &request, service);
             let sent = send(alloc, writer, &reply, allow, close);
-            next_after(sent, close, whole.head.len + whole.body)
+            step_outcome(sent, close, whole.head.len + whole.body)
         }
-        ParseOutcome::Nothing => Next::Stopped(Stop::Waiting(1)),
-        ParseOutcome::Part(needs) => Next::Stopped(Stop::Waiting(needs)),
-        ParseOutcome::Faulty(code) => Next::Stopped(answer_fault(alloc, code, writer)),
+        ParseOutcome::Nothing => StepOutcome::Stopped(Stop::Waiting(1)),
+        ParseOutcome::Part(needs) => StepOutcome::Stopped(Stop::Waiting(needs)),
+        ParseOutcome::Faulty(code) => StepOutcome::Stopped(answer_fault(alloc, code, writer)),
         // `ReadBuffers` has room for more fields than a head within the size limit can have. So
         // this doesn't happen.
-        ParseOutcome::TooManyFields => Next::Stopped(Stop::OutOfMemory),
+        ParseOutcome::TooManyFields => StepOutcome::Stopped(Stop::OutOfMemory),
     }
 }
 
@@ -130,14 +131,14 @@ pub fn answer_buffered<W: Write, S: Alter>(
     ensures responses { HasCleanDisk (state_in service.new) → StoredTransition (state_in service.old) (state_in service.new)
         (λ was now. AnswersAs (ServesDurably service.old service.new was now)
         (W.contents writer.old) (W.contents writer.new) buffers.old.bytes buffers.new.bytes result) }
-    ensures waits { WaitsAt buffers.new.bytes result }
+    ensures waits { IsIncompleteAt buffers.new.bytes result }
 {
     loop {
         let held = buffers.bytes.held();
         let headers = buffers.headers.as_mut_slice();
         match answer_front(alloc, routes, held, headers, writer, service) {
-            Next::Answered(size) => buffers.bytes.consume(size),
-            Next::Stopped(stop) => return stop,
+            StepOutcome::Answered(size) => buffers.bytes.consume(size),
+            StepOutcome::Stopped(stop) => return stop,
         }
     }
 }

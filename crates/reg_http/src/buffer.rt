@@ -36,7 +36,8 @@ impl Model for Buffer {
     ghost invariant = { λ b. (b.first ≤ b.last) × (b.last ≤ 1064960) × (vec_len b.bytes ≡ 1064960) };
 }
 
-/// Reads once, into the bytes from position `at` on.
+/// Reads once, into the bytes from position `at` on, and returns the number of bytes read: 0 at the
+/// end of the input, or if there is no byte to fill. The length and the bytes before `at` stay.
 fn read_into<R: Read>(bytes: &mut Vec<u8>, at: usize, reader: &mut R) -> io::Result<usize>
     requires { at ≤ vec_len bytes.old }
     ensures len { vec_len bytes.new ≡ vec_len bytes.old }

@@ -7,7 +7,7 @@ ghost use Rattle.reg_service.specs.Services.{state_in};
 ghost use Rattle.reg_http.specs.Transitions.{StoredTransition};
 ghost use Rattle.reg_http.specs.Sessions.{Session};
 ghost use Rattle.reg_http.specs.Inside.Readings.{ReadsAs, end_of};
-ghost use Rattle.reg_http.specs.Inside.SessionSteps.{AnswersAs, Waits, WaitsAt};
+ghost use Rattle.reg_http.specs.Inside.SessionSteps.{AnswersAs, IsIncompleteUntil, IsIncompleteAt};
 
 use crate::answering::{Stop, answer_buffered};
 use crate::buffer::{Buffer, ReadBuffers};
@@ -75,12 +75,12 @@ fn answer_more<W: Write, S: Alter>(
     writer: &mut W,
     service: &mut Service<S>,
 ) -> Stop
-    requires { length buffers.old.bytes < needs → Waits buffers.old.bytes needs }
+    requires { length buffers.old.bytes < needs → IsIncompleteUntil buffers.old.bytes needs }
     ensures clean { HasCleanDisk (state_in service.new) → HasCleanDisk (state_in service.old) }
     ensures responses { HasCleanDisk (state_in service.new) → StoredTransition (state_in service.old) (state_in service.new)
         (λ was now. AnswersAs (ServesDurably service.old service.new was now)
         (W.contents writer.old) (W.contents writer.new) buffers.old.bytes buffers.new.bytes result) }
-    ensures waits { WaitsAt buffers.new.bytes result }
+    ensures waits { IsIncompleteAt buffers.new.bytes result }
 {
     if buffers.bytes.held().len() < needs {
         return Stop::Waiting(needs);

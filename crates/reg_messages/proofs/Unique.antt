@@ -5,7 +5,7 @@ use Rattle.httparse.specs.Grammar.{lf, AllPass, is_token_byte, is_uri_byte, Requ
 use Rattle.httparse.proofs.GrammarLemmas.{request_unique, ReadsRequest-append}
 use Rattle.reg_core.specs.declared.code.Code.{Code}
 use Rattle.reg_messages.specs.Framing.{framing}
-use Rattle.reg_messages.specs.Messages.{Message, HasHead, NeverHasHead, StartsWithMessage, ParsesInto, Follows, Agree, Messages, fields_of, Tail, End, Part, Faulty}
+use Rattle.reg_messages.specs.Messages.{Message, HasHead, NeverHasHead, StartsWithMessage, StartsWithMessages, Follows, Agree, Messages, fields_of, Tail, End, Part, Faulty}
 use Rattle.reg_messages.proofs.Fronts.{head_some}
 
 -- equal lists, split at the same position, have equal parts
@@ -141,18 +141,18 @@ agree bytes (Faulty c) (Faulty d) f g = inl (ap Faulty (one_code bytes c d f g))
 
 -- ---- the whole stream
 
-ParsesInto-unique : (bytes : List ℕ) (ms ks : List Message) (r q : List ℕ) (t u : Tail) → ParsesInto bytes ms r → Follows r t → ParsesInto bytes ks q → Follows q u → (ms ≡ ks) × (r ≡ q)
-ParsesInto-unique bytes [] [] r q t u a f b h = (refl, sym a ∙ b)
-ParsesInto-unique bytes [] (k ∷ ks) r q t u a f b h = absurd (no_message bytes b.0 k t (subst (λ (w : List ℕ). Follows w t) (sym a) f) b.1)
-ParsesInto-unique bytes (m ∷ ms) [] r q t u a f b h = absurd (no_message bytes a.0 m u (subst (λ (w : List ℕ). Follows w u) (sym b) h) a.1)
-ParsesInto-unique bytes (m ∷ ms) (k ∷ ks) r q t u a f b h =
+StartsWithMessages-unique : (bytes : List ℕ) (ms ks : List Message) (r q : List ℕ) (t u : Tail) → StartsWithMessages bytes ms r → Follows r t → StartsWithMessages bytes ks q → Follows q u → (ms ≡ ks) × (r ≡ q)
+StartsWithMessages-unique bytes [] [] r q t u a f b h = (refl, sym a ∙ b)
+StartsWithMessages-unique bytes [] (k ∷ ks) r q t u a f b h = absurd (no_message bytes b.0 k t (subst (λ (w : List ℕ). Follows w t) (sym a) f) b.1)
+StartsWithMessages-unique bytes (m ∷ ms) [] r q t u a f b h = absurd (no_message bytes a.0 m u (subst (λ (w : List ℕ). Follows w u) (sym b) h) a.1)
+StartsWithMessages-unique bytes (m ∷ ms) (k ∷ ks) r q t u a f b h =
     let s = StartsWithMessage-unique bytes m k a.0 b.0 a.1 b.1 in
-    let z = ParsesInto-unique a.0 ms ks r q t u a.2 f (subst (λ (w : List ℕ). ParsesInto w ks q) (sym s.1) b.2) h in
+    let z = StartsWithMessages-unique a.0 ms ks r q t u a.2 f (subst (λ (w : List ℕ). StartsWithMessages w ks q) (sym s.1) b.2) h in
     ((λ i. s.0 i ∷ z.0 i), z.1)
 
 -- the messages are determined; the remainder too, unless it ends inside a target
 pub Messages-unique : (bytes : List ℕ) (ms ks : List Message) (t u : Tail) (one : Messages bytes ms t) → Messages bytes ks u
     → (ms ≡ ks) × Agree one.rest t u
 Messages-unique bytes ms ks t u one other =
-    let same = ParsesInto-unique bytes ms ks one.rest other.rest t u one.leads one.follows other.leads other.follows in
+    let same = StartsWithMessages-unique bytes ms ks one.rest other.rest t u one.leads one.follows other.leads other.follows in
     (same.0, agree one.rest t u one.follows (subst (λ (rest : List ℕ). Follows rest u) (sym same.1) other.follows))

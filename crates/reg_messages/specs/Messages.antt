@@ -30,10 +30,10 @@ pub record StartsWithMessage (bytes : List ℕ) (message : Message) (rest : List
   pub head : HasHead bytes message.head (message.body ++ rest)
   pub body : framing (fields_of message.head) ≡ Ok (length message.body)
 
--- the bytes are these messages, followed by the rest
-abbrev pub ParsesInto : List ℕ → List Message → List ℕ → Type 0
-ParsesInto bytes [] rest = bytes ≡ rest
-ParsesInto bytes (m ∷ ms) rest = (mid : List ℕ) × StartsWithMessage bytes m mid × ParsesInto mid ms rest
+-- the bytes are these whole messages, in order, followed by the rest, which may begin with another message
+abbrev pub StartsWithMessages : List ℕ → List Message → List ℕ → Type 0
+StartsWithMessages bytes [] rest = bytes ≡ rest
+StartsWithMessages bytes (m ∷ ms) rest = (mid : List ℕ) × StartsWithMessage bytes m mid × StartsWithMessages mid ms rest
 
 -- the bytes don't begin with a head within the size limit
 abbrev pub HasNoHead : List ℕ → Type 0
@@ -89,5 +89,5 @@ Agree bytes t u = (t ≡ u) ⊎ (IsAmbiguous bytes t u ⊎ IsAmbiguous bytes u t
 -- the bytes are these whole messages, followed by this remainder
 pub record Messages (bytes : List ℕ) (messages : List Message) (tail : Tail) : Type 0 where
   pub rest : List ℕ
-  pub leads : ParsesInto bytes messages rest
+  pub leads : StartsWithMessages bytes messages rest
   pub follows : Follows rest tail

@@ -34,13 +34,14 @@ fn parse_length(text: &[u8]) -> Result<usize, Code>
 }
 
 /// The length of the body in bytes, as the fields of the head say: 0 without a `Content-Length`.
+/// `fields` has spans of `head`.
 ///
 /// # Errors
 ///
 /// `CodingNotSupported` if there is a `Transfer-Encoding`. Otherwise `MalformedRequest` if there is
 /// more than one `Content-Length`, or one that isn't 1 to 19 digits, and `BodyTooLarge` if the
 /// length is above `MAX_BODY`.
-pub fn length_from_fields(head: &[u8], fields: &[HeaderSpan]) -> Result<usize, Code>
+pub fn body_length_from_fields(head: &[u8], fields: &[HeaderSpan]) -> Result<usize, Code>
     requires { All (IsHeaderWithin (length head.now)) fields.now }
     ensures value { result ≡ framing (map (header_bytes head.now) fields.now) }
     ensures within { IfOk result (λ length. length ≤ max_body) }

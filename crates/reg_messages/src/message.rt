@@ -4,7 +4,7 @@ ghost use Rattle.std.specs.Prelude.{◌≡◌, ℕ, List, length};
 ghost use Rattle.reg_messages.specs.ParseOutcomes.{ParsesAs};
 ghost use Rattle.reg_messages.specs.Messages.{Message, Messages, Tail, Agree};
 
-use crate::framing::length_from_fields;
+use crate::framing::body_length_from_fields;
 use httparse::spans::{HeaderSpan, RequestSpans, parse_request};
 use httparse::{Error, Status};
 use reg_core::Code;
@@ -48,7 +48,10 @@ pub fn parse_front(bytes: &[u8], headers: &mut [HeaderSpan]) -> ParseOutcome
     }
     let front = &bytes[..bytes.len().min(MAX_HEAD)];
     match parse_request(front, headers) {
-        Ok(Status::Complete(head)) => match length_from_fields(front, &headers[..head.headers]) {
+        Ok(Status::Complete(head)) => match body_length_from_fields(
+            front,
+            &headers[..head.headers],
+        ) {
             Err(code) => ParseOutcome::Faulty(code),
             Ok(body) => {
                 if bytes.len() - head.len < body {
@@ -73,9 +76,10 @@ pub fn parse_front(bytes: &[u8], headers: &mut [HeaderSpan]) -> ParseOutcome
 }
 
 /// A law: a stream of bytes has at most one list of whole messages and one remainder. If it ends
-/// inside a target, the remainder may be both a part and a fault. So the bytes alone determine
-/// which messages are answered.
+/// inside a target, the remainder may be both a part and a fault. So the bytes determine their
+/// whole messages.
 pub fn parse_is_unique()
-    ensures { (bytes : List ℕ) (ms ks : List Message) (t u : Tail)
-        → (one : Messages bytes ms t) → Messages bytes ks u → (ms ≡ ks) × Agree one.rest t u }
+    ensures { (bytes : List ℕ) (messages other_messages : List Message) (tail other_tail : Tail)
+        → (first : Messages bytes messages tail) → Messages bytes other_messages other_tail
+        → (messages ≡ other_messages) × Agree first.rest tail other_tail }
 {}

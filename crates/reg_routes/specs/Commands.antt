@@ -8,7 +8,7 @@ use Rattle.reg_routes.specs.declared.resource.Operation.{Operation}
 use Rattle.reg_routes.specs.declared.resource.Operation.TheVariants as op
 use Rattle.reg_routes.specs.declared.command.RequestParts.{RequestParts}
 use Rattle.reg_routes.specs.Targets.{path_text, path_subject}
-use Rattle.reg_routes.specs.Queries.{is_on}
+use Rattle.reg_routes.specs.Queries.{query_flag}
 use Rattle.reg_routes.specs.Bodies.{body_string_member, body_schema}
 
 -- a command with the subject in a part of the path
@@ -36,13 +36,13 @@ abbrev pub for_schema : List ℕ → (List ℕ → Bool → Command) → Option 
 for_schema body then = option_map (λ schema. then schema.text schema.supported) (body_schema body)
 
 abbrev pub deleted : List ℕ → Bool
-deleted query = is_on query (codes "deleted")
+deleted query = query_flag query (codes "deleted")
 
 abbrev pub permanent : List ℕ → Bool
-permanent query = is_on query (codes "permanent")
+permanent query = query_flag query (codes "permanent")
 
 abbrev pub default_to_global : List ℕ → Bool
-default_to_global query = is_on query (codes "defaultToGlobal")
+default_to_global query = query_flag query (codes "defaultToGlobal")
 
 -- the command of an operation
 abbrev pub command_from : Operation → List ℕ → List ℕ → List ℕ → Option Command

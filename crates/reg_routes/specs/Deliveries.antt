@@ -20,7 +20,7 @@ use Rattle.reg_routes.specs.Keys.{retry_key_for}
 abbrev pub Rejection : Type 0
 Rejection = Code × Option (List ℕ)
 
--- a command with its retry key, or the code of the key's fault
+-- the delivery of a command with its retry key, if it has one; or the code of the key's fault
 abbrev pub with_retry_key : Command → Result (Option (List ℕ)) Code → Result Delivery Code
 with_retry_key command (Err code) = Err code
 with_retry_key command (Ok key) = Ok (record { key = key; command = command })

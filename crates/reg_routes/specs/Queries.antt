@@ -13,5 +13,5 @@ first_is_true [] name = false
 first_is_true (pair ∷ pairs) name = cond (bytes_eq (form_text pair.0) name) (bytes_eq (form_text pair.1) (codes "true")) (first_is_true pairs name)
 
 -- whether the first parameter of this name is `true`
-abbrev pub is_on : List ℕ → List ℕ → Bool
-is_on query name = first_is_true (raw_pairs query) name
+abbrev pub query_flag : List ℕ → List ℕ → Bool
+query_flag query name = first_is_true (raw_pairs query) name

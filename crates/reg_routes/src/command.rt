@@ -17,6 +17,9 @@ pub struct RequestParts<'a> {
     pub body: &'a [u8],
 }
 
+// Each private method makes the command of its name from the path, the query and the body. `None`
+// is as in `command`. The number that `path_text` and `path_subject` get counts the slashes before
+// the part. Versions, ids, levels and modes are texts here: they aren't parsed.
 impl<'a> RequestParts<'a> {
     fn set_global(&self, alloc: Global) -> Result<Option<Command>, OutOfMemory>
         ensures { IfOk result (λ command. command ≡ command_in op.SetGlobal self.now) }
@@ -64,7 +67,7 @@ impl<'a> RequestParts<'a> {
         let Some(version) = self.target.path_text(alloc, 4)? else {
             return Ok(None);
         };
-        let permanent = self.target.is_on(alloc, "permanent")?;
+        let permanent = self.target.query_flag(alloc, "permanent")?;
         Ok(Some(Command::DeleteVersion {
             subject,
             version,
@@ -78,7 +81,7 @@ impl<'a> RequestParts<'a> {
         let Some(subject) = self.target.path_subject(alloc, 2)? else {
             return Ok(None);
         };
-        let permanent = self.target.is_on(alloc, "permanent")?;
+        let permanent = self.target.query_flag(alloc, "permanent")?;
         Ok(Some(Command::DeleteSubject { subject, permanent }))
     }
 
@@ -88,7 +91,7 @@ impl<'a> RequestParts<'a> {
         let Some(subject) = self.target.path_subject(alloc, 2)? else {
             return Ok(None);
         };
-        let default_to_global = self.target.is_on(alloc, "defaultToGlobal")?;
+        let default_to_global = self.target.query_flag(alloc, "defaultToGlobal")?;
         Ok(Some(Command::LevelOf {
             subject,
             default_to_global,
@@ -104,7 +107,7 @@ impl<'a> RequestParts<'a> {
         let Some(SentSchema { text, supported }) = body_schema(alloc, self.body)? else {
             return Ok(None);
         };
-        let deleted = self.target.is_on(alloc, "deleted")?;
+        let deleted = self.target.query_flag(alloc, "deleted")?;
         Ok(Some(Command::Lookup {
             subject,
             text,
@@ -116,7 +119,7 @@ impl<'a> RequestParts<'a> {
     fn subjects(&self, alloc: Global) -> Result<Option<Command>, OutOfMemory>
         ensures { IfOk result (λ command. command ≡ command_in op.Subjects self.now) }
     {
-        let deleted = self.target.is_on(alloc, "deleted")?;
+        let deleted = self.target.query_flag(alloc, "deleted")?;
         Ok(Some(Command::Subjects { deleted }))
     }
 
@@ -126,7 +129,7 @@ impl<'a> RequestParts<'a> {
         let Some(subject) = self.target.path_subject(alloc, 2)? else {
             return Ok(None);
         };
-        let deleted = self.target.is_on(alloc, "deleted")?;
+        let deleted = self.target.query_flag(alloc, "deleted")?;
         Ok(Some(Command::Versions { subject, deleted }))
     }
 
@@ -139,7 +142,7 @@ impl<'a> RequestParts<'a> {
         let Some(version) = self.target.path_text(alloc, 4)? else {
             return Ok(None);
         };
-        let deleted = self.target.is_on(alloc, "deleted")?;
+        let deleted = self.target.query_flag(alloc, "deleted")?;
         Ok(Some(Command::Version {
             subject,
             version,
@@ -156,7 +159,7 @@ impl<'a> RequestParts<'a> {
         let Some(version) = self.target.path_text(alloc, 4)? else {
             return Ok(None);
         };
-        let deleted = self.target.is_on(alloc, "deleted")?;
+        let deleted = self.target.query_flag(alloc, "deleted")?;
         Ok(Some(Command::Text {
             subject,
             version,
@@ -179,7 +182,7 @@ impl<'a> RequestParts<'a> {
         let Some(id) = self.target.path_text(alloc, 3)? else {
             return Ok(None);
         };
-        let deleted = self.target.is_on(alloc, "deleted")?;
+        let deleted = self.target.query_flag(alloc, "deleted")?;
         Ok(Some(Command::VersionsOfId { id, deleted }))
     }
 
@@ -246,7 +249,7 @@ impl<'a> RequestParts<'a> {
         let Some(subject) = self.target.path_subject(alloc, 2)? else {
             return Ok(None);
         };
-        let default_to_global = self.target.is_on(alloc, "defaultToGlobal")?;
+        let default_to_global = self.target.query_flag(alloc, "defaultToGlobal")?;
         Ok(Some(Command::ModeOf {
             subject,
             default_to_global,

@@ -1,7 +1,7 @@
 //! The delivery that a request makes, or why it is rejected.
 
 ghost use Rattle.std.specs.Prelude.{◌≡◌, ◌⊎◌, MatchResult, option_map, if◌then◌else◌};
-ghost use Rattle.reg_routes.specs.Keys.{is_key, retry_key_for, retry_key_of};
+ghost use Rattle.reg_routes.specs.Keys.{is_key, retry_key_for, retry_key_field};
 ghost use Rattle.reg_routes.specs.Deliveries.{requested_by, delivery_from, keys_in, IsRejected};
 ghost use Rattle.reg_messages.specs.BorrowedRequests.{fields_in};
 ghost use Rattle.reg_routes.specs.Commands.{command_in};
@@ -25,10 +25,10 @@ fn parse_key(text: &[u8]) -> Option<Key<'_>>
     }
 }
 
-/// The retry key of a write, if it has one. `MalformedRequest` if the field is repeated or has no
-/// valid key.
-fn retry_key_of<'a>(request: &Request<'a>) -> Result<Option<Key<'a>>, Code>
-    ensures { result ≡ retry_key_of (keys_in (fields_in request.entry.now)) }
+/// The retry key in the field `Registry-Retry-Key`, or `None` without the field. `MalformedRequest`
+/// if the field is repeated or its value is no valid key.
+fn retry_key_field<'a>(request: &Request<'a>) -> Result<Option<Key<'a>>, Code>
+    ensures { result ≡ retry_key_field (keys_in (fields_in request.entry.now)) }
 {
     match FieldLookup::by_name(request.head, request.fields, b"Registry-Retry-Key") {
         FieldLookup::Missing => Ok(None),
@@ -45,7 +45,7 @@ fn retry_key_for<'a>(command: &Command, request: &Request<'a>) -> Result<Option<
     ensures { result ≡ retry_key_for command.now (keys_in (fields_in request.entry.now)) }
 {
     if command.is_write() {
-        retry_key_of(request)
+        retry_key_field(request)
     } else {
         Ok(None)
     }

@@ -1,7 +1,7 @@
 //! The parameters of a query.
 
 ghost use Rattle.std.specs.Prelude.{◌≡◌, IfOk};
-ghost use Rattle.reg_routes.specs.Queries.{is_on};
+ghost use Rattle.reg_routes.specs.Queries.{query_flag};
 
 use reg_core::OutOfMemory;
 use std::alloc::Global;
@@ -11,8 +11,8 @@ use std::alloc::Global;
 /// # Errors
 ///
 /// `OutOfMemory` if an allocation fails.
-pub fn is_on(alloc: Global, query: &[u8], name: &str) -> Result<bool, OutOfMemory>
-    ensures { IfOk result (λ on. on ≡ is_on query.now name.now) }
+pub fn query_flag(alloc: Global, query: &[u8], name: &str) -> Result<bool, OutOfMemory>
+    ensures { IfOk result (λ on. on ≡ query_flag query.now name.now) }
 {
     for pair in form_urlencoded::parse(alloc, query) {
         let (key, value) = pair?;

@@ -143,7 +143,8 @@ impl Resource {
         }
     }
 
-    /// The methods of this resource, for an `Allow` field. (RFC 9110, section 10.2.1.)
+    /// The methods of this resource in byte order, separated by `, `: the value of an `Allow`
+    /// field. (RFC 9110, section 10.2.1.)
     pub fn allow(self) -> &'static str
         ensures { result.now ≡ allow_of self }
     {

@@ -1,11 +1,11 @@
 //! A request's target: its path and its query.
 
 ghost use Rattle.std.specs.Prelude.{◌≡◌, IfOk};
-ghost use Rattle.reg_routes.specs.Queries.{is_on};
+ghost use Rattle.reg_routes.specs.Queries.{query_flag};
 ghost use Rattle.reg_routes.specs.Targets.{path_of, query_of, path_subject, path_text, decoded_part};
 
 use crate::path_parts::part_at;
-use crate::query::is_on;
+use crate::query::query_flag;
 use crate::split_at_byte::split_at_byte;
 use percent_encoding::percent_decode;
 use reg_core::{OutOfMemory, Subject, Text};
@@ -70,9 +70,9 @@ impl<'a> Target<'a> {
     /// # Errors
     ///
     /// `OutOfMemory` if an allocation fails.
-    pub fn is_on(&self, alloc: Global, name: &str) -> Result<bool, OutOfMemory>
-        ensures { IfOk result (λ on. on ≡ is_on self.now.query.now name.now) }
+    pub fn query_flag(&self, alloc: Global, name: &str) -> Result<bool, OutOfMemory>
+        ensures { IfOk result (λ on. on ≡ query_flag self.now.query.now name.now) }
     {
-        is_on(alloc, self.query, name)
+        query_flag(alloc, self.query, name)
     }
 }

@@ -13,20 +13,25 @@ use Rattle.reg_service.specs.Admissions.{AllAdmitted}
 use Rattle.reg_service.specs.Services.{store_in, state_in, ServesOver, PreservesService}
 use Rattle.reg_service.specs.Crashes.{RecoversAcknowledged, RecoversSpelled}
 
--- This project's choice: the service processed this delivery and returned this reply.
-pub record Processes {S : Type 0} {g : Ghosts S} (old new : Service S g) (x : Exchange) : Type 0 where
-  -- if the store had failed, or on a clean disk the connection was closed, the reply is 50001
-  pub frame : PreservesService old new (x.1 ≡ fault BackendFault)
+-- This project's choice: the guarantees of one call of `Service::answer`. The call got the delivery `exchange.0`, took the service from `old` to
+-- `new`, and returned the reply `exchange.1`, which may be 50001.
+pub record Processes {S : Type 0} {g : Ghosts S} (old new : Service S g) (exchange : Exchange) : Type 0 where
+  -- If the store had failed, or on a clean disk the connection was closed, the reply is 50001. A failed store stays failed, and an unclean disk
+  -- stays unclean. On a clean disk, only a disk fault closes the connection.
+  pub frame : PreservesService old new (exchange.1 ≡ fault BackendFault)
   -- if the store has failed now, the reply is 50001
-  pub fails : IsTrue (has_failed (store_in new)) → x.1 ≡ fault BackendFault
+  pub fails : IsTrue (has_failed (store_in new)) → exchange.1 ≡ fault BackendFault
   -- an added version was admitted by its subject's level
-  pub admitted : HasCleanDisk (state_in new) → (was : Stored) → IsOpenOver (state_in old) was → AllAdmitted was (served (x ∷ []))
-  -- a crash preserves the exchange if it was acknowledged, and may preserve a delivery that got 50001: version, reply and evidence together
-  pub crash : HasCleanDisk (state_in new) → (was : Stored) → IsOpenOver (state_in old) was → RecoversAcknowledged old new was (x ∷ [])
+  pub admitted : HasCleanDisk (state_in new) → (was : Stored) → IsOpenOver (state_in old) was → AllAdmitted was (served (exchange ∷ []))
+  -- On a clean disk, if the connection was open: a crash preserves the exchange unless its reply is 50001. If a first delivery got 50001 and its
+  -- call closed the connection, a crash may preserve the delivery. Version, reply and evidence survive together.
+  pub crash : HasCleanDisk (state_in new) → (was : Stored) → IsOpenOver (state_in old) was → RecoversAcknowledged old new was (exchange ∷ [])
+  -- if the connection is open, a crash leaves exactly what the tables spell
   pub crash_while_open : RecoversSpelled (state_in new)
-  -- Unless the reply is 50001, it is due, and a first delivery was applied. The evidence of versions is what the registry named; if all of it
-  -- was true, it still is.
-  pub exactly_once : HasCleanDisk (state_in new) → ServesOver (state_in old) (state_in new) (served (x ∷ []))
+  -- On a clean disk: if the reply is 50001, the tables spell what they spelled, each while the connection is open. Otherwise the reply is due, and
+  -- a first delivery was applied once. The evidence of an added version has the level in force and the ids that the version was compared with. If
+  -- all evidence was true, it still is.
+  pub exactly_once : HasCleanDisk (state_in new) → ServesOver (state_in old) (state_in new) (served (exchange ∷ []))
 
 -- This project's choice: the service processed each delivery of a list, in the state that the previous one left.
 abbrev pub ProcessesEach : {S : Type 0} {g : Ghosts S} → Service S g → Service S g → List Exchange → Type 0

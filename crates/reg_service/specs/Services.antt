@@ -50,9 +50,9 @@ pub record PreservesStore {S : Type 0} {g : Ghosts S} (old new : Store S g) (Onl
 abbrev pub PreservesService : {S : Type 0} {g : Ghosts S} → Service S g → Service S g → Type 0 → Type 0
 PreservesService old new OnlyFaultReplies = PreservesStore (store_in old) (store_in new) OnlyFaultReplies
 
--- This project's choice: the list splits at one exchange. `old` and `new` are the service before and after the list. `reached` and `left`
--- are some two services such that the steps from `old` to `reached`, on to `left`, and on to `new` have the guarantees of calls. They needn't
--- be the services before and after that exchange. The clause `each` of `Service::run` says more: it names those.
+-- This project's choice: from one exchange on, each reply is 50001. The services `reached` and `left` lie on the way from `old` to `new`. Each of
+-- the three steps between these services preserves what a call preserves (`PreservesService`), for its part of the list. `reached` and `left`
+-- needn't be the services before and after that exchange: the clause `each` of `Service::run` names those.
 pub record SplitAt {S : Type 0} {g : Ghosts S} (old new : Service S g) (xs : List Exchange) : Type 0 where
   pub before : List Exchange
   pub exchange : Exchange

@@ -5,8 +5,8 @@ use Rattle.reg_core.specs.declared.code.Code.{Code}
 use Rattle.reg_service.specs.Deliveries.{Exchange}
 use Rattle.reg_http.specs.declared.answering.Stop.{Stop}
 use Rattle.reg_http.specs.declared.answering.Stop.TheVariants.{Waiting, AtClose, AtFault, NotWritten, OutOfMemory}
-use Rattle.reg_http.specs.declared.answering.Next.{Next}
-use Rattle.reg_http.specs.declared.answering.Next.TheVariants.{Answered as AnsweredNext, Stopped}
+use Rattle.reg_http.specs.declared.answering.StepOutcome.{StepOutcome}
+use Rattle.reg_http.specs.declared.answering.StepOutcome.TheVariants.{Answered as AnsweredStep, Stopped}
 use Rattle.reg_http.specs.declared.writing.WriteOutcome.{WriteOutcome}
 use Rattle.reg_http.specs.declared.writing.WriteOutcome.TheVariants.{Whole, CutShort, OutOfMemory as NoMemory}
 use Rattle.reg_messages.specs.Messages.{Follows, Part, Faulty}
@@ -15,8 +15,9 @@ use Rattle.reg_messages.specs.Responses.{fault_response}
 use Rattle.reg_http.specs.Output.{AnsweredMessage, StayOpen, LastCloses, responses, IsPrefix, IsCutShort}
 use Rattle.reg_http.specs.Sessions.{ProcessesMessages}
 
--- The bytes are too few: until there are `needs` bytes, no whole message is at the front. The buffer has room for that many.
-pub record Waits (bytes : List ℕ) (needs : ℕ) : Type 0 where
+-- There are fewer than `needs` bytes, and the buffer has room for that many. Any bytes may be added: until there are `needs` bytes in all, they
+-- are no bytes or a part of a message.
+pub record IsIncompleteUntil (bytes : List ℕ) (needs : ℕ) : Type 0 where
   pub short : length bytes < needs
   pub fits : needs ≤ 1064960
   pub part : (more : List ℕ) → length (bytes ++ more) < needs → (bytes ++ more ≡ []) ⊎ Follows (bytes ++ more) Part
@@ -24,7 +25,7 @@ pub record Waits (bytes : List ℕ) (needs : ℕ) : Type 0 where
 -- The facts at each stop: `rest` follows the messages xs, and `out` was written for these messages and for a fault that follows them. If the
 -- session waits for more bytes, `rest` is in the buffer.
 abbrev pub StopsAs : List AnsweredMessage → List ℕ → List ℕ → List ℕ → Stop → Type 0
-StopsAs xs rest buffered out (Waiting needs) = StayOpen xs × (rest ≡ buffered) × Waits rest needs × (out ≡ responses xs)
+StopsAs xs rest buffered out (Waiting needs) = StayOpen xs × (rest ≡ buffered) × IsIncompleteUntil rest needs × (out ≡ responses xs)
 StopsAs xs rest buffered out AtClose = LastCloses xs × (out ≡ responses xs)
 StopsAs xs rest buffered out AtFault = (code : Code) × StayOpen xs × Follows rest (Faulty code) × (out ≡ responses xs ++ fault_response code)
 StopsAs xs rest buffered out NotWritten = IsCutShort xs rest out
@@ -45,28 +46,27 @@ pub record AnswersOne (AreServed : List Exchange → Type 0) (old new : Option (
   pub stays : closes answered.0 ≡ false
   pub processes : ProcessesMessages AreServed old new bytes (answered ∷ []) (drop size bytes) (responses (answered ∷ []))
 
--- the next step for these bytes: the first message got its response, or processing stopped
-abbrev pub NextAs : (List Exchange → Type 0) → Option (List ℕ) → Option (List ℕ) → List ℕ → Next → Type 0
-NextAs AreServed old new bytes (AnsweredNext size) = AnswersOne AreServed old new bytes size
+-- the outcome of one step over these bytes: the first message got its response, or processing stopped
+abbrev pub NextAs : (List Exchange → Type 0) → Option (List ℕ) → Option (List ℕ) → List ℕ → StepOutcome → Type 0
+NextAs AreServed old new bytes (AnsweredStep size) = AnswersOne AreServed old new bytes size
 NextAs AreServed old new bytes (Stopped stop) = AnswersAs AreServed old new bytes bytes stop
 
--- if the stop is `Waiting`, there are fewer bytes than needed, the buffer has room for as many as needed, and until then no whole message is
--- at the front
-abbrev pub WaitsAt : List ℕ → Stop → Type 0
-WaitsAt bytes (Waiting needs) = Waits bytes needs
-WaitsAt bytes other = Unit {0}
+-- if the stop is `Waiting`, the bytes are incomplete until there are as many as it needs
+abbrev pub IsIncompleteAt : List ℕ → Stop → Type 0
+IsIncompleteAt bytes (Waiting needs) = IsIncompleteUntil bytes needs
+IsIncompleteAt bytes other = Unit {0}
 
 -- the processed message has at least one byte, and at most all of the bytes; or processing stopped, and if it waits, too few bytes are there
-abbrev pub IsWithin : List ℕ → Next → Type 0
-IsWithin bytes (AnsweredNext size) = (0 < size) × (size ≤ length bytes)
-IsWithin bytes (Stopped stop) = WaitsAt bytes stop
+abbrev pub IsWithin : List ℕ → StepOutcome → Type 0
+IsWithin bytes (AnsweredStep size) = (0 < size) × (size ≤ length bytes)
+IsWithin bytes (Stopped stop) = IsIncompleteAt bytes stop
 
--- the step after the response to a message of `size` bytes; `true` if the message ends the connection
-abbrev pub next_after : WriteOutcome → Bool → ℕ → Next
-next_after Whole true size = Stopped AtClose
-next_after Whole false size = AnsweredNext size
-next_after CutShort close size = Stopped NotWritten
-next_after NoMemory close size = Stopped OutOfMemory
+-- the outcome of processing a message of `message_size` bytes, by the outcome of writing its response, and whether the message ends the connection
+abbrev pub step_outcome : WriteOutcome → Bool → ℕ → StepOutcome
+step_outcome Whole true message_size = Stopped AtClose
+step_outcome Whole false message_size = AnsweredStep message_size
+step_outcome CutShort close message_size = Stopped NotWritten
+step_outcome NoMemory close message_size = Stopped OutOfMemory
 
 -- what was written of the response to a fault, at each stop
 abbrev pub FaultAs : Option (List ℕ) → Option (List ℕ) → Code → Stop → Type 0

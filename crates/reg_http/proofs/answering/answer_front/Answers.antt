@@ -14,8 +14,8 @@ use Rattle.reg_http.specs.declared.answering.Stop.TheVariants.{Waiting, OutOfMem
 use Rattle.reg_http.specs.Output.{response_to}
 use Rattle.reg_http.specs.Inside.Replying.{IsReplyTo}
 use Rattle.reg_http.proofs.ReplyLemmas.{requested_of_borrowed, closes_of_borrowed}
-use Rattle.reg_http.proofs.SessionLemmas.{AnswersAs-nil, AnswersAs-fault, Next-message}
-use Rattle.reg_http.proofs.EndLemmas.{Waits-nothing, Waits-part}
+use Rattle.reg_http.proofs.SessionLemmas.{AnswersAs-nil, AnswersAs-fault, StepOutcome-message}
+use Rattle.reg_http.proofs.EndLemmas.{IsIncompleteUntil-nothing, IsIncompleteUntil-part}
 use Rattle.reg_http.proofs.answering.answer_front.Goals as goal
 
 pub returns-in-Whole-clause-next : goal.returns-in-Whole-clause-next
@@ -34,23 +34,23 @@ returns-in-Whole-clause-next g c clean was over =
     (λ i. response_bytes reply (c.reply_to-reply.ensures.allow i) (sym closing i)) ∙ ap (λ requested. response_bytes reply (allow_field requested reply) (closes m)) what in
     let front = c.send-sent.ensures.front in
     let Q : List ℕ → Type 0 = λ out. Appends (g.W.Write.contents c.args.writer.now) (g.W.Write.contents c.send-sent.new.writer) out in
-    let next = Next-message _ _ _ c.args.bytes.now (c.in-Whole.whole.head.len + c.in-Whole.whole.body) m reply c.send-sent.result c.closes-close.result
+    let next = StepOutcome-message _ _ _ c.args.bytes.now (c.in-Whole.whole.head.len + c.in-Whole.whole.body) m reply c.send-sent.result c.closes-close.result
     w.reads replies closing front.0 (front.1.0, front.1.1 ∙ bytes) front.2 (λ h. subst Q bytes (c.send-sent.ensures.whole h)) in
-    record { stored = r.stored; spells = r.spells; holds = rw c.next_after.ensures next }
+    record { stored = r.stored; spells = r.spells; holds = rw c.step_outcome.ensures next }
 
 pub returns-in-Nothing-clause-within : goal.returns-in-Nothing-clause-within
-returns-in-Nothing-clause-within g c = Waits-nothing c.args.bytes.now c.in-Nothing.ensures
+returns-in-Nothing-clause-within g c = IsIncompleteUntil-nothing c.args.bytes.now c.in-Nothing.ensures
 
 pub returns-in-Nothing-clause-next : goal.returns-in-Nothing-clause-next
 returns-in-Nothing-clause-next g c clean was over =
-    record { stored = was; spells = over; holds = AnswersAs-nil _ _ c.args.bytes.now (Waiting 1) (durable_none c.args.service.now was [] refl (leaves_open (state_in c.args.service.now) (g.met.S.Store.settled c.args.service.now.store.db.idle.conn.store))) (tt, refl, Waits-nothing c.args.bytes.now c.in-Nothing.ensures, refl) }
+    record { stored = was; spells = over; holds = AnswersAs-nil _ _ c.args.bytes.now (Waiting 1) (durable_none c.args.service.now was [] refl (leaves_open (state_in c.args.service.now) (g.met.S.Store.settled c.args.service.now.store.db.idle.conn.store))) (tt, refl, IsIncompleteUntil-nothing c.args.bytes.now c.in-Nothing.ensures, refl) }
 
 pub returns-in-Part-clause-within : goal.returns-in-Part-clause-within
-returns-in-Part-clause-within g c = Waits-part c.args.bytes.now c.in-Part.needs c.in-Part.ensures
+returns-in-Part-clause-within g c = IsIncompleteUntil-part c.args.bytes.now c.in-Part.needs c.in-Part.ensures
 
 pub returns-in-Part-clause-next : goal.returns-in-Part-clause-next
 returns-in-Part-clause-next g c clean was over =
-    record { stored = was; spells = over; holds = AnswersAs-nil _ _ c.args.bytes.now (Waiting c.in-Part.needs) (durable_none c.args.service.now was [] refl (leaves_open (state_in c.args.service.now) (g.met.S.Store.settled c.args.service.now.store.db.idle.conn.store))) (tt, refl, Waits-part c.args.bytes.now c.in-Part.needs c.in-Part.ensures, refl) }
+    record { stored = was; spells = over; holds = AnswersAs-nil _ _ c.args.bytes.now (Waiting c.in-Part.needs) (durable_none c.args.service.now was [] refl (leaves_open (state_in c.args.service.now) (g.met.S.Store.settled c.args.service.now.store.db.idle.conn.store))) (tt, refl, IsIncompleteUntil-part c.args.bytes.now c.in-Part.needs c.in-Part.ensures, refl) }
 
 pub returns-in-Faulty-clause-next : goal.returns-in-Faulty-clause-next
 returns-in-Faulty-clause-next g c clean was over =

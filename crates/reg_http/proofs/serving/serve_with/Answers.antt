@@ -6,14 +6,14 @@ use Rattle.reg_service.proofs.CrashLemmas.{leaves_open}
 use Rattle.reg_service.proofs.RecoveredLists.{durable_none, durable_both}
 use Rattle.reg_http.specs.declared.answering.Stop.TheVariants.{Waiting, AtClose, AtFault, NotWritten, OutOfMemory}
 use Rattle.reg_http.specs.declared.serving.Ended.TheVariants.{Closed, WriteFailed, Malformed, Memory}
-use Rattle.reg_http.specs.Inside.SessionSteps.{Waits}
+use Rattle.reg_http.specs.Inside.SessionSteps.{IsIncompleteUntil}
 use Rattle.reg_http.proofs.SessionLemmas.{AnsweredSoFar-none}
-use Rattle.reg_http.proofs.EndLemmas.{AnswersAs-read, Session-ended, Session-failed, Session-stopped, AnsweredSoFar-waiting, Waits-nothing, Waits-more}
+use Rattle.reg_http.proofs.EndLemmas.{AnswersAs-read, Session-ended, Session-failed, Session-stopped, AnsweredSoFar-waiting, IsIncompleteUntil-nothing, IsIncompleteUntil-more}
 use Rattle.reg_http.proofs.serving.serve_with.Goals as goal
 
 pub loop-init : goal.loop-init
 loop-init g c = record {
-  waits = Waits-nothing c.args.buffers.bytes c.requires;
+  waits = IsIncompleteUntil-nothing c.args.buffers.bytes c.requires;
   input = [];
   reads = Consumes-nil (g.R.Read.remaining c.args.reader.now);
   clean = λ h. h;
@@ -23,8 +23,8 @@ loop-init g c = record {
 pub answer_more-requires : goal.answer_more-requires
 answer_more-requires g c =
     let (more, is, read) = c.in-Bytes.ensures in
-    let P : List ℕ → Type 0 = λ bytes. length bytes < c.loop.needs → Waits bytes c.loop.needs in
-    subst P (sym is) (Waits-more c.loop.buffers.bytes more c.loop.needs c.loop.invariant.waits)
+    let P : List ℕ → Type 0 = λ bytes. length bytes < c.loop.needs → IsIncompleteUntil bytes c.loop.needs in
+    subst P (sym is) (IsIncompleteUntil-more c.loop.buffers.bytes more c.loop.needs c.loop.invariant.waits)
 
 pub loop-preserved : goal.loop-preserved
 loop-preserved g c =

@@ -4,12 +4,12 @@ use Rattle.sqlite.specs.State.{HasCleanDisk}
 use Rattle.reg_service.specs.Crashes.{ServesDurably}
 use Rattle.reg_service.specs.Services.{state_in}
 use Rattle.reg_http.specs.Transitions.{StoredTransition}
-use Rattle.reg_http.specs.Inside.SessionSteps.{AnsweredSoFar, Waits}
+use Rattle.reg_http.specs.Inside.SessionSteps.{AnsweredSoFar, IsIncompleteUntil}
 use Rattle.reg_http.proofs.serving.serve_with.Given as goal
 
 abbrev pub invariant-loop : goal.invariant-loop
 invariant-loop g l = record {
-  waits : Waits l.buffers.bytes l.needs;
+  waits : IsIncompleteUntil l.buffers.bytes l.needs;
   input : List ℕ;
   reads : Consumes (g.R.Read.remaining l.initial.reader) (g.R.Read.remaining l.reader) input;
   clean : HasCleanDisk (state_in l.service) → HasCleanDisk (state_in l.initial.service);

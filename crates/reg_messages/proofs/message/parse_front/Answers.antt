@@ -3,8 +3,8 @@ use Rattle.std.proofs.lemmas.List.{take-append-drop, length-take-le}
 use Rattle.reg_messages.proofs.Fronts.{exceeds_room, HasHead-found, framed, IsWholeMessage-found, HasNoHead-front, NeverHasRequest-front, IsPartialUntil-body}
 use Rattle.reg_messages.proofs.message.parse_front.Goals as goal
 
-pub returns-in-Err-length_from_fields : goal.returns-in-Err-length_from_fields
-returns-in-Err-length_from_fields c =
+pub returns-in-Err-body_length_from_fields : goal.returns-in-Err-body_length_from_fields
+returns-in-Err-body_length_from_fields c =
     let x = rw c.in-Ok-Complete.field-0-is at c.in-Ok-Complete.ensures.complete in
     let le : c.min.result ≤ length c.args.bytes.now = omega arith in
     let small : c.min.result ≤ 16384 = omega arith in
@@ -12,7 +12,7 @@ returns-in-Err-length_from_fields c =
       head = x.0;
       rest = drop c.in-Ok-Complete.head.len c.args.bytes.now;
       has_head = HasHead-found c.args.bytes.now c.min.result _ _ x.0 le small x.1;
-      framed = framed _ _ _ x.0 _ x.1 c.in-Err-length_from_fields.ensures.value;
+      framed = framed _ _ _ x.0 _ x.1 c.in-Err-body_length_from_fields.ensures.value;
     })
 
 pub returns-then-bytes-head : goal.returns-then-bytes-head

@@ -4,7 +4,7 @@ use Rattle.httparse.specs.Spans.{header_bytes}
 use Rattle.reg_core.specs.declared.code.Code.TheVariants.{MalformedRequest, CodingNotSupported}
 use Rattle.reg_messages.specs.Fields.{values_named, HeaderField}
 use Rattle.reg_messages.specs.Framing.{framing, length_of, length_unless_transfer_coded}
-use Rattle.reg_messages.proofs.framing.length_from_fields.Goals as goal
+use Rattle.reg_messages.proofs.framing.body_length_from_fields.Goals as goal
 
 framed : (fields : List HeaderField) (codings lengths : List (List ℕ)) → values_named (codes "Transfer-Encoding") fields ≡ codings
     → values_named (codes "Content-Length") fields ≡ lengths → length_unless_transfer_coded codings lengths ≡ framing fields

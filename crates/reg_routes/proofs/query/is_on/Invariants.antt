@@ -1,7 +1,0 @@
-use Rattle.std.proofs.Common.{◌≡◌}
-use Rattle.form_urlencoded.specs.Parse.{pairs_left}
-use Rattle.reg_routes.specs.Queries.{is_on, first_is_true}
-use Rattle.reg_routes.proofs.query.is_on.Given as goal
-
-abbrev pub invariant-loop-pair : goal.invariant-loop-pair
-invariant-loop-pair l = is_on l.query l.name ≡ first_is_true (pairs_left l.pair-iterator) l.name
