@@ -96,7 +96,7 @@ IsCutShort-after xs ys rest out p (inl c) =
       before = xs ++ c.before;
       last = c.last;
       part = c.part;
-      all = ap (λ zs. xs ++ zs) c.all ∙ sym (append_assoc xs c.before (c.last ∷ []));
+      split = ap (λ zs. xs ++ zs) c.split ∙ sym (append_assoc xs c.before (c.last ∷ []));
       stay = StayOpen-append xs c.before p c.stay;
       front = c.front;
       written = joined xs c.before out c.part c.written;
@@ -168,7 +168,7 @@ StepOutcome-message P w w' bytes size m reply Whole true is r c part front a who
   rest = drop size bytes;
   out = response_to m reply;
   processes = ProcessesMessages-one P w w' bytes (drop size bytes) (response_to m reply) m reply is r (whole refl);
-  stops = (record { before = []; last = (m, reply); all = refl; stay = tt; closes_it = c }, sym (append-nil (response_to m reply)));
+  stops = (record { before = []; last = (m, reply); split = refl; stay = tt; closes_it = c }, sym (append-nil (response_to m reply)));
 }
 StepOutcome-message P w w' bytes size m reply Whole false is r c part front a whole =
     let Q : List ℕ → Type 0 = λ out. ProcessesMessages P w w' bytes ((m, reply) ∷ []) (drop size bytes) out in
@@ -183,14 +183,14 @@ StepOutcome-message P w w' bytes size m reply CutShort close is r c part front a
   rest = drop size bytes;
   out = part;
   processes = ProcessesMessages-one P w w' bytes (drop size bytes) part m reply is r a;
-  stops = inl (record { before = []; last = (m, reply); part = part; all = refl; stay = tt; front = front; written = refl });
+  stops = inl (record { before = []; last = (m, reply); part = part; split = refl; stay = tt; front = front; written = refl });
 }
 StepOutcome-message P w w' bytes size m reply NoMemory close is r c part front a whole = record {
   answered = (m, reply) ∷ [];
   rest = drop size bytes;
   out = part;
   processes = ProcessesMessages-one P w w' bytes (drop size bytes) part m reply is r a;
-  stops = inr (inl (record { before = []; last = (m, reply); part = part; all = refl; stay = tt; front = front; written = refl }));
+  stops = inr (inl (record { before = []; last = (m, reply); part = part; split = refl; stay = tt; front = front; written = refl }));
 }
 
 StartsWithMessages-more : (bytes rest more : List ℕ) (ms : List Message) → StartsWithMessages bytes ms rest → StartsWithMessages (bytes ++ more) ms (rest ++ more)

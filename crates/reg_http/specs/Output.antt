@@ -79,7 +79,7 @@ pub record LastCutShort (xs : List AnsweredMessage) (out : List ℕ) : Type 0 wh
   pub before : List AnsweredMessage
   pub last : AnsweredMessage
   pub part : List ℕ
-  pub all : xs ≡ before ++ last ∷ []
+  pub split : xs ≡ before ++ last ∷ []
   pub stay : StayOpen before
   pub front : IsPrefix part (response_to last.0 last.1)
   pub written : out ≡ responses before ++ part

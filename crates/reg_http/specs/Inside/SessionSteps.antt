@@ -9,7 +9,8 @@ use Rattle.reg_http.specs.declared.answering.StepOutcome.{StepOutcome}
 use Rattle.reg_http.specs.declared.answering.StepOutcome.TheVariants.{Answered as AnsweredStep, Stopped}
 use Rattle.reg_http.specs.declared.writing.WriteOutcome.{WriteOutcome}
 use Rattle.reg_http.specs.declared.writing.WriteOutcome.TheVariants.{Whole, CutShort, OutOfMemory as NoMemory}
-use Rattle.reg_messages.specs.Messages.{Follows, Part, Faulty}
+use Rattle.reg_messages.specs.Framing.{max_body}
+use Rattle.reg_messages.specs.Messages.{max_head, Follows, Part, Faulty}
 use Rattle.reg_messages.specs.Closing.{closes}
 use Rattle.reg_messages.specs.Responses.{fault_response}
 use Rattle.reg_http.specs.Output.{AnsweredMessage, StayOpen, LastCloses, responses, IsPrefix, IsCutShort}
@@ -19,7 +20,7 @@ use Rattle.reg_http.specs.Sessions.{ProcessesMessages}
 -- are no bytes or a part of a message.
 pub record IsIncompleteUntil (bytes : List ℕ) (needs : ℕ) : Type 0 where
   pub short : length bytes < needs
-  pub fits : needs ≤ 1064960
+  pub fits : needs ≤ max_head + max_body
   pub part : (more : List ℕ) → length (bytes ++ more) < needs → (bytes ++ more ≡ []) ⊎ Follows (bytes ++ more) Part
 
 -- The facts at each stop: `rest` follows the messages xs, and `out` was written for these messages and for a fault that follows them. If the
