@@ -16,7 +16,7 @@ use Rattle.reg_store.specs.Stores.{AddsNoCrashState}
 use Rattle.reg_migrate.specs.declared.error.MigrateError.{MigrateError}
 use Rattle.reg_migrate.specs.declared.error.MigrateError.TheVariants.{Memory, Disk, NotARegistry, AlreadyNew, NewerLayout}
 use Rattle.reg_migrate.specs.Errors.{migrate_error_of, is_fault, HasMetaNumber, HasDiskCause, IsErrorForLayout, ReportsNewer, KeepsCrashStates}
-use Rattle.reg_migrate.specs.Migrations.{IsFaultOver, IsReasonOver, IsLayoutOneRegistry}
+use Rattle.reg_migrate.specs.Migrations.{IsMigrationFault, IsReasonOver, IsLayoutOneRegistry}
 use Rattle.reg_store.proofs.Failing.{fault_if_by}
 
 -- a newer layout is reported as `AlreadyNew` or `NewerLayout`
@@ -106,7 +106,7 @@ before_if_faulted old mid new AlreadyNew more up h = absurd (cc)
 before_if_faulted old mid new (NewerLayout number) more up h = absurd (cc)
 
 -- tables that spell a registry fail only because of memory or the disk
-pub fault_over : (old new : State) (e : StoreError) → IsFaultOverLayoutOne old new e → IsFaultOver old (migrate_error_of e)
+pub fault_over : (old new : State) (e : StoreError) → IsFaultOverLayoutOne old new e → IsMigrationFault old (migrate_error_of e)
 fault_over old new e fault spells = told_fault e (fault_if_by old new e (go old.is_open refl))
   where
     go : (b : Bool) → old.is_open ≡ b → failures.IsFaultBy old new e

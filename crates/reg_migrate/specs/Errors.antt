@@ -4,7 +4,7 @@ use Rattle.sqlite_disk.specs.Disk.{MoreFaults}
 use Rattle.sqlite.specs.Effect.{Database}
 use Rattle.sqlite.specs.State.{State, HasCleanDisk}
 use Rattle.reg_tables.specs.Layout.{HasFiveTables}
-use Rattle.reg_tables.specs.Reads.{HoldsMeta, OnlyReads}
+use Rattle.reg_tables.specs.Reads.{HasReadableMeta, OnlyReads}
 use Rattle.reg_tables.specs.FailedCalls.{HasDiskFault}
 use Rattle.reg_store.specs.declared.error.StoreError.{StoreError}
 use Rattle.reg_store.specs.declared.error.StoreError.TheVariants as store
@@ -47,7 +47,7 @@ IsErrorForLayout number _ = ⊥
 -- Let the database begin with the five tables, and let `meta` be readable and name a layout above 1. Then the error reports that layout, or it is
 -- `Memory` or `Disk`. The other rows don't matter.
 abbrev pub ReportsNewer : State → MigrateError → Type 0
-ReportsNewer s e = (number : ℕ) → IsTrue s.is_open → 1 < number → HoldsMeta s.now → NamesLayout s.now number → IsErrorForLayout number e ⊎ IsTrue (is_fault e)
+ReportsNewer s e = (number : ℕ) → IsTrue s.is_open → 1 < number → HasReadableMeta s.now → NamesLayout s.now number → IsErrorForLayout number e ⊎ IsTrue (is_fault e)
 
 -- After an error other than `Disk`, a crash leaves only what it left before. If an allocation fails, the disk may fail too; then this says nothing.
 abbrev pub KeepsCrashStates : State → State → MigrateError → Type 0

@@ -23,14 +23,14 @@ pub record Migrates (old new : State) (count : ℕ) : Type 0 where
   pub spells : (was : Stored) → SpellsLayoutOne old.now was → IsOpenOver new was
   pub evidence : (now : Stored) → Spells new.now now → now.evidence ≡ empty
 
--- if the tables of an open connection spelled a registry in layout 1, the error is `Memory` or `Disk`
-abbrev pub IsFaultOver : State → MigrateError → Type 0
-IsFaultOver old e = (IsTrue old.is_open → IsLayoutOneRegistry old.now) → IsTrue (is_fault e)
+-- if the connection was closed, or its tables spelled a registry in layout 1, the error is `Memory` or `Disk`
+abbrev pub IsMigrationFault : State → MigrateError → Type 0
+IsMigrationFault old e = (IsTrue old.is_open → IsLayoutOneRegistry old.now) → IsTrue (is_fault e)
 
 -- why `migrate` fails
 pub record IsReasonOver (old new : State) (e : MigrateError) : Type 0 where
-  -- a registry in layout 1 fails to migrate only because of memory, the disk, or a limit of the file
-  pub fault : IsFaultOver old e
+  -- a closed connection, or a registry in layout 1, fails to migrate only because of memory, the disk, or a limit of the file
+  pub fault : IsMigrationFault old e
   -- in any other database `Disk` has a disk fault as its cause
   pub disk_cause : HasDiskCause old new e ⊎ IsLayoutOneRegistry old.now
   -- a number comes from the rows of `meta`

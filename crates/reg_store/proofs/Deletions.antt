@@ -13,7 +13,7 @@ use Rattle.reg_core.specs.Views.{altered, after_change}
 use Rattle.reg_core.proofs.DeletionLemmas.{altered_was, removed_was}
 use Rattle.reg_core.proofs.RegistryLemmas.{fewer-IsRegistry, levels-IsRegistry}
 use Rattle.reg_tables.specs.Contents.{version_cmp, VersionEntryView, Contents}
-use Rattle.reg_tables.specs.Changes.{without_level, without_version, with_deleted}
+use Rattle.reg_tables.specs.Changes.{without_level, without_version, marking_deleted}
 use Rattle.reg_tables.specs.Writing.{Changes}
 use Rattle.reg_tables.specs.Changes as tables
 use Rattle.reg_tables.proofs.MapLemmas.{get-altered-same, get-altered-other, same_or_not}
@@ -41,7 +41,7 @@ left_value true found value e = absurd (none-some value e)
 left_value false found value e = e
 
 module _ (contents : Contents) (g : Registry) (k : Kept) (s : IsSpelled contents g k) where
-  spelled_deleted : (subject : List ℕ) (number : ℕ) → IsSpelled (with_deleted (subject, number) contents) (after_change (MarkDeleted subject number) g) k
+  spelled_deleted : (subject : List ℕ) (number : ℕ) → IsSpelled (marking_deleted (subject, number) contents) (after_change (MarkDeleted subject number) g) k
   spelled_deleted subject number = record {
     registry = fewer-IsRegistry g (altered g.rows (subject, number) as_deleted) g.own s.registry (altered_was g.rows (subject, number));
     texts = s.texts;
@@ -83,9 +83,9 @@ module _ (contents : Contents) (g : Registry) (k : Kept) (s : IsSpelled contents
 -- ---- the tables
 
 module _ (old new : State) where
-  pub makes_deleted : (subject : List ℕ) (number : ℕ) → Changes old new (with_deleted (subject, number)) → StoresChange old new (MarkDeleted subject number)
+  pub makes_deleted : (subject : List ℕ) (number : ℕ) → Changes old new (marking_deleted (subject, number)) → StoresChange old new (MarkDeleted subject number)
   makes_deleted subject number changes was s fits =
-      changed old new (with_deleted (subject, number)) changes was s _
+      changed old new (marking_deleted (subject, number)) changes was s _
       (spelled_in s.contents was s.spelled _ _ _ (spelled_deleted s.contents was.registry was.replies s.spelled.base subject number) s.spelled.meta refl (refl, refl, refl))
 
   pub makes_removed : (subject : List ℕ) (number : ℕ) → Changes old new (without_version (subject, number)) → StoresChange old new (Remove subject number)

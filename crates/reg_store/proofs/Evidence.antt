@@ -12,7 +12,7 @@ use Rattle.reg_tables.specs.Changes.{with_evidence, without_positions, without_v
 use Rattle.reg_tables.proofs.MapLemmas.{get-insert-same, get-insert-other, get-remove-same, get-remove-other, same_or_not, tied_key, other_key}
 use Rattle.reg_tables.proofs.KeyedTables.{version_order}
 use Rattle.reg_tables.proofs.Keys.{position_order}
-use Rattle.reg_store.specs.Inside.Applying.{with_own, HasNoPositions}
+use Rattle.reg_store.specs.Inside.Applying.{with_level_and_ids, HasNoPositions}
 use Rattle.reg_store.specs.Spells.{id_at, IsSpelledEvidence}
 use Rattle.reg_store.proofs.Maps.{insert_each, remove_each}
 use Rattle.reg_store.proofs.Positions.{ids_beside, ids_elsewhere, at_zero, at_next}
@@ -39,7 +39,7 @@ module _ (contents : Contents) (evidence : EvidenceMap) (s : IsSpelledEvidence c
   -- ---- a new version with its evidence
 
   module _ (key : RowKey) (own : Evidence) (few : length own.against < 2 ^ 32) (free : HasNoPositions contents key) where
-    own_ids : (position : ℕ) → get (with_own key own contents).against (key, position) ≡ id_at position own
+    own_ids : (position : ℕ) → get (with_level_and_ids key own contents).against (key, position) ≡ id_at position own
     own_ids zero = at_zero key own.against (with_evidence key (level_text own.level) contents) free
     own_ids (suc k) = at_next key own.against (with_evidence key (level_text own.level) contents) free k
 
@@ -49,12 +49,12 @@ module _ (contents : Contents) (evidence : EvidenceMap) (s : IsSpelledEvidence c
       | inr other ↦ s.few q one (sym (get-insert-other row_cmp version_order evidence key own q other) ∙ there)
     ]
 
-    pub evidence_more : IsSpelledEvidence (with_own key own contents) (insert evidence key own)
+    pub evidence_more : IsSpelledEvidence (with_level_and_ids key own contents) (insert evidence key own)
     evidence_more = record {
       levels = λ q. ap (λ (c : Contents). get c.evidence q) (ids_beside key 1 own.against (with_evidence key (level_text own.level) contents)) ∙ insert_each version_order level_of_one contents.evidence evidence s.levels key own q;
       ids = λ position. elim (same_or_not version_cmp version_order position.0 key) [
         | inl is ↦
-            ap (λ (q : RowKey). get (with_own key own contents).against (q, position.1)) is ∙ own_ids position.1
+            ap (λ (q : RowKey). get (with_level_and_ids key own contents).against (q, position.1)) is ∙ own_ids position.1
             ∙ sym (ap (option_and_then (id_at position.1)) (ap (get (insert evidence key own)) is ∙ get-insert-same row_cmp version_order evidence key own))
         | inr other ↦
             ids_elsewhere key 1 own.against (with_evidence key (level_text own.level) contents) position other ∙ s.ids position

@@ -112,7 +112,7 @@ module _ (db : Database) (s : SpellsSome SpellsUnopened db) where
       record {
         apart = subst AreDistinct (rowids_of evidence_entry (λ (line : RawEvidence). line.rowid) (λ line. refl) evidence) levels.apart.rowids;
         fit = level_fits evidence against levels.apart ids.apart held levels.is ids.is rows;
-        positions_apart = subst AreDistinct (rowids_of against_entry (λ (line : RawAgainst). line.rowid) (λ line. refl) against) ids.apart.rowids;
+        against_rowids_apart = subst AreDistinct (rowids_of against_entry (λ (line : RawAgainst). line.rowid) (λ line. refl) against) ids.apart.rowids;
         positions_fit = positions_fit evidence against levels.apart ids.apart held levels.is ids.is rows;
         placed = in_sequence evidence against levels.apart ids.apart held levels.is ids.is rows;
       }
@@ -169,7 +169,7 @@ spelled_if_all_passed db known sound p =
     let modes = p.added.modes in
     let evidence = p.added.evidence in
     let versions_apart = evidence_apart db known sound evidence.evidence evidence.lists.0 evidence.fits.apart in
-    let positions_apart = against_apart db known sound evidence.against evidence.lists.1 evidence.fits.positions_apart in
+    let positions_apart = against_apart db known sound evidence.against evidence.lists.1 evidence.fits.against_rowids_apart in
     let lines = lines_in metas.lines rest modes.lines evidence.evidence evidence.against in
     let apart = apart_if_passed db keys sound metas.lines metas.lists metas.apart rest modes.lines evidence.evidence evidence.against (modes_apart db known sound modes.lines modes.lists modes.apart) versions_apart positions_apart in
     let all = lists_if_passed db keys sound metas.lines metas.lists metas.apart rest modes.lines evidence.evidence evidence.against

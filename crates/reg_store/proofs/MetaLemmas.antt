@@ -19,7 +19,7 @@ use Rattle.reg_tables.specs.Contents.{pair_form, text_cmp}
 use Rattle.reg_tables.specs.Frames.{ReadsInAutocommit}
 use Rattle.reg_tables.specs.Listings.{RowParts, Lists, entry_parts, without_rowid, meta_entry, ListsMeta}
 use Rattle.reg_tables.specs.Selects.{ReadsMeta}
-use Rattle.reg_tables.specs.Reads.{CanBeRead, HoldsMeta, CanReadMeta}
+use Rattle.reg_tables.specs.Reads.{CanBeRead, HasReadableMeta, CanReadMeta}
 use Rattle.reg_tables.specs.FailedCalls.{IsFault}
 use Rattle.reg_tables.proofs.KeyedTables.{text_order, distinct_texts}
 use Rattle.reg_tables.proofs.ListingLemmas.{find_had, stored, listed_if_shown}
@@ -95,14 +95,14 @@ module _ (lines : List RawMeta) (rows : List Row) (lists : Lists pair_form rows 
 
 module _ (lines : List RawMeta) (db : Database) (lists : ListsMeta db lines) where
   -- and the list has those of each row, if the names differ
-  module _ (holds : HoldsMeta db) where
+  module _ (holds : HasReadableMeta db) where
     found : (q v : List ℕ) → HasMetaRow (db.trees meta.tree) q v → value_at q (pairs_of lines) ≡ Some v
     found q v says =
-        let shown = listed_if_shown pair_form text_cmp text_order distinct_texts (db.trees meta.tree) (map meta_entry lines) lists holds.names distinct_texts holds.shows in
+        let shown = listed_if_shown pair_form text_cmp text_order distinct_texts (db.trees meta.tree) (map meta_entry lines) lists holds.values distinct_texts holds.shows in
         let entry = holds.shows.sound says.0 says.1 in
         let key : entry.0 ≡ q = distinct_texts entry.0 q (sym entry.3.0 ∙ says.2.0) in
         let value : entry.1 ≡ v = distinct_texts entry.1 v (sym entry.3.1 ∙ says.2.1) in
-        meta_found lines q ∙ ap (λ m. get m q) (sym shown.is) ∙ ap (get holds.names) (sym key) ∙ entry.2 ∙ ap Some value
+        meta_found lines q ∙ ap (λ m. get m q) (sym shown.is) ∙ ap (get holds.values) (sym key) ∙ entry.2 ∙ ap Some value
 
     pub in_if_names : (number : ℕ) → NamesLayout db number → layout_in (pairs_of lines) ≡ Some number
     in_if_names number n =
@@ -131,7 +131,7 @@ same_number a b h = cc
 pub tells_meta : (s : State) → CanBeRead s → CanReadMeta s
 tells_meta s can is_open =
     let there = can is_open in
-    record { first = laid_out there.holds there.known; names = there.contents.meta; shows = (five there.holds there.known).meta; readable = there.readable.meta }
+    record { first = laid_out there.holds there.known; values = there.contents.meta; shows = (five there.holds there.known).meta; readable = there.readable.meta }
 
 -- the error for another layout
 refuses_old : (own number : ℕ) → number < own → OldLayout number ≡ layout_error own number

@@ -26,7 +26,7 @@ use Rattle.reg_tables.proofs.MapLemmas.{get-insert-same}
 use Rattle.reg_tables.proofs.KeyedTables.{version_order}
 use Rattle.reg_store.specs.Spells.{Spells, IsSpelledEvidence, IsSpelledLayoutTwo, stored_version}
 use Rattle.reg_store.specs.Changes.{stored_after_changes}
-use Rattle.reg_store.specs.Inside.Applying.{HasNoPositions, HasTexts, PutsOwn, IsFaultOfOwn, with_ids, with_own}
+use Rattle.reg_store.specs.Inside.Applying.{HasNoPositions, HasTexts, PutsEvidence, IsFaultOfEvidence, with_ids, with_level_and_ids}
 use Rattle.reg_store.proofs.Additions.{number_is_free, spelled_row}
 use Rattle.reg_store.proofs.Evidence.{evidence_beside, evidence_more, has_no_position}
 use Rattle.reg_store.proofs.Positions.{ids_beside}
@@ -65,7 +65,7 @@ module _ (old mid new : State) (row : Row) (own : Evidence) (puts : ChangesIf ol
   has_texts : HasTexts (with_row row s.contents) row.0 own.against
   has_texts = let its = row_schema was.registry.schemas row.0 row.1 fits.0.fits in named its.0 its.1
 
-  pub spells_row : IsTrue (is_subject row.0.0) → PutsOwn mid new row.0 own → Spells new.now (stored_after_changes (AddRow row own ∷ []) was)
+  pub spells_row : IsTrue (is_subject row.0.0) → PutsEvidence mid new row.0 own → Spells new.now (stored_after_changes (AddRow row own ∷ []) was)
   spells_row within given =
       let bare_there = with_evidence row.0 (level_text own.level) (with_row row s.contents) in
       let same = ids_beside row.0 1 own.against bare_there in
@@ -73,7 +73,7 @@ module _ (old mid new : State) (row : Row) (own : Evidence) (puts : ChangesIf ol
       record {
         schema = s.schema;
         known = s.known;
-        contents = with_own row.0 own (with_row row s.contents);
+        contents = with_level_and_ids row.0 own (with_row row s.contents);
         holds = given.puts s.schema s.known (with_row row s.contents) held bare free;
         spelled = subst (λ (c : Contents). IsSpelledLayoutTwo c (stored_after_changes (AddRow row own ∷ []) was)) (sym same) (record {
           base = spelled_as (with_row row s.contents) _ was.replies (spelled_row s.contents was.registry was.replies s.spelled.base row own within fits.0) (record bare_there { against = (with_ids row.0 1 own.against bare_there).against }) (refl, refl, refl, refl);
@@ -84,5 +84,5 @@ module _ (old mid new : State) (row : Row) (own : Evidence) (puts : ChangesIf ol
         });
       }
 
-  pub row_fails : (e : Error) → IsFaultOfOwn mid new row.0 own e → IsInsertFault mid new e
+  pub row_fails : (e : Error) → IsFaultOfEvidence mid new row.0 own e → IsInsertFault mid new e
   row_fails e fails = fails s.schema s.known (with_row row s.contents) held bare free has_texts

@@ -26,7 +26,7 @@ use Rattle.reg_tables.proofs.MapLemmas.{same_or_not, tied_key}
 use Rattle.reg_tables.proofs.Tables.{shown_by}
 use Rattle.reg_rows.specs.Positions.{VersionPosition, IsContiguousFor, AreContiguous}
 use Rattle.reg_store.specs.Spells.{SpellsUnopened}
-use Rattle.reg_store.specs.Inside.TableChecks.{AreDistinct, against_fits, version_at, position_at, evidence_fits, ArePositionsInOrder, JudgesVersions, EvidenceFits, EvidencePasses, SpellsSome}
+use Rattle.reg_store.specs.Inside.TableChecks.{AreDistinct, against_fits, version_at, position_at, evidence_fits, ArePositionsInOrder, JudgesVersions, EvidenceFits, EvidenceTablesPass, SpellsSome}
 use Rattle.reg_store.proofs.EvidenceMaps.{evidence_if_spelled}
 use Rattle.reg_store.proofs.EvidenceRows.{version_listed}
 use Rattle.reg_store.proofs.LayoutTwoChecks.{all_tables_known, evidence_passes}
@@ -94,7 +94,7 @@ module _ (db : Database) (evidence : List RawEvidence) (lists : ListsEvidence db
   abbrev ids : List RawAgainst
   ids = against db versions rowids fit it
 
-  pub parts_passed : AreDistinct (map (λ (line : RawEvidence). line.rowid) evidence) × AllByRecursion evidence_fits evidence → AreDistinct rowids → length (against_rows db) ≡ length rowids → IsTrue fit → EvidencePasses db
+  pub parts_passed : AreDistinct (map (λ (line : RawEvidence). line.rowid) evidence) × AllByRecursion evidence_fits evidence → AreDistinct rowids → length (against_rows db) ≡ length rowids → IsTrue fit → EvidenceTablesPass db
   parts_passed passed apart many sure =
       let listed = lists_all db versions rowids fit it apart many in
       record {
@@ -104,7 +104,7 @@ module _ (db : Database) (evidence : List RawEvidence) (lists : ListsEvidence db
         fits = record {
           apart = passed.0;
           fit = passed.1;
-          positions_apart = subst AreDistinct (sym it.have) apart;
+          against_rowids_apart = subst AreDistinct (sym it.have) apart;
           positions_fit = fits_if_fit db versions rowids fit it sure;
           placed = (
             λ position h.
@@ -177,7 +177,7 @@ module _ (db : Database) (evidence : List RawEvidence) (lists : ListsEvidence db
         ]
 
     pub parts_apart : AreDistinct rowids
-    parts_apart = subst AreDistinct it.have fits.positions_apart
+    parts_apart = subst AreDistinct it.have fits.against_rowids_apart
 
     pub parts_counted : length (against_rows db) ≡ length rowids
     parts_counted = sym (many_lines (against_rows db) ids all) ∙ ap length it.have

@@ -9,7 +9,7 @@ use Rattle.reg_tables.specs.declared.evidence.RawEvidence.{RawEvidence}
 use Rattle.reg_tables.specs.declared.evidence.RawAgainst.{RawAgainst}
 use Rattle.reg_tables.specs.Listings.{against_rows, greatest_integer, ListsAgainstOf, ListsEvidence}
 use Rattle.reg_store.specs.Spells.{SpellsUnopened}
-use Rattle.reg_store.specs.Inside.TableChecks.{AreDistinct, evidence_fits, version_at, ArePositionsInOrder, rowids_in, JudgesVersion, JudgesVersions, JudgesIds, EvidencePasses, SpellsSome}
+use Rattle.reg_store.specs.Inside.TableChecks.{AreDistinct, evidence_fits, version_at, ArePositionsInOrder, rowids_in, JudgesVersion, JudgesVersions, JudgesIds, EvidenceTablesPass, SpellsSome}
 use Rattle.reg_store.proofs.PartsPass.{parts_passed, fits, parts_apart, parts_counted, parts_fit}
 use Rattle.reg_store.proofs.TextParts.{mapped-append}
 
@@ -61,7 +61,7 @@ module _ (db : Database) (evidence : List RawEvidence) where
   -- ---- the verdict
 
   module _ (lists : ListsEvidence db evidence) (rowids : List ℤ) (fit : Bool) (count : ℕ) (it : JudgesIds (map version_at evidence) db rowids fit count) (few : length rowids < greatest_integer) where
-    pub all_passed : AllPass evidence rowids fit count → EvidencePasses db
+    pub all_passed : AllPass evidence rowids fit count → EvidenceTablesPass db
     all_passed p =
         let many : length (against_rows db) ≡ length rowids = (let same = p.2 in let counted = it.counted in omega (arith, same, counted, few)) in
         parts_passed db evidence lists rowids fit it.judged p.1 p.3 many p.0

@@ -11,7 +11,8 @@ use Rattle.reg_store.specs.declared.error.StoreError.TheVariants.{Memory, Disk, 
 use Rattle.reg_core.specs.Stored.{Stored}
 use Rattle.reg_store.specs.Spells.{SpellsWhileOpen}
 
--- SQLite, result codes: allocation failed; the disk failed or a limit of the file was reached; or the statement doesn't fit the tables
+-- SQLite, result codes: allocation failed; the disk failed or a limit of the file was reached; or any other error, such as a statement or a value that
+-- doesn't fit the tables
 abbrev pub failure_of : Error → StoreError
 failure_of (SqliteFailure code.OutOfMemory) = Memory
 failure_of (SqliteFailure code.SystemIoFailure) = Disk

@@ -13,7 +13,7 @@ use Rattle.sqlite_rules.specs.Lists.{Has}
 use Rattle.reg_tables.specs.Layout.{HasFiveTables, versions, meta, IsOpenable, layout_two_unindexed, layout_two_indexed_last}
 use Rattle.reg_tables.specs.TableMaps.{IsEntry}
 use Rattle.reg_tables.specs.Contents.{pair_form, Contents, HoldsContents}
-use Rattle.reg_tables.specs.Reads.{HoldsMeta}
+use Rattle.reg_tables.specs.Reads.{HasReadableMeta}
 use Rattle.reg_tables.specs.Selects.{ShowsMeta}
 use Rattle.reg_rows.specs.Spelling.{Text}
 use Rattle.reg_rows.specs.Meta.{number_in}
@@ -65,7 +65,7 @@ pub record ShowsLayout (db : Database) (number : ℕ) : Type 0 where
 
 -- the database begins with the five tables, and the rows of `meta` can be read and name a layout with another number
 pub record HasOtherLayout (own : ℕ) (db : Database) (number : ℕ) : Type 0 where
-  pub holds : HoldsMeta db
+  pub holds : HasReadableMeta db
   pub names : NamesLayout db number
   pub other : number ≢ own
 

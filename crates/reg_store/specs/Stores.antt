@@ -71,9 +71,10 @@ pub record KeepsStore {S T : Type 0} {g : Ghosts S} (old new : Store S g) (resul
   pub connection : KeepsOpen (state_of old) (state_of new)
   pub settled : RecoversLastCommit (state_of new)
 
--- this project's choice: what each call of borrowed lines keeps of their store, for every result
-pub record KeepsBorrowed {S T : Type 0} {g : Ghosts S} (old new : Store S g) (result : Result T StoreError) : Type 0 where
-  -- only the lines remember a disk fault
+-- This project's choice: what `Lines::next` keeps of the store that the lines borrow, for every result. Unlike in `KeepsStore`, the
+-- store's failure flag never changes.
+pub record LinesKeepStore {S T : Type 0} {g : Ghosts S} (old new : Store S g) (result : Result T StoreError) : Type 0 where
+  -- the store's flag stays: only the lines remember a disk fault
   pub failed : has_failed new ≡ has_failed old
   pub clean : HasCleanDisk (state_of new) → HasCleanDisk (state_of old)
   -- on a clean disk, a call succeeds only over an open connection

@@ -5,7 +5,7 @@ ghost use Rattle.sqlite.specs.State.{HasCleanDisk};
 ghost use Rattle.reg_core.specs.declared.decision.Change.TheVariants.{AddRow};
 ghost use Rattle.reg_tables.specs.Frames.{state_in, RunsInTransaction, KeepsTransaction};
 ghost use Rattle.reg_store.specs.Changes.{IsKeepable, TransactionContinues};
-ghost use Rattle.reg_store.specs.Inside.Applying.{StoresChange, StoresChanges, StoresReply, IsFaultOfChange, IsFaultOfChanges, IsFaultOfReply, PutsIds, IsFaultOfIds, PutsOwn, IsFaultOfOwn};
+ghost use Rattle.reg_store.specs.Inside.Applying.{StoresChange, StoresChanges, StoresReply, IsFaultOfChange, IsFaultOfChanges, IsFaultOfReply, PutsIds, IsFaultOfIds, PutsEvidence, IsFaultOfEvidence};
 
 use crate::keep::Keep;
 use reg_core::{Change, Evidence, Row};
@@ -45,21 +45,27 @@ fn put_ids<S: Alter>(
     Ok(())
 }
 
-/// Adds the evidence of a version.
+/// Adds the evidence of a version that has none: its level, and the ids at the positions from 1 on.
+/// The version and the texts must exist.
+///
+/// # Errors
+///
+/// As `reg_tables::put_evidence` and `put_ids`. After an error a part may have been added, and the
+/// caller rolls back.
 fn put_version_evidence<S: Alter>(
     tx: &mut Transaction<'_, S>,
     subject: &str,
     number: u32,
-    own: &Evidence,
+    evidence: &Evidence,
 ) -> Result<(), Error>
     ensures frame { RunsInTransaction S.Store tx.old tx.new result }
     ensures put { HasCleanDisk (state_in S.Store tx.new)
-        → OnOk result (PutsOwn (state_in S.Store tx.old) (state_in S.Store tx.new) (subject.now, number) own.now) }
+        → OnOk result (PutsEvidence (state_in S.Store tx.old) (state_in S.Store tx.new) (subject.now, number) evidence.now) }
     ensures fault { HasCleanDisk (state_in S.Store tx.new)
-        → IfErr result (IsFaultOfOwn (state_in S.Store tx.old) (state_in S.Store tx.new) (subject.now, number) own.now) }
+        → IfErr result (IsFaultOfEvidence (state_in S.Store tx.old) (state_in S.Store tx.new) (subject.now, number) evidence.now) }
 {
-    put_evidence(tx, subject, number, own.level().text())?;
-    put_ids(tx, subject, number, own.against())
+    put_evidence(tx, subject, number, evidence.level().text())?;
+    put_ids(tx, subject, number, evidence.against())
 }
 
 /// Adds a version and its evidence.

@@ -3,7 +3,7 @@ use Rattle.std.proofs.Common.{◌≡◌, ℕ, pos, List, [], ◌∷◌, Option, 
 use Rattle.reg_tables.proofs.Kit.{get, Int, Text, Row, id_in, Database, rowid, Has, all_has, int_is}
 use Rattle.sqlite.specs.Order.{column}
 use Rattle.reg_tables.specs.Layout.{texts, versions, levels, kept, meta}
-use Rattle.reg_tables.specs.Reads.{HoldsReadable, HoldsMeta}
+use Rattle.reg_tables.specs.Reads.{HoldsReadable, HasReadableMeta}
 use Rattle.reg_tables.specs.TableMaps.{Form, IsEntry, ShowsMap}
 use Rattle.reg_tables.specs.Contents.{version_cells, text_form, version_form, pair_form, kept_form}
 use Rattle.reg_tables.proofs.Tables.{five}
@@ -20,8 +20,8 @@ pub pair_is : (row : Row) (key value : List ℕ) → rowid row ≡ Int (id_in (r
 pair_is row key value rowid_is is =
     ap (λ (r : Row). rowid row ∷ column row 1 ∷ r) is.1 ∙ ap (λ (r : Row). rowid row ∷ column r 0 ∷ Text value ∷ []) is.0 ∙ ap (λ v. v ∷ Text key ∷ Text value ∷ []) rowid_is
 
-pub readable_meta : (db : Database) (there : HoldsMeta db) (row : Row) → Has (db.trees meta.tree) row → IsReadablePair (column row 0 ∷ column row 1 ∷ column row 2 ∷ [])
-readable_meta db there row has = by_entry pair_form (db.trees meta.tree) (get there.names) there.shows row has (IsReadablePair (column row 0 ∷ column row 1 ∷ column row 2 ∷ []))
+pub readable_meta : (db : Database) (there : HasReadableMeta db) (row : Row) → Has (db.trees meta.tree) row → IsReadablePair (column row 0 ∷ column row 1 ∷ column row 2 ∷ [])
+readable_meta db there row has = by_entry pair_form (db.trees meta.tree) (get there.values) there.shows row has (IsReadablePair (column row 0 ∷ column row 1 ∷ column row 2 ∷ []))
     (λ key value rowid_is held is.
     let can = there.readable key value held in
     record { rowid = id_in (rowid row); key = key; value = value; is = pair_is row key value rowid_is is; key_utf8 = can.0; value_utf8 = can.1 })

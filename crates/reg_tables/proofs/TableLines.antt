@@ -7,7 +7,7 @@ use Rattle.reg_tables.specs.declared.autocommit.AutocommitConnection.{Autocommit
 use Rattle.reg_tables.specs.Frames.{after_begin, ReadsInAutocommit}
 use Rattle.reg_tables.specs.Lookups.{Finds}
 use Rattle.reg_tables.specs.Layout.{HasFiveTables, no_schema, HasEightTables}
-use Rattle.reg_tables.specs.Reads.{HoldsReadable, CanBeRead, HoldsMeta, HasLayout, HoldsReadableIn}
+use Rattle.reg_tables.specs.Reads.{HoldsReadable, CanBeRead, HasReadableMeta, HasLayout, HoldsReadableIn}
 use Rattle.reg_tables.specs.FailedCalls.{IsFault, IsUnreadable}
 use Rattle.reg_tables.specs.TableMaps.{Form, IsEntry, ShowsMap}
 use Rattle.reg_tables.specs.Contents.{version_form, pair_form, kept_form, PositionKey, evidence_form, against_form, TableName, Versions, Modes, Evidence, Against, Contents, AreReadable, HoldsContents, table_in, HasTable, form_of, map_of}
@@ -99,7 +99,7 @@ shows_levels = record { shown = all_levels.shown; names = all_levels.names; is =
 pub shows_kept : ShowsInFive HoldsReadable kept_form IsReadableKept all_kept
 shows_kept = record { shown = all_kept.shown; names = all_kept.names; is = asks_all_kept.is; takes = asks_all_kept.takes; whole = λ row. refl; known = of_layout; readable = readable_kept }
 
-pub shows_meta : ShowsInFive HoldsMeta pair_form IsReadablePair all_meta
+pub shows_meta : ShowsInFive HasReadableMeta pair_form IsReadablePair all_meta
 shows_meta = record { shown = all_meta.shown; names = all_meta.names; is = asks_all_meta.is; takes = asks_all_meta.takes; whole = λ row. refl; known = λ db there. there.first; readable = readable_meta }
 
 pub all_if_each : {X : Type 0} (P : X → Type 0) (xs : List X) → ((x : X) → Has xs x → P x) → All P xs

@@ -6,7 +6,7 @@ use Rattle.sqlite.specs.Order.{column}
 use Rattle.reg_tables.specs.Layout.{five_tables_then, texts, versions, added_tables}
 use Rattle.reg_tables.specs.Contents.{version_cmp, VersionEntryView, Contents, text_form, version_form, HoldsContents, TableName}
 use Rattle.reg_tables.specs.TableMaps.{IsEntry}
-use Rattle.reg_tables.specs.Changes.{altered, as_deleted, with_deleted, with_text}
+use Rattle.reg_tables.specs.Changes.{altered, as_deleted, marking_deleted, with_text}
 use Rattle.reg_tables.specs.Inside.Statements.{by_version}
 use Rattle.reg_tables.proofs.Statements.{text_terms, put_text, put_text_is, with_flag, mark_version, mark_version_is}
 use Rattle.reg_tables.proofs.WellDeclared.{IsWellDeclared, steady}
@@ -32,7 +32,7 @@ module _ (first : ℕ) (indexes : List Index) (s : IsWellDeclared (five_tables_t
       (inserts here text_form nat_cmp number_order distinct_numbers 0 texts refl old new h.declared contents.texts (h.shows TableName.Texts) id put_text (Int (pos id) ∷ Text text ∷ []) count text_terms 3
       (Int (pos id) ∷ Null ∷ Text text ∷ []) text refl (put_text_is (added_tables first) indexes) (rw (cast-Null, cast-Int (pos id))) (record { has_id = refl; has_key = refl; has_value = refl }) free ran)
 
-  pub marks_version : (key : List ℕ × ℕ) → Executes mark_version (Text key.0 ∷ Int (pos key.1) ∷ []) old new (Ok count) → HoldsContents here new.now (with_deleted key contents)
+  pub marks_version : (key : List ℕ × ℕ) → Executes mark_version (Text key.0 ∷ Int (pos key.1) ∷ []) old new (Ok count) → HoldsContents here new.now (marking_deleted key contents)
   marks_version key ran = turned here s.apart TableName.Versions versions refl old.now new.now contents h (altered contents.versions key as_deleted)
       (alters here version_form version_cmp version_order distinct_versions 1 versions refl old new h.declared contents.versions (h.shows TableName.Versions) key mark_version (Text key.0 ∷ Int (pos key.1) ∷ []) count (steady first indexes) by_version with_flag as_deleted (mark_version_is (added_tables first) indexes)
       (λ row q is. by_version_test row key q is) (λ row version is. marked_entry row key version is) ran)

@@ -2,7 +2,7 @@
 use Rattle.std.proofs.Common.{◌≡◌, ◌<◌, ◌^◌, pos, ℕ, List, [], ◌∷◌, None, Some, Ok, Err}
 use Rattle.reg_tables.proofs.Kit.{get, State, Executes, ExecutesInside, Error, Int, Text}
 use Rattle.reg_tables.specs.Contents.{version_key_cells, Contents, HoldsContents}
-use Rattle.reg_tables.specs.Changes.{with_text, with_deleted, without_version}
+use Rattle.reg_tables.specs.Changes.{with_text, marking_deleted, without_version}
 use Rattle.reg_tables.specs.Writing.{ForHeldContents, Changes, ChangesIf}
 use Rattle.reg_tables.specs.FailedCalls.{IsFault, IsPutFault, IsInsertFault}
 use Rattle.reg_tables.proofs.WellDeclared.{in_layout_two}
@@ -22,8 +22,8 @@ module _ (old new : State) where
   put_text_fails_in e id text low ran = in_layout_two (λ schema. (contents : Contents) → HoldsContents schema old.now contents → get contents.texts id ≡ None → ((other : ℕ) → get contents.texts other ≡ Some text → ⊥) → IsPutFault old new e)
       (λ first indexes high s contents holds free unheld. put_text_fails first indexes high s old new contents holds e id text low free unheld ran)
 
-  pub marks_version_in : (count : ℕ) (key : List ℕ × ℕ) → Executes mark_version (version_key_cells key) old new (Ok count) → Changes old new (with_deleted key)
-  marks_version_in count key ran = in_layout_two (λ schema. (contents : Contents) → HoldsContents schema old.now contents → HoldsContents schema new.now (with_deleted key contents)) (λ first indexes high s contents holds. marks_version first indexes s old new count contents holds key ran)
+  pub marks_version_in : (count : ℕ) (key : List ℕ × ℕ) → Executes mark_version (version_key_cells key) old new (Ok count) → Changes old new (marking_deleted key)
+  marks_version_in count key ran = in_layout_two (λ schema. (contents : Contents) → HoldsContents schema old.now contents → HoldsContents schema new.now (marking_deleted key contents)) (λ first indexes high s contents holds. marks_version first indexes s old new count contents holds key ran)
 
   pub mark_version_fails_in : (e : Error) (key : List ℕ × ℕ) → ExecutesInside 0 mark_version (version_key_cells key) old new (Err e) → ForHeldContents old (λ contents. IsInsertFault old new e)
   mark_version_fails_in e key ran = in_layout_two (λ schema. (contents : Contents) → HoldsContents schema old.now contents → IsInsertFault old new e) (λ first indexes high s contents holds. mark_version_fails first indexes high s old new contents holds e key ran)

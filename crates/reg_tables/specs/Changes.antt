@@ -68,8 +68,9 @@ altered m key change = unwrap_or (option_map (λ value. insert m key (change val
 abbrev pub as_deleted : VersionEntryView → VersionEntryView
 as_deleted version = record version { deleted = true }
 
-abbrev pub with_deleted : List ℕ × ℕ → Contents → Contents
-with_deleted key contents = record contents { versions = altered contents.versions key as_deleted }
+-- the contents with this version marked as deleted; unchanged if there is no such version
+abbrev pub marking_deleted : List ℕ × ℕ → Contents → Contents
+marking_deleted key contents = record contents { versions = altered contents.versions key as_deleted }
 
 -- ---- a new registry
 

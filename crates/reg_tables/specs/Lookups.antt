@@ -12,7 +12,8 @@ use Rattle.reg_tables.specs.Frames.{conn_state, ReadsInAutocommit}
 use Rattle.reg_tables.specs.Reads.{CanBeReadIn, HasTablesIn}
 use Rattle.reg_tables.specs.FailedCalls.{IsFault, IsUnreadable}
 
--- A call that reads this table changes nothing. If the tables hold some contents, an Ok describes them. If the contents are readable, an Err is a fault.
+-- A call that reads this table commits nothing. On a clean disk: if the schema has this table and the tables hold some contents, an Ok describes them.
+-- An Err is a fault if the connection was closed, or if the schema has this table and the contents of all tables are readable.
 pub record Finds {S X : Type 0} {g : Ghosts S} (name : TableName) (old new : AutocommitConnection S g) (result : Result X Error) (Tells : Contents → X → Type 0) : Type 0 where
   pub frame : ReadsInAutocommit g old.conn new.conn result
   pub found : HasCleanDisk (conn_state new) → IfOk result (λ x. (schema : Schema) → HasTable name schema → (contents : Contents) → HoldsContents schema (conn_state old).now contents → Tells contents x)

@@ -32,16 +32,16 @@ HoldsReadable = HoldsReadableIn HasFiveTables
 abbrev pub CanBeRead : State → Type 0
 CanBeRead = CanBeReadIn HasFiveTables
 
--- the database begins with the five tables, and the names and values in `meta` are readable
-pub record HoldsMeta (db : Database) : Type 0 where
+-- the schema begins with the five tables, and the rows of `meta` are a map from names to values, all UTF-8
+pub record HasReadableMeta (db : Database) : Type 0 where
   pub first : HasFiveTables db.schema
-  pub names : TextMap (List ℕ)
-  pub shows : ShowsMap pair_form (db.trees meta.tree) (get names)
-  pub readable : (name value : List ℕ) → get names name ≡ Some value → IsUtf8 name × IsUtf8 value
+  pub values : TextMap (List ℕ)
+  pub shows : ShowsMap pair_form (db.trees meta.tree) (get values)
+  pub readable : (name value : List ℕ) → get values name ≡ Some value → IsUtf8 name × IsUtf8 value
 
 -- while the connection is open, its `meta` is readable
 abbrev pub CanReadMeta : State → Type 0
-CanReadMeta s = IsTrue s.is_open → HoldsMeta s.now
+CanReadMeta s = IsTrue s.is_open → HasReadableMeta s.now
 
 -- while the connection is open, the database has one of these schemas, with any rows
 abbrev pub HasTablesIn : (Schema → Type 0) → State → Type 0

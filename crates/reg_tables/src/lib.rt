@@ -18,7 +18,10 @@
 //! - an *insert error* is a write error, `TooBig` for a row that is too large, or `NoRowid` or
 //!   `ConstraintViolation(PrimaryKey)` if the row's rowid is out of range or taken.
 //!
-//! A function may return any other error if the database lacks the tables that it needs.
+//! A function may return any other error if the database lacks the tables that it needs. A function
+//! that reads may also return any other error if the tables *can't be read*: a table that it needs
+//! is missing, or in some table a cell has another type, is out of range or isn't UTF-8, or two
+//! rows have the same key.
 
 #![tactic(auto)]
 

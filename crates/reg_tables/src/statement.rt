@@ -68,11 +68,13 @@ pub(crate) trait FromRow: Sized {
     // The rows that can be read.
     ghost is_readable: { SqlRow → Type 0 };
 
+    /// Reads the value. A readable row fails only by `OutOfMemory`, any other row also because a
+    /// column can't be converted.
     fn read(row: &Row) -> Result<Self, Error>
-        ensures ok { IfOk result (λ line. shown row.now ≡ cells line) }
+        ensures ok { IfOk result (λ value. shown row.now ≡ cells value) }
         ensures err { IfErr result (λ e. is_readable row.now
             → e ≡ Error.SqliteFailure ErrorCode.OutOfMemory) }
-        ensures named { IfErr result IsReadingError };
+        ensures reading_error { IfErr result IsReadingError };
 }
 
 /// The values of the rows. Each row is dropped after it is read: only one row's texts are in memory

@@ -7,7 +7,7 @@ ghost use Rattle.reg_tables.specs.Frames.{state_in, RunsInTransaction};
 ghost use Rattle.sqlite.specs.State.{HasCleanDisk};
 ghost use Rattle.reg_tables.specs.Contents.{VersionEntryView, version_cells, TableName, flag_cell, version_form};
 ghost use Rattle.reg_tables.specs.Lookups.{Finds, ListsTable};
-ghost use Rattle.reg_tables.specs.Changes.{without_version, with_version, with_deleted};
+ghost use Rattle.reg_tables.specs.Changes.{without_version, with_version, marking_deleted};
 ghost use Rattle.reg_tables.specs.Writing.{AppliesChange, ForHeldContents, ChangesIf};
 ghost use Rattle.reg_tables.specs.FailedCalls.{IsWriteFault, IsInsertFault};
 ghost use Rattle.reg_tables.specs.Entries.{version_entry_view};
@@ -169,7 +169,7 @@ pub fn mark_deleted<S: Alter>(
     subject: &str,
     number: u32,
 ) -> Result<(), Error>
-    ensures { AppliesChange IsInsertFault S.Store tx.old tx.new result (with_deleted (subject.now, number)) }
+    ensures { AppliesChange IsInsertFault S.Store tx.old tx.new result (marking_deleted (subject.now, number)) }
 {
     run(
         tx,

@@ -38,8 +38,9 @@ pub fn some_versions_of_id<S: Alter>(
 }
 
 /// The version of a subject with the greatest number among those with this id, or `None`. Deleted
-/// versions count only if `deleted` is `true`. The query reads the subject's versions in descending
-/// order.
+/// versions count only if `deleted` is `true`: in the SQL `?3` is then 1, else 0. The query reads
+/// the subject's versions from the greatest number down to the first match, so it doesn't matter
+/// how many other subjects have the id.
 ///
 /// # Errors
 ///

@@ -54,8 +54,8 @@ with_ids key n [] contents = contents
 with_ids key n (id ∷ ids) contents = with_ids key (n + 1) ids (with_against (key, n) id contents)
 
 -- the contents with this evidence of the version
-abbrev pub with_own : RowKey → Evidence → Contents → Contents
-with_own key own contents = with_ids key 1 own.against (with_evidence key (level_text own.level) contents)
+abbrev pub with_level_and_ids : RowKey → Evidence → Contents → Contents
+with_level_and_ids key own contents = with_ids key 1 own.against (with_evidence key (level_text own.level) contents)
 
 -- the version has no ids
 abbrev pub HasNoPositions : Contents → RowKey → Type 0
@@ -76,13 +76,13 @@ abbrev pub IsFaultOfIds : State → State → RowKey → List ℕ → Error → 
 IsFaultOfIds old new key ids e = (schema : Schema) → IsLayoutTwo schema → (contents : Contents) → HoldsContents schema old.now contents → HasNoPositions contents key → HasTexts contents key ids → IsInsertFault old new e
 
 -- if the version had no evidence, it now has this
-pub record PutsOwn (old new : State) (key : RowKey) (own : Evidence) : Type 0 where
+pub record PutsEvidence (old new : State) (key : RowKey) (own : Evidence) : Type 0 where
   pub few : length own.against < 2 ^ 32
-  pub puts : (schema : Schema) → IsLayoutTwo schema → (contents : Contents) → HoldsContents schema old.now contents → get contents.evidence key ≡ None → HasNoPositions contents key → HoldsContents schema new.now (with_own key own contents)
+  pub puts : (schema : Schema) → IsLayoutTwo schema → (contents : Contents) → HoldsContents schema old.now contents → get contents.evidence key ≡ None → HasNoPositions contents key → HoldsContents schema new.now (with_level_and_ids key own contents)
 
 -- adding the evidence fails only for a reason that every write has
-abbrev pub IsFaultOfOwn : State → State → RowKey → Evidence → Error → Type 0
-IsFaultOfOwn old new key own e = (schema : Schema) → IsLayoutTwo schema → (contents : Contents) → HoldsContents schema old.now contents → get contents.evidence key ≡ None → HasNoPositions contents key → HasTexts contents key own.against → IsInsertFault old new e
+abbrev pub IsFaultOfEvidence : State → State → RowKey → Evidence → Error → Type 0
+IsFaultOfEvidence old new key own e = (schema : Schema) → IsLayoutTwo schema → (contents : Contents) → HoldsContents schema old.now contents → get contents.evidence key ≡ None → HasNoPositions contents key → HasTexts contents key own.against → IsInsertFault old new e
 
 -- ---- adding the index
 

@@ -116,7 +116,7 @@ version_at line = (string_bytes line.subject, line.version)
 abbrev pub position_at : RawAgainst → VersionPosition
 position_at line = ((string_bytes line.subject, line.version), line.position)
 
--- each version with ids has evidence, and its ids are at consecutive positions
+-- each version with ids has evidence, and its ids are at the positions from 1 to their number
 abbrev pub AreInSequence : List RawEvidence → List RawAgainst → Type 0
 AreInSequence evidence against = HaveEvidence (map version_at evidence) (map position_at against) × AreContiguous (map position_at against)
 
@@ -126,11 +126,12 @@ ModesPass = Passes ListsModes (λ line. line.rowid) mode_fits
 pub record EvidenceFits (evidence : List RawEvidence) (against : List RawAgainst) : Type 0 where
   pub apart : AreDistinct (map (λ (line : RawEvidence). line.rowid) evidence)
   pub fit : AllByRecursion evidence_fits evidence
-  pub positions_apart : AreDistinct (map (λ (line : RawAgainst). line.rowid) against)
+  pub against_rowids_apart : AreDistinct (map (λ (line : RawAgainst). line.rowid) against)
   pub positions_fit : AllByRecursion against_fits against
   pub placed : AreInSequence evidence against
 
-pub record EvidencePasses (db : Database) : Type 0 where
+-- the rows of `evidence` and `against` pass their checks: each table by itself, and both together
+pub record EvidenceTablesPass (db : Database) : Type 0 where
   pub evidence : List RawEvidence
   pub against : List RawAgainst
   pub lists : ListsEvidence db evidence × ListsAgainst db against
@@ -139,7 +140,7 @@ pub record EvidencePasses (db : Database) : Type 0 where
 -- the tables that layout 2 added pass their checks: `modes` by itself, `evidence` and `against` together
 pub record AddedTablesPass (db : Database) : Type 0 where
   pub modes : ModesPass db
-  pub evidence : EvidencePasses db
+  pub evidence : EvidenceTablesPass db
 
 pub record AllTablesPass (db : Database) : Type 0 where
   pub base : BaseTablesPass Two db

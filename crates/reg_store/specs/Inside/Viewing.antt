@@ -43,7 +43,7 @@ pub record AreSome (rows all : List Row) : Type 0 where
 abbrev pub is_shown_of : Bool → List ℕ → Row → Bool
 is_shown_of deleted subject row = bytes_eq row.0.0 subject && (deleted || not row.1.deleted)
 
--- the last shown version of the subject among these, or `None`
+-- The subject's version with the greatest number among these, or `None`. Deleted ones count only if the flag is set. The list may be in any order.
 abbrev pub IsLastShown : Bool → List ℕ → List Row → Option Row → Type 0
 IsLastShown deleted subject rows None = All (λ row. is_shown_of deleted subject row ≡ false) rows
 IsLastShown deleted subject rows (Some last) =

@@ -160,15 +160,16 @@ fn some_row<S: Alter>(alloc: Global, db: &mut Conn<S>, id: u32) -> Result<Vec<Ro
 {
     match any_version_of_id(&mut db.idle, id)? {
         None => Ok(Vec::new(alloc)),
-        Some(line) => one_row(alloc, line),
+        Some(line) => row_list_of_listed(alloc, line),
     }
 }
 
-fn one_row(alloc: Global, line: ListedVersion) -> Result<Vec<Row>, StoreError>
-    ensures ok { IfOk result (λ rows. rows.items ≡ row_spelled (listed_version_view line) ∷ []) }
-    ensures err { IfErr result (λ e. HasSubject line → e ≡ Memory) }
+/// The row as a list of one version; `NotARegistry` if its subject isn't valid.
+fn row_list_of_listed(alloc: Global, listed: ListedVersion) -> Result<Vec<Row>, StoreError>
+    ensures ok { IfOk result (λ rows. rows.items ≡ row_spelled (listed_version_view listed) ∷ []) }
+    ensures err { IfErr result (λ e. HasSubject listed → e ≡ Memory) }
 {
     let mut rows = Vec::new(alloc);
-    push_row(&mut rows, row_in(line)?)?;
+    push_row(&mut rows, row_in(listed)?)?;
     Ok(rows)
 }

@@ -4,7 +4,7 @@ ghost use Rattle.std.specs.Prelude.{◌≡◌, [], List, None, Some, Err, IfOk, 
 ghost use Rattle.sqlite.specs.State.{HasCleanDisk};
 ghost use Rattle.reg_core.specs.Registry.{Registry};
 ghost use Rattle.reg_store.specs.declared.listing.Listing.{Listing};
-ghost use Rattle.reg_store.specs.Stores.{state_of, has_failed, KeepsBorrowed, AnswersFromStored};
+ghost use Rattle.reg_store.specs.Stores.{state_of, has_failed, LinesKeepStore, AnswersFromStored};
 ghost use Rattle.reg_store.specs.Listings.{Fields};
 ghost use Rattle.reg_store.specs.NextLines.{IsCursorAt, store_of, failure_in, HasYielded, YieldsNext};
 ghost use Rattle.reg_store.specs.Lending.{StoreRests};
@@ -83,7 +83,7 @@ impl<S: Alter> Lines<'_, S> {
     /// call returns the same error. No call changes the store, which doesn't remember the error.
     pub fn next(&mut self) -> Result<Option<Vec<String>>, StoreError>
         ensures same_reference { self.new.store.ghost_name ≡ self.old.store.ghost_name }
-        ensures frame { KeepsBorrowed (store_of self.old) (store_of self.new) result }
+        ensures frame { LinesKeepStore (store_of self.old) (store_of self.new) result }
         ensures tells { HasCleanDisk (state_of (store_of self.new)) → AnswersFromStored
             (state_of (store_of self.old)) (state_of (store_of self.new)) (failure_in self.old ≡ None) result
             (λ was line. (kind : Listing) (done : List Fields)

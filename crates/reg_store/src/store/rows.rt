@@ -13,7 +13,9 @@ ghost use Rattle.reg_store.specs.Inside.Reads.{MayRead, Reads};
 use crate::conn::Conn;
 use crate::error::StoreError;
 use crate::store::chosen::{chosen_rows, one_row_of};
-use crate::store::sufficient_rows::{compared_rows, deleted_rows, looked_up_rows, registered_rows};
+use crate::store::sufficient_rows::{
+    compared_rows, deleted_rows, looked_up_rows, rows_to_register,
+};
 use reg_core::{Level, OutOfMemory, Row, RowsNeeded, Subject, SubjectRows};
 use reg_tables::{ListedVersion, SubjectVersion, all_versions, versions_of, versions_of_id};
 use sqlite::Alter;
@@ -67,7 +69,7 @@ fn purpose_rows<S: Alter>(
         }
         SubjectRows::ToLookUp { deleted } => looked_up_rows(alloc, db, subject, deleted, known),
         SubjectRows::ToCompare => compared_rows(alloc, db, subject, level),
-        SubjectRows::ToRegister => registered_rows(alloc, db, subject, level, known),
+        SubjectRows::ToRegister => rows_to_register(alloc, db, subject, level, known),
     }
 }
 

@@ -15,8 +15,9 @@ use reg_tables::{RawMeta, raw_meta};
 use sqlite::Alter;
 use std::alloc::Global;
 
-/// The own and the global level, and the own and the global mode. A pair that isn't needed may be
-/// a placeholder.
+/// The subject's own level (`None` if it has none, or without a subject) and the global level, then
+/// the same two of modes. The levels may be placeholders unless `needs.levels` is set, the modes
+/// unless `needs.modes` is set.
 pub(crate) fn settings_for<S: Alter>(
     alloc: Global,
     db: &mut Conn<S>,
@@ -32,14 +33,15 @@ pub(crate) fn settings_for<S: Alter>(
         × (settings.1.1 ≡ was.registry.global_mode))) }
 {
     if needs.modes {
-        return with_modes(alloc, db, subject, needs.levels);
+        return settings_with_modes(alloc, db, subject, needs.levels);
     }
     let levels = levels_for(db, subject, needs.levels)?;
     Ok((levels, (None, Mode::Readwrite)))
 }
 
-/// The modes and the global level, and the subject's own level if it is needed.
-fn with_modes<S: Alter>(
+/// As `settings_for` if the modes are needed. Without `needs_levels` the levels may be
+/// placeholders.
+fn settings_with_modes<S: Alter>(
     alloc: Global,
     db: &mut Conn<S>,
     subject: Option<&Subject>,
@@ -53,9 +55,9 @@ fn with_modes<S: Alter>(
         × (settings.1.1 ≡ was.registry.global_mode))) }
 {
     let globals = globals(alloc, db)?;
-    let level = own_level_for(db, subject, needs_levels)?;
-    let mode = own_mode_for(db, subject)?;
-    Ok(((level, globals.0), (mode, globals.1)))
+    let own_level = own_level_for(db, subject, needs_levels)?;
+    let own_mode = own_mode_for(db, subject)?;
+    Ok(((own_level, globals.0), (own_mode, globals.1)))
 }
 
 /// The global level and the global mode in one read.

@@ -1,7 +1,7 @@
 //! The next line of a listing after a cursor.
 
 ghost use Rattle.std.specs.Prelude.{ℕ, None};
-ghost use Rattle.reg_store.specs.Stores.{KeepsBorrowed};
+ghost use Rattle.reg_store.specs.Stores.{LinesKeepStore};
 ghost use Rattle.reg_store.specs.declared.listing.Listing.{Listing};
 ghost use Rattle.reg_store.specs.NextLines.{IsCursorAt, IsNextLine};
 ghost use Rattle.reg_store.specs.Inside.Reads.{Reads};
@@ -24,7 +24,7 @@ impl<S: Alter> Store<S> {
         &mut self,
         cursor: Cursor,
     ) -> Result<(Option<Vec<String>>, Cursor), StoreError>
-        ensures frame { KeepsBorrowed self.old self.new result }
+        ensures frame { LinesKeepStore self.old self.new result }
         ensures reads { Reads self.old.db self.new.db result (λ was found.
             (kind : Listing) (count : ℕ) → IsCursorAt kind was.registry count cursor → IsNextLine kind was.registry count found) }
     {

@@ -74,19 +74,20 @@ pub(crate) fn compared_rows<S: Alter>(
     last_rows(alloc, db, subject, false)
 }
 
-/// The versions that suffice to register a schema: a live one with its id, else those of
-/// `new_schema_rows`.
-pub(crate) fn registered_rows<S: Alter>(
+/// The versions that suffice to register the schema with id `known_id` (`None` for a new one): a
+/// live version that has the id, else the last and the last live version, or all if the level is
+/// transitive.
+pub(crate) fn rows_to_register<S: Alter>(
     alloc: Global,
     db: &mut Conn<S>,
     subject: &Subject,
     level: Level,
-    known: Option<u32>,
+    known_id: Option<u32>,
 ) -> Result<Vec<Row>, StoreError>
     ensures { Reads db.old db.new result (λ was rows.
-        SufficeToRegister level known rows.items (rows_of was.registry subject.now)) }
+        SufficeToRegister level known_id rows.items (rows_of was.registry subject.now)) }
 {
-    match known {
+    match known_id {
         Some(id) => known_schema_rows(alloc, db, subject, level, id),
         None => new_schema_rows(alloc, db, subject, level),
     }

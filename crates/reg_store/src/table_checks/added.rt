@@ -5,7 +5,7 @@ ghost use Rattle.std.specs.List.{AllByRecursion};
 ghost use Rattle.reg_tables.specs.Listings.{ListsEvidence, HasAgainstRows, greatest_integer};
 ghost use Rattle.reg_rows.specs.Positions.{position_view};
 ghost use Rattle.reg_store.specs.Failures.{HasNoLayoutNumber};
-ghost use Rattle.reg_store.specs.Inside.TableChecks.{AreDistinct, mode_fits, evidence_fits, against_fits, version_at, position_at, ArePositionsInOrder, rowids_in, JudgesVersion, JudgesIds, ModesPass, EvidencePasses, AddedTablesPass, ChecksAllTables};
+ghost use Rattle.reg_store.specs.Inside.TableChecks.{AreDistinct, mode_fits, evidence_fits, against_fits, version_at, position_at, ArePositionsInOrder, rowids_in, JudgesVersion, JudgesIds, ModesPass, EvidenceTablesPass, AddedTablesPass, ChecksAllTables};
 
 use crate::conn::Conn;
 use crate::error::StoreError;
@@ -207,7 +207,7 @@ fn pass_evidence(alloc: Global, evidence: &[RawEvidence], ids: Ids) -> Result<bo
 }
 
 fn check_evidence<S: Alter>(alloc: Global, db: &mut Conn<S>) -> Result<(), StoreError>
-    ensures tests { ChecksAllTables db.old db.new result (λ _. EvidencePasses) }
+    ensures tests { ChecksAllTables db.old db.new result (λ _. EvidenceTablesPass) }
     ensures plain { IfErr result HasNoLayoutNumber }
 {
     let _idle = db.idle.conn.is_autocommit();

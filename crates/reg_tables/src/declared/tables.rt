@@ -33,8 +33,10 @@ impl Form<Column> for ColumnForm {
 
     fn declares(&self, item: &Column) -> bool {
         match self {
-            ColumnForm::Nullable(name, kind) => has_type(item, name, *kind) && !item.not_null,
-            ColumnForm::Required(name, kind) => has_type(item, name, *kind) && item.not_null,
+            ColumnForm::Nullable(name, kind) => is_declared_but_for_null(item, name, *kind)
+                && !item.not_null,
+            ColumnForm::Required(name, kind) => is_declared_but_for_null(item, name, *kind)
+                && item.not_null,
         }
     }
 }
@@ -76,7 +78,9 @@ fn has_no_extras(table: &Table) -> bool
     table.computed.as_slice().is_empty() && has_no_stamps(&table.stamps) && !table.is_counted
 }
 
-fn has_type(column: &Column, name: &[u8], kind: Kind) -> bool
+/// Whether a column of a STRICT table is as declared, apart from NOT NULL: name and type as given,
+/// default NULL, compared by bytes.
+fn is_declared_but_for_null(column: &Column, name: &[u8], kind: Kind) -> bool
     ensures { IsTrue result ↔ (column.now ≡ record column.now {
       name = name.now;
       kind = kind;

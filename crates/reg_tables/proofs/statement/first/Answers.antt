@@ -28,7 +28,7 @@ returns-in_err-read-in-Some-clause-failed g c clean =
     let shown = c.in_ok-rows.ensures.shown clean in
     let row = c.in-Some.ensures.value ∙ ap (λ (l : List Row). slice_get l 0) c.deref.ensures.value in
     if_err_is c.from_residual-in_err-read-in-Some.result _ c.in_err-read-in-Some.field-0.0 c.from_residual-in_err-read-in-Some.ensures.1
-    (shown.0, inr (c.in_ok-rows.rows.items, shown.1, (λ all. c.in_err-read-in-Some.ensures.err (first_of_all g.L.FromRow.is_readable c.in_ok-rows.rows.items c.in-Some.row.now row all)), c.in_err-read-in-Some.ensures.named))
+    (shown.0, inr (c.in_ok-rows.rows.items, shown.1, (λ all. c.in_err-read-in-Some.ensures.err (first_of_all g.L.FromRow.is_readable c.in_ok-rows.rows.items c.in-Some.row.now row all)), c.in_err-read-in-Some.ensures.reading_error))
 
 pub returns-in_err-rows-clause-frame : goal.returns-in_err-rows-clause-frame
 returns-in_err-rows-clause-frame g c = stays_unread g.S.Store c.args.db.now.conn c.ask.new.db.conn c.from_residual.result c.in_err-rows.field-0.0 c.in_err-rows.ensures.frame c.from_residual.ensures.1

@@ -28,6 +28,6 @@ returns-in-Some g c =
     let found = rw c.in-Some.is at (c.in_ok-any_version_of_id.ensures.found clean it.schema it.first it.contents it.holds) in
     let entry = listed_version_view c.in-Some.line in
     let version = was_written stored_version (get was.registry.rows entry.0) entry.1 (sym (it.spelled.versions entry.0) ∙ found.0) in
-    match_of c.one_row.result
+    match_of c.row_list_of_listed.result
     (λ rows is. ap (λ items. map (λ (row : Row). row.1.id) (latest items)) is ∙ (ap (λ n. n ∷ []) found.1 ∙ sym (version_told it.contents was.registry it.spelled.versions c.args.id entry.0 entry.1 found.0 found.1)))
-    (λ e only. by_memory (state g.S.Store c.args.db.now.idle.conn) (state g.S.Store c.any_version_of_id.new.db.conn) e (only (it.spelled.registered entry.0 version.0 version.1))) c.one_row.ensures.ok c.one_row.ensures.err)
+    (λ e only. by_memory (state g.S.Store c.args.db.now.idle.conn) (state g.S.Store c.any_version_of_id.new.db.conn) e (only (it.spelled.registered entry.0 version.0 version.1))) c.row_list_of_listed.ensures.ok c.row_list_of_listed.ensures.err)
