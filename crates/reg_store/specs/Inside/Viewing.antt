@@ -41,13 +41,13 @@ pub record AreSome (rows all : List Row) : Type 0 where
   pub few : length rows < versions_limit → (row : Row) → Contains all row → Contains rows row
 
 abbrev pub is_shown_of : Bool → List ℕ → Row → Bool
-is_shown_of deleted subject row = bytes_eq row.0.0 subject && (deleted || not row.1.deleted)
+is_shown_of shows_deleted subject row = bytes_eq row.0.0 subject && (shows_deleted || not row.1.deleted)
 
--- The subject's version with the greatest number among these, or `None`. Deleted ones count only if the flag is set. The list may be in any order.
+-- The subject's version with the greatest number among these, or `None`. Deleted versions count only if `shows_deleted`. The list may be in any order.
 abbrev pub IsLastShown : Bool → List ℕ → List Row → Option Row → Type 0
-IsLastShown deleted subject rows None = All (λ row. is_shown_of deleted subject row ≡ false) rows
-IsLastShown deleted subject rows (Some last) =
-    Contains rows last × (is_shown_of deleted subject last ≡ true) × All (λ row. is_shown_of deleted subject row ≡ true → row.0.1 ≤ last.0.1) rows
+IsLastShown shows_deleted subject rows None = All (λ row. is_shown_of shows_deleted subject row ≡ false) rows
+IsLastShown shows_deleted subject rows (Some last) =
+    Contains rows last × (is_shown_of shows_deleted subject last ≡ true) × All (λ row. is_shown_of shows_deleted subject row ≡ true → row.0.1 ≤ last.0.1) rows
 
 -- the version with the greater number
 abbrev pub IsLaterOf : Option ListedVersion → ListedVersion → ListedVersion → Type 0
