@@ -161,8 +161,8 @@ module _ {S X : Type 0} (g : Ghosts S) (old new : Held S) where
 
 module _ {S X Y : Type 0} {Declared : Schema → Type 0} {Spelled : Database → Type 0} {P : Y → Database → Type 0} (g : Ghosts S) (old new : Held S) where
   -- reading the table failed
-  pub test_unread : {CanBeRead : Type 0} (r : Result Y StoreError) (e : Error) → ((IsTrue (state g old).is_open → Spelled (state g old).now) → CanBeRead) → old.step_limit ≡ None → ReadsInAutocommit {X = X} {E = Error} g old new (Err e)
-      → (HasCleanDisk (state g new) → CanBeRead → IsFault (state g old) (state g new) e)
+  pub test_unread : {Readable : Type 0} (r : Result Y StoreError) (e : Error) → ((IsTrue (state g old).is_open → Spelled (state g old).now) → Readable) → old.step_limit ≡ None → ReadsInAutocommit {X = X} {E = Error} g old new (Err e)
+      → (HasCleanDisk (state g new) → Readable → IsFault (state g old) (state g new) e)
       → (HasCleanDisk (state g new) → (IsTrue (state g old).is_open → Declared (state g old).now.schema) → IsFault (state g old) (state g new) e ⊎ IsUnreadable e) → IsErrAnd r (λ failure. failure ≡ failure_of e) → Checks Declared Spelled g old new r P
   test_unread (Ok x) e can unlimited f fault told is = absurd is
   test_unread (Err failure) e can unlimited f fault told is = record {

@@ -20,8 +20,8 @@ pub record Finds {S X : Type 0} {g : Ghosts S} (name : TableName) (old new : Aut
   pub fault : HasCleanDisk (conn_state new) → IfErr result (λ e. CanBeReadIn (HasTable name) (conn_state old) → IsFault (conn_state old) (conn_state new) e)
 
 -- A call that lists a table changes nothing. If the table is declared, an Ok lists its rows, and an Err is a fault or an unreadable row. If the table is readable, an Err is a fault.
-pub record ListsTable {S L : Type 0} {g : Ghosts S} (old new : AutocommitConnection S g) (result : Result (Vec L Global) Error) (IsDeclared : Schema → Type 0) (CanBeRead : State → Type 0) (Describes : Database → List L → Type 0) : Type 0 where
+pub record ListsTable {S L : Type 0} {g : Ghosts S} (old new : AutocommitConnection S g) (result : Result (Vec L Global) Error) (IsDeclared : Schema → Type 0) (IsReadable : State → Type 0) (Describes : Database → List L → Type 0) : Type 0 where
   pub frame : ReadsInAutocommit g old.conn new.conn result
   pub listed : HasCleanDisk (conn_state new) → IfOk result (λ lines. IsDeclared (conn_state old).now.schema → Describes (conn_state old).now lines.items)
-  pub fault : HasCleanDisk (conn_state new) → IfErr result (λ e. CanBeRead (conn_state old) → IsFault (conn_state old) (conn_state new) e)
+  pub fault : HasCleanDisk (conn_state new) → IfErr result (λ e. IsReadable (conn_state old) → IsFault (conn_state old) (conn_state new) e)
   pub fault_or_unreadable : HasCleanDisk (conn_state new) → IfErr result (λ e. HasTablesIn IsDeclared (conn_state old) → IsFault (conn_state old) (conn_state new) e ⊎ IsUnreadable e)
