@@ -45,7 +45,7 @@ module _ {S : Type 0} {g : Ghosts S} where
   }
 
   -- one more call
-  pub keeps_then : {T Goes : Type 0} {Describes : Stored → T → Type 0} (a b c : Store S g) (r : Result T StoreError) → Keeps a b → LinesKeepStore b c r → (HasCleanDisk (state_of c) → AnswersFromStored (state_of b) (state_of c) Goes r Describes) → Keeps a c
+  pub keeps_then : {T Goes : Type 0} {IsRightFor : Stored → T → Type 0} (a b c : Store S g) (r : Result T StoreError) → Keeps a b → LinesKeepStore b c r → (HasCleanDisk (state_of c) → AnswersFromStored (state_of b) (state_of c) Goes r IsRightFor) → Keeps a c
   keeps_then a b c r p q tells = record {
     failed = q.failed ∙ p.failed;
     clean = λ clean. p.clean (q.clean clean);
@@ -60,7 +60,7 @@ module _ {S : Type 0} {g : Ghosts S} where
   keeps_listed old new r p was_open = record { failed = p.failed; clean = p.clean; was_open = was_open; connection = p.connection; settled = p.settled }
 
   -- a fault of the last call is a fault of all calls
-  pub fault_on : {T Goes : Type 0} {Describes : Stored → T → Type 0} (a b c : Store S g) (e : StoreError) → Keeps a b → LinesKeepStore {T = T} b c (Err e) → HasCleanDisk (state_of c) → AnswersFromStored {T = T} (state_of b) (state_of c) Goes (Err e) Describes → Goes
+  pub fault_on : {T Goes : Type 0} {IsRightFor : Stored → T → Type 0} (a b c : Store S g) (e : StoreError) → Keeps a b → LinesKeepStore {T = T} b c (Err e) → HasCleanDisk (state_of c) → AnswersFromStored {T = T} (state_of b) (state_of c) Goes (Err e) IsRightFor → Goes
       → IsFaultOver (state_of a) (state_of c) e
   fault_on a b c e p q clean tells going was over =
       let early = q.clean clean in

@@ -85,8 +85,8 @@ pub goes_on : {S T : Type 0} {g : Ghosts S} {old new : Store S g} {x : T} → Ke
 goes_on keeps failed = let is = keeps.failed_now.1 failed in absurd (cc)
 
 -- a call that only reads the store, and fails if the read fails
-module _ {S T : Type 0} {g : Ghosts S} {Describes : Stored → T → Type 0} {OnlyFaultReplies : Type 0} {old new : Store S g} where
-  pub keeps_reading : {r : Result T StoreError} → ReadsStore old new r Describes → (OnOk r ⊥ → OnlyFaultReplies) → PreservesStore old new OnlyFaultReplies
+module _ {S T : Type 0} {g : Ghosts S} {IsRightFor : Stored → T → Type 0} {OnlyFaultReplies : Type 0} {old new : Store S g} where
+  pub keeps_reading : {r : Result T StoreError} → ReadsStore old new r IsRightFor → (OnOk r ⊥ → OnlyFaultReplies) → PreservesStore old new OnlyFaultReplies
   keeps_reading {r} reads none = record {
     failed = λ failed. let was = reads.frame.failed_before failed in (none (subst (λ (q : Result T StoreError). OnOk q ⊥) (sym was.0) tt), subst (λ (s : Store S g). IsTrue (has_failed s)) (sym was.1) failed);
     closed = λ clean is_closed. (none (fails r (reads.frame.was_open clean) is_closed), (reads.tells clean).crash);
@@ -99,7 +99,7 @@ module _ {S T : Type 0} {g : Ghosts S} {Describes : Stored → T → Type 0} {On
       fails (Err e) is_open is_closed = tt
 
   -- a successful read, and then a call of a service
-  pub keeps_read_then : {x : T} {mid : Store S g} → ReadsStore old mid (Ok x) Describes → PreservesStore mid new OnlyFaultReplies → PreservesStore old new OnlyFaultReplies
+  pub keeps_read_then : {x : T} {mid : Store S g} → ReadsStore old mid (Ok x) IsRightFor → PreservesStore mid new OnlyFaultReplies → PreservesStore old new OnlyFaultReplies
   keeps_read_then {x} {mid} reads one = record {
     failed = λ failed. absurd (let was = (reads.frame.failed_before failed).0 in cc);
     closed = λ clean is_closed. absurd (is_closed (reads.frame.was_open (one.clean clean)));

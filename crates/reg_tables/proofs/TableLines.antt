@@ -62,11 +62,11 @@ module _ {q : TableQuery} {params : Row} (it : IsAsked q params) (is_readable : 
   list_told e why known = asked_told q.sql old new end is_readable e params why (λ is_open. asks_five it old.now.schema (known is_open))
 
 -- a lookup of versions by such a query
-module _ {S X : Type 0} {g : Ghosts S} {q : TableQuery} {params : Row} (asked : IsAsked q params) {Describes : Contents → X → Type 0} (is_readable : Row → Type 0) (Reads : X → List Row → Type 0) (old new : AutocommitConnection S g) (r : Result X Error) (frame : ReadsInAutocommit g old.conn new.conn r)
+module _ {S X : Type 0} {g : Ghosts S} {q : TableQuery} {params : Row} (asked : IsAsked q params) {IsRightFor : Contents → X → Type 0} (is_readable : Row → Type 0) (Reads : X → List Row → Type 0) (old new : AutocommitConnection S g) (r : Result X Error) (frame : ReadsInAutocommit g old.conn new.conn r)
     (read : HasCleanDisk (state g new.conn) → IfOk r (λ x. (last : Held S) × (found : List Row) × Shown q.sql params (after_begin g old.conn) (state g last) found × Reads x found))
     (failed : HasCleanDisk (state g new.conn) → IfErr r (λ e. (last : Held S) × FailsToList is_readable q.sql params (after_begin g old.conn) (state g last) (state g new.conn) e)) where
   pub finds_versions : ((last : State) (schema : Schema) (contents : Contents) → HoldsContents schema (after_begin g old.conn).now contents → HasFiveTables schema → (found : List Row) → Shown q.sql params (after_begin g old.conn) last found
-      → ((x : X) → Reads x found → Describes contents x) × (AreReadable contents → All is_readable found)) → Finds Versions old new r Describes
+      → ((x : X) → Reads x found → IsRightFor contents x) × (AreReadable contents → All is_readable found)) → Finds Versions old new r IsRightFor
   finds_versions each = record {
     frame = frame;
     found = λ clean. if_ok r (λ x its schema known contents holds. (each (state g its.0) schema contents holds known its.1 its.2).0 x its.3) (read clean);
