@@ -2,7 +2,7 @@
 use Rattle.std.specs.Prelude.{ℕ, List, [], ◌∷◌, codes, bytes_eq, Option, Some, None, option_map, option_and_then, if◌then◌else◌}
 use Rattle.clap.specs.Words.{Kinds, Row, Text, fault_of, first_of, subcommand_of}
 use Rattle.reg_cli.specs.Commands.{max_connections, program}
-use Rattle.reg_cli.specs.Numbers.{number_in}
+use Rattle.reg_cli.specs.Numbers.{unsigned_in}
 use Rattle.reg_cli.specs.Tasks.{TaskView, run_task, text_task, check_task, list_task, migrate_task, audit_task, serve_task}
 use Rattle.reg_cli.specs.declared.task.ListingKind.{ListingKind}
 use Rattle.reg_cli.specs.declared.task.ListingKind.TheVariants.{Subjects, Versions, Schemas}
@@ -18,54 +18,54 @@ listing_in argument =
 -- the number of connections: the maximum by default
 abbrev pub connections_in : Option Text → Option ℕ
 connections_in None = Some max_connections
-connections_in (Some text) = number_in 32 text
+connections_in (Some text) = unsigned_in 32 text
 
 -- the port
 abbrev pub port_in : List Row → Option ℕ
-port_in rows = option_and_then (number_in 16) (first_of (codes "port") rows)
+port_in rows = option_and_then (unsigned_in 16) (first_of (codes "port") rows)
 
 -- the task of `run [--db F]`; never `None`
-abbrev pub run_in : List Row → Option TaskView
-run_in rows = Some (run_task (first_of (codes "db") rows))
+abbrev pub run_task_in : List Row → Option TaskView
+run_task_in rows = Some (run_task (first_of (codes "db") rows))
 
 -- the task of `serve --db F --port N [--connections N]`; `None` if there is no value for `--db` or `--port`, or a number is invalid
-abbrev pub serve_in : List Row → Option TaskView
-serve_in rows =
+abbrev pub serve_task_in : List Row → Option TaskView
+serve_task_in rows =
     option_and_then (λ database. option_and_then (λ port. option_map (serve_task database port)
     (connections_in (first_of (codes "connections") rows))) (port_in rows)) (first_of (codes "db") rows)
 
 -- the task of `check --reader F --writer F`; `None` if there is no value for `--reader` or `--writer`
-abbrev pub check_in : List Row → Option TaskView
-check_in rows = option_and_then (λ reader. option_map (check_task reader) (first_of (codes "writer") rows)) (first_of (codes "reader") rows)
+abbrev pub check_task_in : List Row → Option TaskView
+check_task_in rows = option_and_then (λ reader. option_map (check_task reader) (first_of (codes "writer") rows)) (first_of (codes "reader") rows)
 
 -- the task of `text F`; `None` if there is no value for `F`
-abbrev pub text_in : List Row → Option TaskView
-text_in rows = option_map text_task (first_of (codes "F") rows)
+abbrev pub text_task_in : List Row → Option TaskView
+text_task_in rows = option_map text_task (first_of (codes "F") rows)
 
 -- the task of `list --db F W`; `None` if there is no value for `--db` or `W`, or `W` names no listing
-abbrev pub list_in : List Row → Option TaskView
-list_in rows =
+abbrev pub list_task_in : List Row → Option TaskView
+list_task_in rows =
     option_and_then (λ database. option_map (list_task database)
     (option_and_then listing_in (first_of (codes "W") rows))) (first_of (codes "db") rows)
 
 -- the task of `migrate --db F`; `None` if there is no value for `--db`
-abbrev pub migrate_in : List Row → Option TaskView
-migrate_in rows = option_map migrate_task (first_of (codes "db") rows)
+abbrev pub migrate_task_in : List Row → Option TaskView
+migrate_task_in rows = option_map migrate_task (first_of (codes "db") rows)
 
 -- the task of `audit --db F`; `None` if there is no value for `--db`
-abbrev pub audit_in : List Row → Option TaskView
-audit_in rows = option_map audit_task (first_of (codes "db") rows)
+abbrev pub audit_task_in : List Row → Option TaskView
+audit_task_in rows = option_map audit_task (first_of (codes "db") rows)
 
 -- the task of a subcommand with these values
 abbrev pub task_in : Text → List Row → Option TaskView
 task_in name rows =
-    if bytes_eq name (codes "run") then run_in rows
-    else if bytes_eq name (codes "serve") then serve_in rows
-    else if bytes_eq name (codes "check") then check_in rows
-    else if bytes_eq name (codes "text") then text_in rows
-    else if bytes_eq name (codes "list") then list_in rows
-    else if bytes_eq name (codes "migrate") then migrate_in rows
-    else if bytes_eq name (codes "audit") then audit_in rows
+    if bytes_eq name (codes "run") then run_task_in rows
+    else if bytes_eq name (codes "serve") then serve_task_in rows
+    else if bytes_eq name (codes "check") then check_task_in rows
+    else if bytes_eq name (codes "text") then text_task_in rows
+    else if bytes_eq name (codes "list") then list_task_in rows
+    else if bytes_eq name (codes "migrate") then migrate_task_in rows
+    else if bytes_eq name (codes "audit") then audit_task_in rows
     else None
 
 -- the task of the subcommand in the arguments, if clap finds no fault in them

@@ -13,5 +13,5 @@ abbrev pub number_without_sign : ℕ → Text → Option ℕ
 number_without_sign bits text = if is_number bits text then Some (digits_value 10 text) else None
 
 -- the number that a text writes in decimal digits, with an optional leading plus; `None` if it writes none, or one of more than `bits` bits
-abbrev pub number_in : ℕ → Text → Option ℕ
-number_in bits text = number_without_sign bits (without_leading_plus text)
+abbrev pub unsigned_in : ℕ → Text → Option ℕ
+unsigned_in bits text = number_without_sign bits (without_leading_plus text)

@@ -2,7 +2,7 @@
 
 ghost use Rattle.std.specs.Prelude.{◌≡◌, None, Some, MatchResult, map, string_bytes};
 ghost use Rattle.clap.specs.Words.{found_of, rows_of};
-ghost use Rattle.reg_cli.specs.Line.{audit_in, check_in, line, list_in, migrate_in, serve_in, task_in, text_in};
+ghost use Rattle.reg_cli.specs.Line.{audit_task_in, check_task_in, line, list_task_in, migrate_task_in, serve_task_in, task_in, text_task_in};
 ghost use Rattle.reg_cli.specs.Tasks.{IsUsage, task_view};
 
 use crate::command::{list_command, program};
@@ -33,10 +33,10 @@ fn unknown_listing(alloc: Global, argument: &str) -> Result<LineFault, AllocErro
 }
 
 /// The task of `serve`.
-fn serve_in(alloc: Global, matches: &ArgMatches<'_>) -> Result<Task, LineFault>
+fn serve_task_in(alloc: Global, matches: &ArgMatches<'_>) -> Result<Task, LineFault>
     ensures { MatchResult result
-        (λ task. serve_in (rows_of (found_of matches.now)) ≡ Some (task_view task))
-        (λ fault. IsUsage fault → serve_in (rows_of (found_of matches.now)) ≡ None) }
+        (λ task. serve_task_in (rows_of (found_of matches.now)) ≡ Some (task_view task))
+        (λ fault. IsUsage fault → serve_task_in (rows_of (found_of matches.now)) ≡ None) }
 {
     let Some(database) = value_of(matches, "db") else {
         return Err(incomplete(alloc)?);
@@ -58,10 +58,10 @@ fn serve_in(alloc: Global, matches: &ArgMatches<'_>) -> Result<Task, LineFault>
 }
 
 /// The task of `check`.
-fn check_in(alloc: Global, matches: &ArgMatches<'_>) -> Result<Task, LineFault>
+fn check_task_in(alloc: Global, matches: &ArgMatches<'_>) -> Result<Task, LineFault>
     ensures { MatchResult result
-        (λ task. check_in (rows_of (found_of matches.now)) ≡ Some (task_view task))
-        (λ fault. IsUsage fault → check_in (rows_of (found_of matches.now)) ≡ None) }
+        (λ task. check_task_in (rows_of (found_of matches.now)) ≡ Some (task_view task))
+        (λ fault. IsUsage fault → check_task_in (rows_of (found_of matches.now)) ≡ None) }
 {
     let Some(reader) = value_of(matches, "reader") else {
         return Err(incomplete(alloc)?);
@@ -76,10 +76,10 @@ fn check_in(alloc: Global, matches: &ArgMatches<'_>) -> Result<Task, LineFault>
 }
 
 /// The task of `text`.
-fn text_in(alloc: Global, matches: &ArgMatches<'_>) -> Result<Task, LineFault>
+fn text_task_in(alloc: Global, matches: &ArgMatches<'_>) -> Result<Task, LineFault>
     ensures { MatchResult result
-        (λ task. text_in (rows_of (found_of matches.now)) ≡ Some (task_view task))
-        (λ fault. IsUsage fault → text_in (rows_of (found_of matches.now)) ≡ None) }
+        (λ task. text_task_in (rows_of (found_of matches.now)) ≡ Some (task_view task))
+        (λ fault. IsUsage fault → text_task_in (rows_of (found_of matches.now)) ≡ None) }
 {
     let Some(file) = value_of(matches, "F") else {
         return Err(incomplete(alloc)?);
@@ -90,10 +90,10 @@ fn text_in(alloc: Global, matches: &ArgMatches<'_>) -> Result<Task, LineFault>
 }
 
 /// The task of `list`.
-fn list_in(alloc: Global, matches: &ArgMatches<'_>) -> Result<Task, LineFault>
+fn list_task_in(alloc: Global, matches: &ArgMatches<'_>) -> Result<Task, LineFault>
     ensures { MatchResult result
-        (λ task. list_in (rows_of (found_of matches.now)) ≡ Some (task_view task))
-        (λ fault. IsUsage fault → list_in (rows_of (found_of matches.now)) ≡ None) }
+        (λ task. list_task_in (rows_of (found_of matches.now)) ≡ Some (task_view task))
+        (λ fault. IsUsage fault → list_task_in (rows_of (found_of matches.now)) ≡ None) }
 {
     let Some(database) = value_of(matches, "db") else {
         return Err(incomplete(alloc)?);
@@ -111,10 +111,10 @@ fn list_in(alloc: Global, matches: &ArgMatches<'_>) -> Result<Task, LineFault>
 }
 
 /// The task of `migrate`.
-fn migrate_in(alloc: Global, matches: &ArgMatches<'_>) -> Result<Task, LineFault>
+fn migrate_task_in(alloc: Global, matches: &ArgMatches<'_>) -> Result<Task, LineFault>
     ensures { MatchResult result
-        (λ task. migrate_in (rows_of (found_of matches.now)) ≡ Some (task_view task))
-        (λ fault. IsUsage fault → migrate_in (rows_of (found_of matches.now)) ≡ None) }
+        (λ task. migrate_task_in (rows_of (found_of matches.now)) ≡ Some (task_view task))
+        (λ fault. IsUsage fault → migrate_task_in (rows_of (found_of matches.now)) ≡ None) }
 {
     let Some(database) = value_of(matches, "db") else {
         return Err(incomplete(alloc)?);
@@ -125,10 +125,10 @@ fn migrate_in(alloc: Global, matches: &ArgMatches<'_>) -> Result<Task, LineFault
 }
 
 /// The task of `audit`.
-fn audit_in(alloc: Global, matches: &ArgMatches<'_>) -> Result<Task, LineFault>
+fn audit_task_in(alloc: Global, matches: &ArgMatches<'_>) -> Result<Task, LineFault>
     ensures { MatchResult result
-        (λ task. audit_in (rows_of (found_of matches.now)) ≡ Some (task_view task))
-        (λ fault. IsUsage fault → audit_in (rows_of (found_of matches.now)) ≡ None) }
+        (λ task. audit_task_in (rows_of (found_of matches.now)) ≡ Some (task_view task))
+        (λ fault. IsUsage fault → audit_task_in (rows_of (found_of matches.now)) ≡ None) }
 {
     let Some(database) = value_of(matches, "db") else {
         return Err(incomplete(alloc)?);
@@ -148,12 +148,12 @@ fn task_in(alloc: Global, name: &str, matches: &ArgMatches<'_>) -> Result<Task, 
         "run" => Ok(Task::Job(Job::Run {
             database: copy_of(alloc, value_of(matches, "db"))?,
         })),
-        "serve" => serve_in(alloc, matches),
-        "check" => check_in(alloc, matches),
-        "text" => text_in(alloc, matches),
-        "list" => list_in(alloc, matches),
-        "migrate" => migrate_in(alloc, matches),
-        "audit" => audit_in(alloc, matches),
+        "serve" => serve_task_in(alloc, matches),
+        "check" => check_task_in(alloc, matches),
+        "text" => text_task_in(alloc, matches),
+        "list" => list_task_in(alloc, matches),
+        "migrate" => migrate_task_in(alloc, matches),
+        "audit" => audit_task_in(alloc, matches),
         _ => Err(incomplete(alloc)?),
     }
 }

@@ -3,7 +3,7 @@
 ghost use Rattle.std.specs.Prelude.{◌≡◌, IfOk, option_map, string_bytes};
 ghost use Rattle.clap.specs.Words.{first_of, found_of, rows_of};
 ghost use Rattle.reg_cli.specs.Line.{connections_in, listing_in};
-ghost use Rattle.reg_cli.specs.Numbers.{number_in};
+ghost use Rattle.reg_cli.specs.Numbers.{unsigned_in};
 
 use crate::task::{ListingKind, MAX_CONNECTIONS};
 use clap::ArgMatches;
@@ -34,7 +34,7 @@ pub fn copy_of(alloc: Global, text: Option<&str>) -> Result<Option<String>, Allo
 
 /// The text as a number of 16 bits, or `None`.
 pub fn port_in(text: &str) -> Option<u16>
-    ensures { result ≡ number_in 16 text.now }
+    ensures { result ≡ unsigned_in 16 text.now }
 {
     match text.parse::<u16>() {
         Ok(number) => Some(number),
@@ -44,7 +44,7 @@ pub fn port_in(text: &str) -> Option<u16>
 
 /// The text as a number of 32 bits, or `None`.
 fn count_in(text: &str) -> Option<u32>
-    ensures { result ≡ number_in 32 text.now }
+    ensures { result ≡ unsigned_in 32 text.now }
 {
     match text.parse::<u32>() {
         Ok(number) => Some(number),

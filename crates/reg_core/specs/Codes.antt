@@ -1,7 +1,7 @@
 -- The error codes of refusals and faults.
 use Rattle.std.specs.Prelude.{ℕ, ◌/◌, nat_lt, if◌then◌else◌, List, ◌++◌, codes, decimal}
 use Rattle.reg_core.specs.declared.code.Code.{Code}
-use Rattle.reg_core.specs.declared.code.Code.TheVariants.{MalformedRequest, NotFound, SubjectNotFound, VersionNotFound, SchemaNotFound, SubjectSoftDeleted, SubjectNotSoftDeleted, VersionSoftDeleted, VersionNotSoftDeleted, NoOwnLevel, NoOwnMode, MethodNotAllowed, Incompatible, BodyTooLarge, InvalidSchema, InvalidVersion, InvalidLevel, InvalidMode, NotPermitted, KeyReused, NoNumberLeft, CodingNotSupported, BackendFault}
+use Rattle.reg_core.specs.declared.code.Code.TheVariants.{MalformedRequest, NotFound, SubjectNotFound, VersionNotFound, SchemaNotFound, SubjectSoftDeleted, SubjectNotSoftDeleted, VersionSoftDeleted, VersionNotSoftDeleted, NoOwnLevel, NoOwnMode, MethodNotAllowed, Incompatible, BodyTooLarge, InvalidSchema, InvalidVersion, InvalidLevel, InvalidMode, NotPermitted, KeyReused, NoNumberLeft, TransferCodingNotSupported, BackendFault}
 
 -- Schema Registry API reference, errors: the number of a code.
 -- (This project's choice: 40001, 40404 to 40409, 42290 and 42292.)
@@ -27,7 +27,7 @@ number_of InvalidMode = 42204
 number_of NotPermitted = 42205
 number_of KeyReused = 42290
 number_of NoNumberLeft = 42292
-number_of CodingNotSupported = 501
+number_of TransferCodingNotSupported = 501
 number_of BackendFault = 50001
 
 -- RFC 9110, section 15: a status has three digits; here, the first three of a number of three or five digits
@@ -61,7 +61,7 @@ message_of InvalidMode = codes "Invalid mode"
 message_of NotPermitted = codes "Operation not permitted"
 message_of KeyReused = codes "Retry key was used for another request"
 message_of NoNumberLeft = codes "No number is left"
-message_of CodingNotSupported = codes "Transfer coding not supported"
+message_of TransferCodingNotSupported = codes "Transfer coding not supported"
 message_of BackendFault = codes "Error in the backend data store"
 
 -- Schema Registry API reference, errors: {"error_code":n,"message":"M"}

@@ -51,7 +51,7 @@ pub enum Code {
     /// 42292: the next version number or id would exceed the limit.
     NoNumberLeft,
     /// 501: the body has an unsupported transfer coding.
-    CodingNotSupported,
+    TransferCodingNotSupported,
     /// 50001: an allocation or the disk failed; the command wasn't executed, except perhaps if the
     /// server crashes after a disk fault.
     BackendFault,
@@ -85,7 +85,7 @@ impl Code {
             Code::NotPermitted => 42205,
             Code::KeyReused => 42290,
             Code::NoNumberLeft => 42292,
-            Code::CodingNotSupported => 501,
+            Code::TransferCodingNotSupported => 501,
             Code::BackendFault => 50001,
         }
     }
@@ -117,7 +117,7 @@ impl Code {
             | Code::KeyReused
             | Code::NoNumberLeft => 422,
             Code::BackendFault => 500,
-            Code::CodingNotSupported => 501,
+            Code::TransferCodingNotSupported => 501,
         }
     }
 
@@ -147,7 +147,7 @@ impl Code {
             Code::NotPermitted => "Operation not permitted",
             Code::KeyReused => "Retry key was used for another request",
             Code::NoNumberLeft => "No number is left",
-            Code::CodingNotSupported => "Transfer coding not supported",
+            Code::TransferCodingNotSupported => "Transfer coding not supported",
             Code::BackendFault => "Error in the backend data store",
         }
     }
@@ -187,7 +187,7 @@ impl Code {
             Code::KeyReused =>
                 "{\"error_code\":42290,\"message\":\"Retry key was used for another request\"}",
             Code::NoNumberLeft => "{\"error_code\":42292,\"message\":\"No number is left\"}",
-            Code::CodingNotSupported =>
+            Code::TransferCodingNotSupported =>
                 "{\"error_code\":501,\"message\":\"Transfer coding not supported\"}",
             Code::BackendFault =>
                 "{\"error_code\":50001,\"message\":\"Error in the backend data store\"}",

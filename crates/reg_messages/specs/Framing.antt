@@ -4,7 +4,7 @@ use Rattle.std.specs.List.{list_all}
 use Rattle.std.specs.Char.{is_ascii_digit}
 use Rattle.std.specs.Str.Parse.{digits_value}
 use Rattle.reg_core.specs.declared.code.Code.{Code}
-use Rattle.reg_core.specs.declared.code.Code.TheVariants.{MalformedRequest, CodingNotSupported, BodyTooLarge}
+use Rattle.reg_core.specs.declared.code.Code.TheVariants.{MalformedRequest, TransferCodingNotSupported, BodyTooLarge}
 use Rattle.reg_messages.specs.Fields.{HeaderField, values_named}
 
 -- the maximum size of a body in bytes (this project's choice)
@@ -31,7 +31,7 @@ length_of (text ∷ other ∷ more) = Err MalformedRequest
 -- A Transfer-Encoding is rejected, before any Content-Length is examined.
 abbrev pub length_unless_transfer_coded : List (List ℕ) → List (List ℕ) → Result ℕ Code
 length_unless_transfer_coded [] lengths = length_of lengths
-length_unless_transfer_coded (coding ∷ more) lengths = Err CodingNotSupported
+length_unless_transfer_coded (coding ∷ more) lengths = Err TransferCodingNotSupported
 
 -- the body's length, or the code of the first fault in the fields
 unfoldable pub framing : List HeaderField → Result ℕ Code

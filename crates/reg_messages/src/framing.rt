@@ -38,7 +38,7 @@ fn parse_length(text: &[u8]) -> Result<usize, Code>
 ///
 /// # Errors
 ///
-/// `CodingNotSupported` if there is a `Transfer-Encoding`. Otherwise `MalformedRequest` if there is
+/// `TransferCodingNotSupported` if there is a `Transfer-Encoding`. Otherwise `MalformedRequest` if there is
 /// more than one `Content-Length`, or one that isn't 1 to 19 digits, and `BodyTooLarge` if the
 /// length is above `MAX_BODY`.
 pub fn body_length_from_fields(head: &[u8], fields: &[HeaderSpan]) -> Result<usize, Code>
@@ -48,8 +48,8 @@ pub fn body_length_from_fields(head: &[u8], fields: &[HeaderSpan]) -> Result<usi
 {
     match FieldLookup::by_name(head, fields, b"Transfer-Encoding") {
         FieldLookup::Missing => {}
-        FieldLookup::Once(_) => return Err(Code::CodingNotSupported),
-        FieldLookup::Repeated => return Err(Code::CodingNotSupported),
+        FieldLookup::Once(_) => return Err(Code::TransferCodingNotSupported),
+        FieldLookup::Repeated => return Err(Code::TransferCodingNotSupported),
     }
     match FieldLookup::by_name(head, fields, b"Content-Length") {
         FieldLookup::Missing => Ok(0),

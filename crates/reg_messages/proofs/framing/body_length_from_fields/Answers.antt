@@ -1,7 +1,7 @@
 use Rattle.std.proofs.Common.{◌≡◌, ℕ, ◌<◌, List, [], ◌∷◌, length, map, refl, sym, ◌∙◌, arith, codes}
 use Rattle.std.specs.Prelude.{Err}
 use Rattle.httparse.specs.Spans.{header_bytes}
-use Rattle.reg_core.specs.declared.code.Code.TheVariants.{MalformedRequest, CodingNotSupported}
+use Rattle.reg_core.specs.declared.code.Code.TheVariants.{MalformedRequest, TransferCodingNotSupported}
 use Rattle.reg_messages.specs.Fields.{values_named, HeaderField}
 use Rattle.reg_messages.specs.Framing.{framing, length_of, length_unless_transfer_coded}
 use Rattle.reg_messages.proofs.framing.body_length_from_fields.Goals as goal
@@ -12,7 +12,7 @@ unfolding framing
 framed fields codings lengths e f = λ i. length_unless_transfer_coded (sym e i) (sym f i)
 
 coded : (fields : List HeaderField) (codings : List (List ℕ)) → values_named (codes "Transfer-Encoding") fields ≡ codings → 0 < length codings
-    → Err CodingNotSupported ≡ framing fields
+    → Err TransferCodingNotSupported ≡ framing fields
 coded fields [] e h = absurd (omega arith)
 coded fields (coding ∷ more) e h = framed fields (coding ∷ more) _ e refl
 

@@ -87,9 +87,9 @@ pub returns-in-NoNumberLeft : goal.returns-in-NoNumberLeft
 unfolding fault_body digits
 returns-in-NoNumberLeft c = search rules
 
-pub returns-in-CodingNotSupported : goal.returns-in-CodingNotSupported
+pub returns-in-TransferCodingNotSupported : goal.returns-in-TransferCodingNotSupported
 unfolding fault_body digits
-returns-in-CodingNotSupported c = search rules
+returns-in-TransferCodingNotSupported c = search rules
 
 pub returns-in-BackendFault : goal.returns-in-BackendFault
 unfolding fault_body digits
