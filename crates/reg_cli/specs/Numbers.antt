@@ -8,10 +8,10 @@ use Rattle.clap.specs.Words.{Text}
 abbrev pub is_number : ℕ → Text → Bool
 is_number bits digits = is_numeral digits && nat_lt (digits_value 10 digits) (2 ^ bits)
 
--- the number that a text of decimal digits, without a sign, writes; `None` for any other text, and for a number of more than `bits` bits
+-- the number that a text of decimal digits, without a sign, denotes; `None` for any other text, and for a number of more than `bits` bits
 abbrev pub number_without_sign : ℕ → Text → Option ℕ
 number_without_sign bits text = if is_number bits text then Some (digits_value 10 text) else None
 
--- the number that a text writes in decimal digits, with an optional leading plus; `None` if it writes none, or one of more than `bits` bits
+-- the number that a text denotes in decimal digits, with an optional leading plus; `None` if it denotes none, or one of more than `bits` bits
 abbrev pub unsigned_in : ℕ → Text → Option ℕ
 unsigned_in bits text = number_without_sign bits (without_leading_plus text)

@@ -171,8 +171,8 @@ OverDatabase g OrphanedLog P = ⊥
 OverDatabase g (Fresh old) P = ⊥
 OverDatabase g (Database old) P = P (state g old)
 
--- why a job that creates no registry finds none in what was opened, and the connection that is returned. The connection to an empty
--- database is returned unchanged
+-- Why a job that creates no registry finds none in what was opened, and the connection that is returned. The connection to an empty
+-- database is returned unchanged.
 abbrev pub LacksExistingRegistry : {S : Type 0} (g : Ghosts S) → Opened S → Option (Held S) → StoreError → Type 0
 LacksExistingRegistry g Nothing returned error = LacksRegistry g Nothing returned error
 LacksExistingRegistry g (Texts texts) returned error = LacksRegistry g (Texts texts) returned error

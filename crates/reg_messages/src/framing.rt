@@ -38,9 +38,9 @@ fn parse_length(text: &[u8]) -> Result<usize, Code>
 ///
 /// # Errors
 ///
-/// `TransferCodingNotSupported` if there is a `Transfer-Encoding`. Otherwise `MalformedRequest` if there is
-/// more than one `Content-Length`, or one that isn't 1 to 19 digits, and `BodyTooLarge` if the
-/// length is above `MAX_BODY`.
+/// `TransferCodingNotSupported` if there is a `Transfer-Encoding`. Otherwise `MalformedRequest` if
+/// there is more than one `Content-Length`, or one that isn't 1 to 19 digits, and `BodyTooLarge` if
+/// the length is above `MAX_BODY`.
 pub fn body_length_from_fields(head: &[u8], fields: &[HeaderSpan]) -> Result<usize, Code>
     requires { All (IsHeaderWithin (length head.now)) fields.now }
     ensures value { result ≡ framing (map (header_bytes head.now) fields.now) }

@@ -30,8 +30,8 @@ pub enum ParseOutcome {
     /// Less than a whole message. The message has at least this number of bytes.
     Part(usize),
     /// A fault. `MalformedRequest` if the bytes can't become a head of at most `MAX_HEAD` bytes.
-    /// Otherwise the code of a fault in the head's fields: `TransferCodingNotSupported`, `MalformedRequest`
-    /// or `BodyTooLarge`.
+    /// Otherwise the code of a fault in the head's fields: `TransferCodingNotSupported`,
+    /// `MalformedRequest` or `BodyTooLarge`.
     Faulty(Code),
     /// A head with more fields than there is room for.
     TooManyFields,
