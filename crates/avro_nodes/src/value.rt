@@ -15,7 +15,7 @@ use std::collections::btree_map::Iter;
 /// The members of an object that aren't written yet, in byte order of their names.
 pub(crate) type UnwrittenMembers<'a> = Iter<'a, String, Value>;
 
-/// All members of an object, in byte order of their names.
+/// All members of an object, none of them written yet, in byte order of their names.
 pub(crate) fn unwritten_members(members: &Members) -> UnwrittenMembers<'_>
     ensures all { result ≡ members.now.entries }
     ensures ordered { AreOrdered (members_view members.now.entries) }

@@ -145,8 +145,8 @@ module _ {X : Type 0} (same : X → X → Bool) (tells : (x y : X) → same x y 
   none_seen [] = tt
   none_seen (x ∷ xs) = (refl, none_seen xs)
 
-pub texts_differ : (xs : List (List ℕ)) → all_distinct bytes_eq xs ≡ true → AllDiffer xs
-texts_differ xs e = (new_says bytes_eq not_same differ (λ _. false) xs e).1
+pub texts_distinct : (xs : List (List ℕ)) → all_distinct bytes_eq xs ≡ true → AllDiffer xs
+texts_distinct xs e = (new_says bytes_eq not_same differ (λ _. false) xs e).1
 
 pub texts_apart : (xs : List (List ℕ)) → AllDiffer xs → all_distinct bytes_eq xs ≡ true
 texts_apart xs h = new_from bytes_eq not_same differ (λ _. false) xs (none_seen bytes_eq not_same differ xs) h

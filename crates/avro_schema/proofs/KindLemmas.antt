@@ -65,9 +65,9 @@ kind_lacks [] kind h = tt
 kind_lacks (b ∷ bs) kind h = (λ e. h.0 (ap kind_number e), kind_lacks bs kind h.1)
 
 -- distinct numbers imply distinct kinds
-pub kinds_differ : (bs : List (ℕ × BranchKind)) → AllDiffer (map (λ b. b.1) (numbered bs)) → AllDiffer (map (λ b. b.1) bs)
-kinds_differ [] h = tt
-kinds_differ (b ∷ bs) h = (kind_lacks bs b.1 h.0, kinds_differ bs h.1)
+pub kinds_distinct : (bs : List (ℕ × BranchKind)) → AllDiffer (map (λ b. b.1) (numbered bs)) → AllDiffer (map (λ b. b.1) bs)
+kinds_distinct [] h = tt
+kinds_distinct (b ∷ bs) h = (kind_lacks bs b.1 h.0, kinds_distinct bs h.1)
 
 number_lacks : (bs : List (ℕ × BranchKind)) (kind : BranchKind) → Lacks (map (λ b. b.1) bs) kind → Lacks (map (λ b. b.1) (numbered bs)) (kind_number kind)
 number_lacks [] kind h = tt

@@ -16,7 +16,7 @@ use Rattle.avro_schema.specs.Inside.Distinct.{all_distinct}
 use Rattle.avro_schema.specs.Inside.Declarations.{name_keys, named_in, FieldAttributesView, field_attributes_in, field_attribute_keys, bounded}
 use Rattle.avro_schema.specs.Inside.ValueReaders.{Part, PartReader, TypeReader, parts_of, room_at}
 use Rattle.avro_schema.specs.Inside.KindNumbers.{branch_number}
-use Rattle.avro_schema.specs.Inside.Types.{name_at, reference_to, member_name, container_node, container_at, branch_of, union_at, field_at, field_of, record_at, by_type_name, object_at, form_at, type_at}
+use Rattle.avro_schema.specs.Inside.Types.{name_at, reference_to, member_name, container_node, container_at, branch_of, union_at, field_at, field_of, record_at, by_type_kind, object_at, form_at, type_at}
 use Rattle.avro_schema.specs.Inside.ReaderResults.{AddsPart}
 use Rattle.avro_schema.proofs.Sequence.{settled}
 
@@ -60,7 +60,7 @@ module _ (types : TypeReader) (space : List ℕ) (ms : Members) (known : Known) 
   no_word e = rw e refl
 
   module _ (type_name : List ℕ) (rest : Members) (says : text_in (codes "type") ms ≡ Some type_name) (rest_is : rest ≡ without_all (codes "type" ∷ []) ms) where
-    pub object_is : (w : TypeKind) → w ≡ type_kind_of type_name → object_at types space ms known first ≡ by_type_name w type_name types space rest known first
+    pub object_is : (w : TypeKind) → w ≡ type_kind_of type_name → object_at types space ms known first ≡ by_type_kind w type_name types space rest known first
     unfolding object_at
     object_is w is = rw (says, ← is, rest_is) refl
 

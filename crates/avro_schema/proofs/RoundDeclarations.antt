@@ -14,11 +14,11 @@ use Rattle.avro_nodes.specs.Names.{has_dot, namespace_of}
 use Rattle.avro_nodes.specs.Nodes.{NamedView, FieldView}
 use Rattle.avro_nodes.specs.Identity.{kind_text, texts, with_text, with_aliases, with_default, with_order, with_namespace}
 use Rattle.avro_schema.specs.declared.keywords.TypeKind.{TypeKind}
-use Rattle.avro_schema.specs.declared.keywords.TypeKind.TheVariants as type_name
+use Rattle.avro_schema.specs.declared.keywords.TypeKind.TheVariants as type_kind
 use Rattle.avro_schema.specs.Names.{Known, is_simple, is_name_sequence, is_namespace, allowed, full_name, alias_in}
 use Rattle.avro_schema.specs.Keywords.{kind_of, type_kind_of, order_of}
 use Rattle.avro_schema.specs.Attributes.{◌>>=◌, without_all, text_in, array_in, text_if_any, texts_in, texts_if_any, size_of, symbol_in, fallback_in, order_in}
-use Rattle.avro_schema.specs.Denotes.{IsExtra, IsNamed, IsEnum, IsField, HasTypeName, array_keys, map_keys, fixed_keys, enum_keys, record_keys}
+use Rattle.avro_schema.specs.Denotes.{IsExtra, IsNamed, IsEnum, IsField, HasTypeKind, array_keys, map_keys, fixed_keys, enum_keys, record_keys}
 use Rattle.avro_schema.proofs.Inversion.{bind_some, bind3, guard_some, not_same}
 use Rattle.avro_schema.proofs.RoundMembers.{is_among, without-put, without_twice, none_without}
 use Rattle.avro_schema.proofs.RoundNames.{good_name, good_namespace, full_again_dot, full_again_null, full_again_said, alias_again, allowed_says, kind_again}
@@ -186,30 +186,30 @@ named_again space ms written known named good n name namespace aliases =
 
 -- ---- the values of `type`
 
-pub word_is_kind : (kind : PrimitiveKind) → type_kind_of (kind_text kind) ≡ type_name.Primitive kind
+pub word_is_kind : (kind : PrimitiveKind) → type_kind_of (kind_text kind) ≡ type_kind.Primitive kind
 unfolding type_kind_of
 word_is_kind kind = rw (kind_again kind) refl
 
-typed : (w : TypeKind) (name : List ℕ) (ms : Members) → type_kind_of name ≡ w → get_member (codes "type") ms ≡ Some (string name) → HasTypeName ms w
+typed : (w : TypeKind) (name : List ℕ) (ms : Members) → type_kind_of name ≡ w → get_member (codes "type") ms ≡ Some (string name) → HasTypeKind ms w
 typed w name ms is e = (name, text_found (codes "type") name ms e, is)
 
-word_array : type_kind_of (codes "array") ≡ type_name.Array
+word_array : type_kind_of (codes "array") ≡ type_kind.Array
 unfolding type_kind_of kind_of
 word_array = refl
 
-word_map : type_kind_of (codes "map") ≡ type_name.Map
+word_map : type_kind_of (codes "map") ≡ type_kind.Map
 unfolding type_kind_of kind_of
 word_map = refl
 
-word_fixed : type_kind_of (codes "fixed") ≡ type_name.Fixed
+word_fixed : type_kind_of (codes "fixed") ≡ type_kind.Fixed
 unfolding type_kind_of kind_of
 word_fixed = refl
 
-word_enum : type_kind_of (codes "enum") ≡ type_name.Enum
+word_enum : type_kind_of (codes "enum") ≡ type_kind.Enum
 unfolding type_kind_of kind_of
 word_enum = refl
 
-word_record : type_kind_of (codes "record") ≡ type_name.Record
+word_record : type_kind_of (codes "record") ≡ type_kind.Record
 unfolding type_kind_of kind_of
 word_record = refl
 
@@ -265,8 +265,8 @@ past_type q name extra other = past_put q (codes "type") (string name) extra oth
 abbrev pub primitive_members : PrimitiveKind → Members → Members
 primitive_members kind extra = Typed (kind_text kind) extra
 
-pub primitive_says : (kind : PrimitiveKind) (extra : Members) → HasTypeName (primitive_members kind extra) (type_name.Primitive kind)
-primitive_says kind extra = typed (type_name.Primitive kind) (kind_text kind) (primitive_members kind extra) (word_is_kind kind) (type_found (kind_text kind) extra)
+pub primitive_says : (kind : PrimitiveKind) (extra : Members) → HasTypeKind (primitive_members kind extra) (type_kind.Primitive kind)
+primitive_says kind extra = typed (type_kind.Primitive kind) (kind_text kind) (primitive_members kind extra) (word_is_kind kind) (type_found (kind_text kind) extra)
 
 pub primitive_others : (kind : PrimitiveKind) (ms extra : Members) → IsExtra (codes "type" ∷ []) ms extra → IsExtra (codes "type" ∷ []) (primitive_members kind extra) extra
 primitive_others kind ms extra o = others_again (codes "type" ∷ []) ms extra (primitive_members kind extra) o (less_type (codes "type" ∷ []) (kind_text kind) extra refl)
@@ -274,9 +274,9 @@ primitive_others kind ms extra o = others_again (codes "type" ∷ []) ms extra (
 abbrev pub array_members : Data → Members → Members
 array_members items extra = put (codes "items") items (Typed (codes "array") extra)
 
-pub array_says : (items : Data) (extra : Members) → HasTypeName (array_members items extra) type_name.Array
+pub array_says : (items : Data) (extra : Members) → HasTypeKind (array_members items extra) type_kind.Array
 array_says items extra =
-    typed type_name.Array (codes "array") (array_members items extra) word_array (past_put (codes "type") (codes "items") items (Typed (codes "array") extra) refl ∙ type_found (codes "array") extra)
+    typed type_kind.Array (codes "array") (array_members items extra) word_array (past_put (codes "type") (codes "items") items (Typed (codes "array") extra) refl ∙ type_found (codes "array") extra)
 
 pub array_items : (items : Data) (extra : Members) → get_member (codes "items") (array_members items extra) ≡ Some items
 array_items items extra = get_member-put (codes "items") items (Typed (codes "array") extra)
@@ -288,8 +288,8 @@ array_others items ms extra o =
 abbrev pub map_members : Data → Members → Members
 map_members values extra = Typed (codes "map") (put (codes "values") values extra)
 
-pub map_says : (values : Data) (extra : Members) → HasTypeName (map_members values extra) type_name.Map
-map_says values extra = typed type_name.Map (codes "map") (map_members values extra) word_map (type_found (codes "map") (put (codes "values") values extra))
+pub map_says : (values : Data) (extra : Members) → HasTypeKind (map_members values extra) type_kind.Map
+map_says values extra = typed type_kind.Map (codes "map") (map_members values extra) word_map (type_found (codes "map") (put (codes "values") values extra))
 
 pub map_values : (values : Data) (extra : Members) → get_member (codes "values") (map_members values extra) ≡ Some values
 map_values values extra = past_type (codes "values") (codes "map") (put (codes "values") values extra) refl ∙ get_member-put (codes "values") values extra
@@ -316,9 +316,9 @@ module _ (space : List ℕ) (known : Known) (named : NamedView) (size : ℕ) (ms
   fixed_lacks : (q : List ℕ) → bytes_eq q (codes "size") ≡ false → bytes_eq q (codes "type") ≡ false → is_among fixed_keys q ≡ true → get_member q fixed_inner ≡ None
   fixed_lacks q a b among = past_put q (codes "size") (number (unsigned size)) (Typed (codes "fixed") extra) a ∙ past_type q (codes "fixed") extra b ∙ others_lack fixed_keys q ms extra o among
 
-  pub fixed_says : HasTypeName fixed_members type_name.Fixed
+  pub fixed_says : HasTypeKind fixed_members type_kind.Fixed
   fixed_says =
-      typed type_name.Fixed (codes "fixed") fixed_members word_fixed
+      typed type_kind.Fixed (codes "fixed") fixed_members word_fixed
       (fixed_past (codes "type") refl refl ∙ past_namespace (codes "type") space named.name fixed_inner refl ∙ past_put (codes "type") (codes "size") (number (unsigned size)) (Typed (codes "fixed") extra) refl ∙ type_found (codes "fixed") extra)
 
   pub fixed_titled : get_member (codes "name") fixed_members ≡ Some (string named.name)
@@ -377,9 +377,9 @@ module _ (space : List ℕ) (known : Known) (named : NamedView) (symbols : List 
   enum_lacks : (q : List ℕ) → bytes_eq q (codes "symbols") ≡ false → bytes_eq q (codes "type") ≡ false → is_among enum_keys q ≡ true → get_member q enum_inner ≡ None
   enum_lacks q a b among = past_put q (codes "symbols") (json.array (texts symbols)) (Typed (codes "enum") extra) a ∙ past_type q (codes "enum") extra b ∙ others_lack enum_keys q ms extra o among
 
-  pub enum_says : HasTypeName enum_members type_name.Enum
+  pub enum_says : HasTypeKind enum_members type_kind.Enum
   enum_says =
-      typed type_name.Enum (codes "enum") enum_members word_enum
+      typed type_kind.Enum (codes "enum") enum_members word_enum
       (enum_past (codes "type") refl refl ∙ enum_within (codes "type") refl refl ∙ past_put (codes "type") (codes "symbols") (json.array (texts symbols)) (Typed (codes "enum") extra) refl ∙ type_found (codes "enum") extra)
 
   pub enum_titled : get_member (codes "name") enum_members ≡ Some (string named.name)
@@ -445,8 +445,8 @@ module _ (space : List ℕ) (known : Known) (named : NamedView) (fields : Items)
   record_lacks : (q : List ℕ) → bytes_eq q (codes "type") ≡ false → is_among record_keys q ≡ true → get_member q record_inner ≡ None
   record_lacks q b among = past_type q (codes "record") extra b ∙ others_lack record_keys q ms extra o among
 
-  pub record_says : HasTypeName record_members type_name.Record
-  record_says = typed type_name.Record (codes "record") record_members word_record (record_past (codes "type") refl refl ∙ record_within (codes "type") refl refl ∙ type_found (codes "record") extra)
+  pub record_says : HasTypeKind record_members type_kind.Record
+  record_says = typed type_kind.Record (codes "record") record_members word_record (record_past (codes "type") refl refl ∙ record_within (codes "type") refl refl ∙ type_found (codes "record") extra)
 
   pub record_titled : get_member (codes "name") record_members ≡ Some (string named.name)
   record_titled = record_past (codes "name") refl refl ∙ get_member-put (codes "name") (string named.name) record_named

@@ -13,7 +13,7 @@ use Rattle.avro_nodes.specs.Nodes.{NamedView, FieldView, NodeView, primitive, ar
 use Rattle.avro_nodes.specs.Identity.{primitive_value, array_value, map_value, enum_value, fixed_value, record_value, field_value, kind_text, Counted, then_items, branch_items, field_items, name_of, node_value, identity_at, identity, identity_value}
 use Rattle.avro_nodes.proofs.Lengths.{data_size, items_size, text_long}
 use Rattle.avro_nodes.proofs.Spelling.{at_suc, again_suc}
-use Rattle.avro_schema.specs.declared.keywords.TypeKind.TheVariants as type_name
+use Rattle.avro_schema.specs.declared.keywords.TypeKind.TheVariants as type_kind
 use Rattle.avro_schema.specs.Names.{Known, none_known, is_namespace, defined, resolved}
 use Rattle.avro_schema.specs.Keywords.{kind_of, type_kind_of, kind_or_other}
 use Rattle.avro_schema.specs.Attributes.{size_of}
@@ -235,11 +235,11 @@ module _ (m : ℕ) (all before after : List NodeView) (space : List ℕ) (known 
 
 -- ---- names that aren't those of primitive types
 
-not_primitive : (o : Option PrimitiveKind) (name : List ℕ) → kind_or_other o name ≡ type_name.Reference → o ≡ None
+not_primitive : (o : Option PrimitiveKind) (name : List ℕ) → kind_or_other o name ≡ type_kind.Reference → o ≡ None
 not_primitive (Some kind) name e = absurd cc
 not_primitive None name e = refl
 
-no_kind_by : (name : List ℕ) → type_kind_of name ≡ type_name.Reference → kind_of name ≡ None
+no_kind_by : (name : List ℕ) → type_kind_of name ≡ type_kind.Reference → kind_of name ≡ None
 unfolding type_kind_of
 no_kind_by name e = not_primitive (kind_of name) name e
 

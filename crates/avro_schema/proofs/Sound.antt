@@ -10,7 +10,7 @@ use Rattle.avro_nodes.specs.Limits.{max_nesting}
 use Rattle.avro_nodes.specs.declared.node.PrimitiveKind.{PrimitiveKind}
 use Rattle.avro_nodes.specs.Nodes.{NamedView, FieldView, primitive, array, mapping, union, enumeration, fixed, rec}
 use Rattle.avro_schema.specs.declared.keywords.TypeKind.{TypeKind}
-use Rattle.avro_schema.specs.declared.keywords.TypeKind.TheVariants as type_name
+use Rattle.avro_schema.specs.declared.keywords.TypeKind.TheVariants as type_kind
 use Rattle.avro_schema.specs.declared.keywords.Container.TheVariants as container
 use Rattle.avro_schema.specs.Names.{Known, is_simple, allowed, full_name, alias_in, defined, resolved}
 use Rattle.avro_nodes.specs.Names.{namespace_of, last_part}
@@ -21,11 +21,11 @@ use Rattle.avro_schema.specs.Inside.Declarations.{name_keys, if_new, new_name, n
 use Rattle.avro_schema.specs.Inside.ValueReaders.{Part, parts_of, room_at}
 use Rattle.avro_schema.specs.Kinds.{BranchKind}
 use Rattle.avro_schema.specs.Inside.KindNumbers.{branch_number}
-use Rattle.avro_schema.proofs.KindLemmas.{numbered, same_places, kinds_differ, kind_of_number}
-use Rattle.avro_schema.specs.Inside.Types.{reference_to, primitive_at, kind_or_reference, name_at, container_at, branch_of, union_at, field_at, field_of, record_at, by_type_name, object_at, type_at}
-use Rattle.avro_schema.specs.Denotes.{IsExtra, IsNamed, IsEnum, IsField, HasTypeName, Denotes, a_primitive, a_reference, primitive_type, reference_type, array_type, map_type, fixed_type, enum_type, record_type, union_type}
+use Rattle.avro_schema.proofs.KindLemmas.{numbered, same_places, kinds_distinct, kind_of_number}
+use Rattle.avro_schema.specs.Inside.Types.{reference_to, primitive_at, kind_or_reference, name_at, container_at, branch_of, union_at, field_at, field_of, record_at, by_type_kind, object_at, type_at}
+use Rattle.avro_schema.specs.Denotes.{IsExtra, IsNamed, IsEnum, IsField, HasTypeKind, Denotes, a_primitive, a_reference, primitive_type, reference_type, array_type, map_type, fixed_type, enum_type, record_type, union_type}
 use Rattle.avro_schema.specs.Denotes.{array_keys, map_keys, fixed_keys, enum_keys, record_keys, Branches, no_branch, branch, Fields, no_field, field, AllDiffer}
-use Rattle.avro_schema.proofs.Inversion.{bind_some, bind2, bind3, bind4, bind5, guard_some, guard_none, map_some, room_is, get_past, text_past, items_past, text_if_any_past, texts_differ, numbers_differ}
+use Rattle.avro_schema.proofs.Inversion.{bind_some, bind2, bind3, bind4, bind5, guard_some, guard_none, map_some, room_is, get_past, text_past, items_past, text_if_any_past, texts_distinct, numbers_differ}
 
 bound_is : (ms extra : Members) → bounded ms ≡ Some extra → (extra ≡ ms) × (members_depth extra ≤ max_nesting)
 unfolding bounded
@@ -98,14 +98,14 @@ enum_is ms symbols fallback e f =
       items = p.0;
       items_are = sym (items_past (codes "symbols") (codes "type" ∷ name_keys) ms refl) ∙ p.2;
       symbols_are = p.3 ∙ ap (λ (x : List (List ℕ)). Some x) same;
-      differ = texts_differ symbols (ap (all_distinct bytes_eq) (sym same) ∙ g.0);
+      differ = texts_distinct symbols (ap (all_distinct bytes_eq) (sym same) ∙ g.0);
       fallback_is = ap (fallback_in symbols) (sym (get_past (codes "default") (codes "type" ∷ codes "name" ∷ codes "namespace" ∷ codes "aliases" ∷ codes "symbols" ∷ []) ms refl)) ∙ f;
     }
 
 abbrev Says_ : ℕ → List ℕ → Data → Known → ℕ → Part ℕ → Type 0
 Says_ n space d known first p = Denotes n space d known first p.it p.nodes p.known
 
-enum_says : (n : ℕ) (space : List ℕ) (ms : Members) (known : Known) (first : ℕ) (p : Part ℕ) → HasTypeName ms type_name.Enum → enum_at space (inside ms) known first ≡ Some p → Says_ (suc n) space (json.object ms) known first p
+enum_says : (n : ℕ) (space : List ℕ) (ms : Members) (known : Known) (first : ℕ) (p : Part ℕ) → HasTypeKind ms type_kind.Enum → enum_at space (inside ms) known first ≡ Some p → Says_ (suc n) space (json.object ms) known first p
 unfolding enum_at
 enum_says n space ms known first p s e =
     let rest = without_all name_keys (inside ms) in
@@ -117,7 +117,7 @@ enum_says n space ms known first p s e =
     (ap (λ (place : ℕ). record { it = place; nodes = enumeration q.1 q.2 q.3 q.4 ∷ []; known = defined known q.1.name place }) room.1 ∙ same_Some _ _ q.10)
     (enum_type s (named_is space ms known q.1 q.6) (enum_is ms q.2 q.3 q.7 q.8) (others_are enum_keys ms q.4 q.9) room.0)
 
-fixed_says : (n : ℕ) (space : List ℕ) (ms : Members) (known : Known) (first : ℕ) (p : Part ℕ) → HasTypeName ms type_name.Fixed → fixed_at space (inside ms) known first ≡ Some p → Says_ (suc n) space (json.object ms) known first p
+fixed_says : (n : ℕ) (space : List ℕ) (ms : Members) (known : Known) (first : ℕ) (p : Part ℕ) → HasTypeKind ms type_kind.Fixed → fixed_at space (inside ms) known first ≡ Some p → Says_ (suc n) space (json.object ms) known first p
 unfolding fixed_at
 fixed_says n space ms known first p s e =
     let rest = without_all name_keys (inside ms) in
@@ -130,7 +130,7 @@ fixed_says n space ms known first p s e =
 
 -- ---- primitives and references
 
-primitive_says : (n : ℕ) (space : List ℕ) (ms : Members) (known : Known) (first : ℕ) (kind : PrimitiveKind) (p : Part ℕ) → HasTypeName ms (type_name.Primitive kind) → primitive_at kind (inside ms) known first ≡ Some p → Says_ (suc n) space (json.object ms) known first p
+primitive_says : (n : ℕ) (space : List ℕ) (ms : Members) (known : Known) (first : ℕ) (kind : PrimitiveKind) (p : Part ℕ) → HasTypeKind ms (type_kind.Primitive kind) → primitive_at kind (inside ms) known first ≡ Some p → Says_ (suc n) space (json.object ms) known first p
 unfolding primitive_at
 primitive_says n space ms known first kind p s e =
     let q = bind2 (room_at first) (λ _. bounded (inside ms)) (λ place extra. Some (record { it = place; nodes = primitive kind extra ∷ []; known = known })) p e in
@@ -152,7 +152,7 @@ name_says None n space s known first p named e =
     let q = map_some (λ (x : ℕ). record { it = x; nodes = []; known = known }) (resolved known space s) p e in
     subst (λ (x : Part ℕ). Says_ (suc n) space (string s) known first x) q.2 (a_reference named q.1)
 
-reference_says : (n : ℕ) (space name : List ℕ) (ms : Members) (known : Known) (first : ℕ) (p : Part ℕ) → text_in (codes "type") ms ≡ Some name → type_kind_of name ≡ type_name.Reference
+reference_says : (n : ℕ) (space name : List ℕ) (ms : Members) (known : Known) (first : ℕ) (p : Part ℕ) → text_in (codes "type") ms ≡ Some name → type_kind_of name ≡ type_kind.Reference
     → (bounded (inside ms) >>= λ _. reference_to space name known) ≡ Some p → Says_ (suc n) space (json.object ms) known first p
 unfolding reference_to
 reference_says n space name ms known first p t w e =
@@ -241,7 +241,7 @@ module _ (n : ℕ) (says : AllSay n) where
       (subst (λ (x : Data). Fields n space (item x ds) known first (field_at b.1 b.4.it b.3 ∷ q.1.it) (b.4.nodes ++ q.1.nodes) q.1.known) (sym (object_members d b.0 b.5))
       (field (label_says b.0 b.3 b.4.it b.1 b.6 b.8) (sym (get_past (codes "type") field_attribute_keys b.0 refl) ∙ b.7) (says space b.2 known first b.4 b.9) (fields_say space ds b.4.known (first + length b.4.nodes) q.1 others)))
 
-  array_says : (space : List ℕ) (ms : Members) (known : Known) (first : ℕ) (p : Part ℕ) → HasTypeName ms type_name.Array → container_at container.Items (type_at n space) (inside ms) known first ≡ Some p → Says_ (suc n) space (json.object ms) known first p
+  array_says : (space : List ℕ) (ms : Members) (known : Known) (first : ℕ) (p : Part ℕ) → HasTypeKind ms type_kind.Array → container_at container.Items (type_at n space) (inside ms) known first ≡ Some p → Says_ (suc n) space (json.object ms) known first p
   unfolding container_at
   array_says space ms known first p s e =
       let q = bind4 (room_at first) (λ _. get_member (codes "items") (inside ms)) (λ _ _. bounded (without_all (codes "items" ∷ []) (inside ms))) (λ _ inner _. type_at n space inner known (first + 1))
@@ -251,7 +251,7 @@ module _ (n : ℕ) (says : AllSay n) where
       (ap (λ (place : ℕ). record { it = place; nodes = array q.3.it q.2 ∷ q.3.nodes; known = q.3.known }) room.1 ∙ same_Some _ _ q.8)
       (array_type s (sym (get_past (codes "items") (codes "type" ∷ []) ms refl) ∙ q.5) (others_are array_keys ms q.2 q.6) room.0 (says space q.1 known (first + 1) q.3 q.7))
 
-  map_says : (space : List ℕ) (ms : Members) (known : Known) (first : ℕ) (p : Part ℕ) → HasTypeName ms type_name.Map → container_at container.Values (type_at n space) (inside ms) known first ≡ Some p → Says_ (suc n) space (json.object ms) known first p
+  map_says : (space : List ℕ) (ms : Members) (known : Known) (first : ℕ) (p : Part ℕ) → HasTypeKind ms type_kind.Map → container_at container.Values (type_at n space) (inside ms) known first ≡ Some p → Says_ (suc n) space (json.object ms) known first p
   unfolding container_at
   map_says space ms known first p s e =
       let q = bind4 (room_at first) (λ _. get_member (codes "values") (inside ms)) (λ _ _. bounded (without_all (codes "values" ∷ []) (inside ms))) (λ _ inner _. type_at n space inner known (first + 1))
@@ -274,9 +274,9 @@ module _ (n : ℕ) (says : AllSay n) where
       subst (λ (x : Part ℕ). Says_ (suc n) space (json.array ds) known first x)
       (ap (λ (ps : List ℕ). record { it = first; nodes = union ps ∷ q.1.nodes; known = q.1.known }) places
       ∙ ap (λ (place : ℕ). record { it = place; nodes = union (map (λ b. b.0) q.1.it) ∷ q.1.nodes; known = q.1.known }) room.1 ∙ same_Some _ _ g.1)
-      (union_type room.0 said.2 (kinds_differ said.0 differ))
+      (union_type room.0 said.2 (kinds_distinct said.0 differ))
 
-  record_says : (space : List ℕ) (ms : Members) (known : Known) (first : ℕ) (p : Part ℕ) → HasTypeName ms type_name.Record → record_at (type_at n) space (inside ms) known first ≡ Some p → Says_ (suc n) space (json.object ms) known first p
+  record_says : (space : List ℕ) (ms : Members) (known : Known) (first : ℕ) (p : Part ℕ) → HasTypeKind ms type_kind.Record → record_at (type_at n) space (inside ms) known first ≡ Some p → Says_ (suc n) space (json.object ms) known first p
   unfolding record_at
   record_says space ms known first p s e =
       let rest = without_all name_keys (inside ms) in
@@ -289,22 +289,22 @@ module _ (n : ℕ) (says : AllSay n) where
       subst (λ (x : Part ℕ). Says_ (suc n) space (json.object ms) known first x)
       (ap (λ (place : ℕ). record { it = place; nodes = rec q.1 q.4.it q.3 ∷ q.4.nodes; known = q.4.known }) room.1 ∙ same_Some _ _ g.1)
       (record_type s (named_is space ms known q.1 q.6) (sym (items_past (codes "fields") (codes "type" ∷ name_keys) ms refl) ∙ q.7) (others_are record_keys ms q.3 q.8) room.0
-      (fields_say (namespace_of q.1.name) q.2 (defined known q.1.name first) (first + 1) q.4 fields) (texts_differ (map (λ f. f.name) q.4.it) g.0))
+      (fields_say (namespace_of q.1.name) q.2 (defined known q.1.name first) (first + 1) q.4 fields) (texts_distinct (map (λ f. f.name) q.4.it) g.0))
 
   word_says : (w : TypeKind) (space name : List ℕ) (ms : Members) (known : Known) (first : ℕ) (p : Part ℕ) → text_in (codes "type") ms ≡ Some name → type_kind_of name ≡ w
-      → by_type_name w name (type_at n) space (inside ms) known first ≡ Some p → Says_ (suc n) space (json.object ms) known first p
-  word_says (type_name.Primitive kind) space name ms known first p t w e = primitive_says n space ms known first kind p (name, t, w) e
-  word_says type_name.Array space name ms known first p t w e = array_says space ms known first p (name, t, w) e
-  word_says type_name.Map space name ms known first p t w e = map_says space ms known first p (name, t, w) e
-  word_says type_name.Fixed space name ms known first p t w e = fixed_says n space ms known first p (name, t, w) e
-  word_says type_name.Enum space name ms known first p t w e = enum_says n space ms known first p (name, t, w) e
-  word_says type_name.Record space name ms known first p t w e = record_says space ms known first p (name, t, w) e
-  word_says type_name.Reference space name ms known first p t w e = reference_says n space name ms known first p t w e
+      → by_type_kind w name (type_at n) space (inside ms) known first ≡ Some p → Says_ (suc n) space (json.object ms) known first p
+  word_says (type_kind.Primitive kind) space name ms known first p t w e = primitive_says n space ms known first kind p (name, t, w) e
+  word_says type_kind.Array space name ms known first p t w e = array_says space ms known first p (name, t, w) e
+  word_says type_kind.Map space name ms known first p t w e = map_says space ms known first p (name, t, w) e
+  word_says type_kind.Fixed space name ms known first p t w e = fixed_says n space ms known first p (name, t, w) e
+  word_says type_kind.Enum space name ms known first p t w e = enum_says n space ms known first p (name, t, w) e
+  word_says type_kind.Record space name ms known first p t w e = record_says space ms known first p (name, t, w) e
+  word_says type_kind.Reference space name ms known first p t w e = reference_says n space name ms known first p t w e
 
   object_says : (space : List ℕ) (ms : Members) (known : Known) (first : ℕ) (p : Part ℕ) → object_at (type_at n) space ms known first ≡ Some p → Says_ (suc n) space (json.object ms) known first p
   unfolding object_at
   object_says space ms known first p e =
-      let q = bind_some (text_in (codes "type") ms) (λ name. by_type_name (type_kind_of name) name (type_at n) space (inside ms) known first) p e in
+      let q = bind_some (text_in (codes "type") ms) (λ name. by_type_kind (type_kind_of name) name (type_at n) space (inside ms) known first) p e in
       word_says (type_kind_of q.0) space q.0 ms known first p q.1 refl q.2
 
 pub says : (n : ℕ) → AllSay n

@@ -7,7 +7,7 @@ use Rattle.avro_nodes.specs.Limits.{max_nesting, max_places}
 use Rattle.avro_nodes.specs.declared.node.PrimitiveKind.{PrimitiveKind}
 use Rattle.avro_nodes.specs.Nodes.{NamedView, FieldView, NodeView, primitive, array, mapping, union, enumeration, fixed, rec}
 use Rattle.avro_schema.specs.declared.keywords.TypeKind.{TypeKind}
-use Rattle.avro_schema.specs.declared.keywords.TypeKind.TheVariants as type_name
+use Rattle.avro_schema.specs.declared.keywords.TypeKind.TheVariants as type_kind
 use Rattle.avro_schema.specs.Names.{Known, is_simple, allowed, full_name, alias_in, resolved, defined}
 use Rattle.avro_nodes.specs.Names.{namespace_of, last_part}
 use Rattle.avro_schema.specs.Keywords.{kind_of, type_kind_of}
@@ -76,8 +76,8 @@ abbrev pub record_keys : List (List ℕ)
 record_keys = codes "type" ∷ codes "name" ∷ codes "namespace" ∷ codes "aliases" ∷ codes "fields" ∷ []
 
 -- the object's attribute `type` is a string with this meaning
-abbrev pub HasTypeName : Members → TypeKind → Type 0
-HasTypeName ms w = (name : List ℕ) × (text_in (codes "type") ms ≡ Some name) × (type_kind_of name ≡ w)
+abbrev pub HasTypeKind : Members → TypeKind → Type 0
+HasTypeKind ms w = (name : List ℕ) × (text_in (codes "type") ms ≡ Some name) × (type_kind_of name ≡ w)
 
 -- `Denotes n space value known first place nodes known2`: nested at most `n` levels deep, in the namespace `space` and with the names
 -- `known` defined, the value denotes the type at `place`. It adds `nodes` from the place `first` on: its own node, then those of the types
@@ -91,31 +91,31 @@ mutual
     a_reference : {n : ℕ} {space name : List ℕ} {known : Known} {first place : ℕ} → kind_of name ≡ None → resolved known space name ≡ Some place
         → Denotes (suc n) space (string name) known first place [] known
     -- an object whose `type` names a primitive type, with other attributes (Primitive Types)
-    primitive_type : {n : ℕ} {space : List ℕ} {ms extra : Members} {known : Known} {first : ℕ} {kind : PrimitiveKind} → HasTypeName ms (type_name.Primitive kind) → IsExtra (codes "type" ∷ []) ms extra → first < max_places
+    primitive_type : {n : ℕ} {space : List ℕ} {ms extra : Members} {known : Known} {first : ℕ} {kind : PrimitiveKind} → HasTypeKind ms (type_kind.Primitive kind) → IsExtra (codes "type" ∷ []) ms extra → first < max_places
         → Denotes (suc n) space (json.object ms) known first first (primitive kind extra ∷ []) known
     -- an object whose `type` is a reference; its other attributes are dropped (this project's choice)
-    reference_type : {n : ℕ} {space name : List ℕ} {ms extra : Members} {known : Known} {first place : ℕ} → text_in (codes "type") ms ≡ Some name → type_kind_of name ≡ type_name.Reference
+    reference_type : {n : ℕ} {space name : List ℕ} {ms extra : Members} {known : Known} {first place : ℕ} → text_in (codes "type") ms ≡ Some name → type_kind_of name ≡ type_kind.Reference
         → IsExtra (codes "type" ∷ []) ms extra → resolved known space name ≡ Some place
         → Denotes (suc n) space (json.object ms) known first place [] known
     -- Complex Types, Arrays
-    array_type : {n : ℕ} {space : List ℕ} {ms extra : Members} {items : Data} {known known2 : Known} {first place : ℕ} {nodes : List NodeView} → HasTypeName ms type_name.Array
+    array_type : {n : ℕ} {space : List ℕ} {ms extra : Members} {items : Data} {known known2 : Known} {first place : ℕ} {nodes : List NodeView} → HasTypeKind ms type_kind.Array
         → get_member (codes "items") ms ≡ Some items → IsExtra array_keys ms extra → first < max_places → Denotes n space items known (first + 1) place nodes known2
         → Denotes (suc n) space (json.object ms) known first first (array place extra ∷ nodes) known2
     -- Complex Types, Maps
-    map_type : {n : ℕ} {space : List ℕ} {ms extra : Members} {values : Data} {known known2 : Known} {first place : ℕ} {nodes : List NodeView} → HasTypeName ms type_name.Map
+    map_type : {n : ℕ} {space : List ℕ} {ms extra : Members} {values : Data} {known known2 : Known} {first place : ℕ} {nodes : List NodeView} → HasTypeKind ms type_kind.Map
         → get_member (codes "values") ms ≡ Some values → IsExtra map_keys ms extra → first < max_places → Denotes n space values known (first + 1) place nodes known2
         → Denotes (suc n) space (json.object ms) known first first (mapping place extra ∷ nodes) known2
     -- Complex Types, Fixed
-    fixed_type : {n : ℕ} {space : List ℕ} {ms extra : Members} {known : Known} {first size : ℕ} {named : NamedView} → HasTypeName ms type_name.Fixed
+    fixed_type : {n : ℕ} {space : List ℕ} {ms extra : Members} {known : Known} {first size : ℕ} {named : NamedView} → HasTypeKind ms type_kind.Fixed
         → IsNamed space ms known named → size_of (get_member (codes "size") ms) ≡ Some size → IsExtra fixed_keys ms extra → first < max_places
         → Denotes (suc n) space (json.object ms) known first first (fixed named size extra ∷ []) (defined known named.name first)
     -- Complex Types, Enums
-    enum_type : {n : ℕ} {space : List ℕ} {ms extra : Members} {known : Known} {first : ℕ} {named : NamedView} {symbols : List (List ℕ)} {fallback : Option (List ℕ)} → HasTypeName ms type_name.Enum
+    enum_type : {n : ℕ} {space : List ℕ} {ms extra : Members} {known : Known} {first : ℕ} {named : NamedView} {symbols : List (List ℕ)} {fallback : Option (List ℕ)} → HasTypeKind ms type_kind.Enum
         → IsNamed space ms known named → IsEnum ms symbols fallback → IsExtra enum_keys ms extra → first < max_places
         → Denotes (suc n) space (json.object ms) known first first (enumeration named symbols fallback extra ∷ []) (defined known named.name first)
     -- A record's name is defined inside it, and its namespace is the enclosing one there (Complex Types, Records; Names). Field names are
     -- distinct (this project's choice).
-    record_type : {n : ℕ} {space : List ℕ} {ms extra : Members} {items : Items} {known known2 : Known} {first : ℕ} {named : NamedView} {fields : List FieldView} {nodes : List NodeView} → HasTypeName ms type_name.Record
+    record_type : {n : ℕ} {space : List ℕ} {ms extra : Members} {items : Items} {known known2 : Known} {first : ℕ} {named : NamedView} {fields : List FieldView} {nodes : List NodeView} → HasTypeKind ms type_kind.Record
         → IsNamed space ms known named → array_in (codes "fields") ms ≡ Some items → IsExtra record_keys ms extra → first < max_places
         → Fields n (namespace_of named.name) items (defined known named.name first) (first + 1) fields nodes known2 → AllDiffer (map (λ f. f.name) fields)
         → Denotes (suc n) space (json.object ms) known first first (rec named fields extra ∷ nodes) known2

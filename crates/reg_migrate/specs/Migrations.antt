@@ -29,7 +29,7 @@ IsMigrationFault old e = (IsTrue old.is_open → IsLayoutOneRegistry old.now) �
 
 -- why `migrate` fails
 pub record IsReasonOver (old new : State) (e : MigrateError) : Type 0 where
-  -- a closed connection, or a registry in layout 1, fails to migrate only because of memory, the disk, or a limit of the file
+  -- over a closed connection or a registry in layout 1, `migrate` fails only because of memory, the disk, or a limit of the file
   pub fault : IsMigrationFault old e
   -- in any other database `Disk` has a disk fault as its cause
   pub disk_cause : HasDiskCause old new e ⊎ IsLayoutOneRegistry old.now

@@ -71,8 +71,8 @@ pub record KeepsStore {S T : Type 0} {g : Ghosts S} (old new : Store S g) (resul
   pub connection : KeepsOpen (state_of old) (state_of new)
   pub settled : RecoversLastCommit (state_of new)
 
--- This project's choice: what `Lines::next` keeps of the store that the lines borrow, for every result. Unlike in `KeepsStore`, the
--- store's failure flag never changes.
+-- This project's choice: what `Lines::next`, and `Store::line_after` for it, keep of the store that the lines borrow, for every result. Unlike
+-- in `KeepsStore`, the store's failure flag never changes.
 pub record LinesKeepStore {S T : Type 0} {g : Ghosts S} (old new : Store S g) (result : Result T StoreError) : Type 0 where
   -- the store's flag stays: only the lines remember a disk fault
   pub failed : has_failed new ≡ has_failed old

@@ -69,16 +69,20 @@ fn put_version_evidence<S: Alter>(
 }
 
 /// Adds a version and its evidence.
-fn put_row<S: Alter>(tx: &mut Transaction<'_, S>, row: &Row, own: &Evidence) -> Result<(), Error>
+fn put_row<S: Alter>(
+    tx: &mut Transaction<'_, S>,
+    row: &Row,
+    evidence: &Evidence,
+) -> Result<(), Error>
     ensures frame { RunsInTransaction S.Store tx.old tx.new result }
     ensures made { HasCleanDisk (state_in S.Store tx.new)
-        → OnOk result (StoresChange (state_in S.Store tx.old) (state_in S.Store tx.new) (AddRow row.now own.now)) }
+        → OnOk result (StoresChange (state_in S.Store tx.old) (state_in S.Store tx.new) (AddRow row.now evidence.now)) }
     ensures fault { HasCleanDisk (state_in S.Store tx.new)
-        → IfErr result (IsFaultOfChange (state_in S.Store tx.old) (state_in S.Store tx.new) (AddRow row.now own.now)) }
+        → IfErr result (IsFaultOfChange (state_in S.Store tx.old) (state_in S.Store tx.new) (AddRow row.now evidence.now)) }
 {
     let subject = row.subject().as_str();
     put_version(tx, subject, row.version(), row.id(), row.deleted())?;
-    put_version_evidence(tx, subject, row.version(), own)
+    put_version_evidence(tx, subject, row.version(), evidence)
 }
 
 fn apply_change<S: Alter>(tx: &mut Transaction<'_, S>, change: &Change) -> Result<(), Error>

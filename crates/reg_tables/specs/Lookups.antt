@@ -12,14 +12,15 @@ use Rattle.reg_tables.specs.Frames.{conn_state, ReadsInAutocommit}
 use Rattle.reg_tables.specs.Reads.{CanBeReadIn, HasTablesIn}
 use Rattle.reg_tables.specs.FailedCalls.{IsFault, IsUnreadable}
 
--- A call that reads this table commits nothing. On a clean disk: if the schema has this table and the tables hold some contents, an Ok is right for them.
+-- On a clean disk, a call that reads this table commits nothing. If the schema has this table and the tables have some contents, an Ok is right for them.
 -- An Err is a fault if the connection was closed, or if the schema has this table and the contents of all tables are readable.
 pub record Finds {S X : Type 0} {g : Ghosts S} (name : TableName) (old new : AutocommitConnection S g) (result : Result X Error) (IsRightFor : Contents → X → Type 0) : Type 0 where
   pub frame : ReadsInAutocommit g old.conn new.conn result
   pub found : HasCleanDisk (conn_state new) → IfOk result (λ x. (schema : Schema) → HasTable name schema → (contents : Contents) → HoldsContents schema (conn_state old).now contents → IsRightFor contents x)
   pub fault : HasCleanDisk (conn_state new) → IfErr result (λ e. CanBeReadIn (HasTable name) (conn_state old) → IsFault (conn_state old) (conn_state new) e)
 
--- A call that lists a table changes nothing. If the table is declared, an Ok lists its rows, and an Err is a fault or an unreadable row. If the table is readable, an Err is a fault.
+-- On a clean disk, a call that lists a table commits nothing. If the table is declared, an Ok is right for the database. An Err is a fault if the
+-- connection was closed or the table is readable. An Err is a fault or an unreadable row if the connection was closed or the table is declared.
 pub record ListsTable {S L : Type 0} {g : Ghosts S} (old new : AutocommitConnection S g) (result : Result (Vec L Global) Error) (IsDeclared : Schema → Type 0) (IsReadable : State → Type 0) (IsRightFor : Database → List L → Type 0) : Type 0 where
   pub frame : ReadsInAutocommit g old.conn new.conn result
   pub listed : HasCleanDisk (conn_state new) → IfOk result (λ lines. IsDeclared (conn_state old).now.schema → IsRightFor (conn_state old).now lines.items)

@@ -19,8 +19,9 @@
 //!   `ConstraintViolation(PrimaryKey)` if the row's rowid is out of range or taken.
 //!
 //! A function may return any other error if the database lacks the tables that it needs. A function
-//! that reads may also return any other error if the tables *can't be read*: a table that it needs
-//! is missing, or in some table a cell has another type, is out of range or isn't UTF-8, or two
+//! that reads may also return any other error if the tables *can't be read*: the schema doesn't
+//! begin with the five tables of layout 1 (for a table that layout 2 adds: it isn't that of the
+//! eight tables), or in some table a cell has another type, is out of range or isn't UTF-8, or two
 //! rows have the same key.
 
 #![tactic(auto)]

@@ -210,7 +210,7 @@ pub fn end_record(
 }
 
 /// Writes the beginning of a field, with the key `type` at its end. The caller writes the type
-/// next, and then the returned members, by `write_rest`.
+/// next, and then, by `write_rest`, the returned members and the closing bracket.
 ///
 /// # Errors
 ///

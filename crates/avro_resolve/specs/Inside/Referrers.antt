@@ -162,8 +162,8 @@ CanMatchKinds sources writer_place referrer ByName ByName = Unit {0}
 CanMatchKinds sources writer_place referrer ByName (ByAlias number) = entry_at sources referrer number ≡ writer_place + 1
 CanMatchKinds sources writer_place referrer _ _ = ⊥
 
--- The kinds of a writer's link to this place and of a reader's link match. If the labels of the links are equal too, the pair of their referrers
--- depends on the pair of the places to which the links refer.
+-- The kinds of a writer's link to this place and of a reader's link match. If they are links of two schemas (AreReferrers) and their labels are
+-- equal too, the pair of their referrers depends on the pair of the places to which they refer.
 abbrev pub LinkKindsMatch : List (Vec ℕ Global) → ℕ → Link → Link → Type 0
 LinkKindsMatch sources writer_place writer_link reader_link = CanMatchKinds sources writer_place writer_link.referrer writer_link.kind reader_link.kind
 

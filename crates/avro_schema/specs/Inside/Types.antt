@@ -8,7 +8,7 @@ use Rattle.serde_json.specs.Find.{get_member, as_object}
 use Rattle.avro_nodes.specs.declared.node.PrimitiveKind.{PrimitiveKind}
 use Rattle.avro_nodes.specs.Nodes.{FieldView, NodeView, primitive, array, mapping, union, rec}
 use Rattle.avro_schema.specs.declared.keywords.TypeKind.{TypeKind}
-use Rattle.avro_schema.specs.declared.keywords.TypeKind.TheVariants as type_name
+use Rattle.avro_schema.specs.declared.keywords.TypeKind.TheVariants as type_kind
 use Rattle.avro_schema.specs.declared.keywords.Container.{Container}
 use Rattle.avro_schema.specs.declared.keywords.Container.TheVariants.{Items as of_items, Values as of_values}
 use Rattle.avro_schema.specs.Inside.KindNumbers.{branch_number}
@@ -96,20 +96,20 @@ record_at types space ms known first = do
 
 -- ---- types
 
--- an object, by its type name; `ms` are its other members
-abbrev pub by_type_name : TypeKind → List ℕ → TypeReader → List ℕ → Members → Known → ℕ → Option (Part ℕ)
-by_type_name (type_name.Primitive kind) name types space ms known first = primitive_at kind ms known first
-by_type_name type_name.Array name types space ms known first = container_at of_items (types space) ms known first
-by_type_name type_name.Map name types space ms known first = container_at of_values (types space) ms known first
-by_type_name type_name.Fixed name types space ms known first = fixed_at space ms known first
-by_type_name type_name.Enum name types space ms known first = enum_at space ms known first
-by_type_name type_name.Record name types space ms known first = record_at types space ms known first
-by_type_name type_name.Reference name types space ms known first = bounded ms >>= λ _. reference_to space name known
+-- an object, by what its `type` declares; `ms` are its other members
+abbrev pub by_type_kind : TypeKind → List ℕ → TypeReader → List ℕ → Members → Known → ℕ → Option (Part ℕ)
+by_type_kind (type_kind.Primitive kind) name types space ms known first = primitive_at kind ms known first
+by_type_kind type_kind.Array name types space ms known first = container_at of_items (types space) ms known first
+by_type_kind type_kind.Map name types space ms known first = container_at of_values (types space) ms known first
+by_type_kind type_kind.Fixed name types space ms known first = fixed_at space ms known first
+by_type_kind type_kind.Enum name types space ms known first = enum_at space ms known first
+by_type_kind type_kind.Record name types space ms known first = record_at types space ms known first
+by_type_kind type_kind.Reference name types space ms known first = bounded ms >>= λ _. reference_to space name known
 
 unfoldable pub object_at : TypeReader → List ℕ → Members → Known → ℕ → Option (Part ℕ)
 object_at types space ms known first = do
   name ← text_in (codes "type") ms
-  by_type_name (type_kind_of name) name types space (without_all (codes "type" ∷ []) ms) known first
+  by_type_kind (type_kind_of name) name types space (without_all (codes "type" ∷ []) ms) known first
 
 -- a value, by its JSON form; `types` reads the types inside it
 abbrev pub form_at : TypeReader → List ℕ → PartReader ℕ

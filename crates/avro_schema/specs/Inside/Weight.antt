@@ -7,7 +7,7 @@ use Rattle.serde_json.specs.Find.{get_member, as_str, as_object}
 use Rattle.avro_nodes.specs.Names.{has_dot, namespace_of}
 use Rattle.avro_nodes.specs.Nodes.{NamedView, NodeView, primitive, array, mapping, union, enumeration, fixed, rec}
 use Rattle.avro_schema.specs.declared.keywords.TypeKind.{TypeKind}
-use Rattle.avro_schema.specs.declared.keywords.TypeKind.TheVariants as type_name
+use Rattle.avro_schema.specs.declared.keywords.TypeKind.TheVariants as type_kind
 use Rattle.avro_schema.specs.Names.{qualified}
 use Rattle.avro_schema.specs.Keywords.{type_kind_of}
 use Rattle.avro_schema.specs.Attributes.{text_in, array_in}
@@ -75,18 +75,18 @@ record_weight types space ms =
     map_or_zero (λ name. names_weight (namespace_in space name ms) name ms + map_or_zero (items_weight (field_weight (types (namespace_in space name ms)))) (array_in (codes "fields") ms))
     (text_in (codes "name") ms)
 
--- the bytes of an object, by its type name
-abbrev pub by_type_name : TypeKind → Weigher → List ℕ → Members → ℕ
-by_type_name (type_name.Primitive kind) types space ms = 0
-by_type_name type_name.Array types space ms = map_or_zero (types space) (get_member (codes "items") ms)
-by_type_name type_name.Map types space ms = map_or_zero (types space) (get_member (codes "values") ms)
-by_type_name type_name.Fixed types space ms = enum_or_fixed_weight space ms
-by_type_name type_name.Enum types space ms = enum_or_fixed_weight space ms
-by_type_name type_name.Record types space ms = record_weight types space ms
-by_type_name type_name.Reference types space ms = 0
+-- the bytes of an object, by what its `type` declares
+abbrev pub by_type_kind : TypeKind → Weigher → List ℕ → Members → ℕ
+by_type_kind (type_kind.Primitive kind) types space ms = 0
+by_type_kind type_kind.Array types space ms = map_or_zero (types space) (get_member (codes "items") ms)
+by_type_kind type_kind.Map types space ms = map_or_zero (types space) (get_member (codes "values") ms)
+by_type_kind type_kind.Fixed types space ms = enum_or_fixed_weight space ms
+by_type_kind type_kind.Enum types space ms = enum_or_fixed_weight space ms
+by_type_kind type_kind.Record types space ms = record_weight types space ms
+by_type_kind type_kind.Reference types space ms = 0
 
 unfoldable pub object_weight : Weigher → List ℕ → Members → ℕ
-object_weight types space ms = map_or_zero (λ name. by_type_name (type_kind_of name) types space ms) (text_in (codes "type") ms)
+object_weight types space ms = map_or_zero (λ name. by_type_kind (type_kind_of name) types space ms) (text_in (codes "type") ms)
 
 abbrev pub form_weight : Weigher → Weigher
 form_weight types space (json.array ds) = items_weight (types space) ds

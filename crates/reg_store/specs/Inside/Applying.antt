@@ -55,7 +55,7 @@ with_ids key n (id ∷ ids) contents = with_ids key (n + 1) ids (with_against (k
 
 -- the contents with this evidence of the version
 abbrev pub with_level_and_ids : RowKey → Evidence → Contents → Contents
-with_level_and_ids key own contents = with_ids key 1 own.against (with_evidence key (level_text own.level) contents)
+with_level_and_ids key evidence contents = with_ids key 1 evidence.against (with_evidence key (level_text evidence.level) contents)
 
 -- the version has no ids
 abbrev pub HasNoPositions : Contents → RowKey → Type 0
@@ -76,13 +76,13 @@ abbrev pub IsFaultOfIds : State → State → RowKey → List ℕ → Error → 
 IsFaultOfIds old new key ids e = (schema : Schema) → IsLayoutTwo schema → (contents : Contents) → HoldsContents schema old.now contents → HasNoPositions contents key → HasTexts contents key ids → IsInsertFault old new e
 
 -- if the version had no evidence, it now has this
-pub record PutsEvidence (old new : State) (key : RowKey) (own : Evidence) : Type 0 where
-  pub few : length own.against < 2 ^ 32
-  pub puts : (schema : Schema) → IsLayoutTwo schema → (contents : Contents) → HoldsContents schema old.now contents → get contents.evidence key ≡ None → HasNoPositions contents key → HoldsContents schema new.now (with_level_and_ids key own contents)
+pub record PutsEvidence (old new : State) (key : RowKey) (evidence : Evidence) : Type 0 where
+  pub few : length evidence.against < 2 ^ 32
+  pub puts : (schema : Schema) → IsLayoutTwo schema → (contents : Contents) → HoldsContents schema old.now contents → get contents.evidence key ≡ None → HasNoPositions contents key → HoldsContents schema new.now (with_level_and_ids key evidence contents)
 
 -- adding the evidence fails only for a reason that every write has
 abbrev pub IsFaultOfEvidence : State → State → RowKey → Evidence → Error → Type 0
-IsFaultOfEvidence old new key own e = (schema : Schema) → IsLayoutTwo schema → (contents : Contents) → HoldsContents schema old.now contents → get contents.evidence key ≡ None → HasNoPositions contents key → HasTexts contents key own.against → IsInsertFault old new e
+IsFaultOfEvidence old new key evidence e = (schema : Schema) → IsLayoutTwo schema → (contents : Contents) → HoldsContents schema old.now contents → get contents.evidence key ≡ None → HasNoPositions contents key → HasTexts contents key evidence.against → IsInsertFault old new e
 
 -- ---- adding the index
 

@@ -116,7 +116,7 @@ version_at line = (string_bytes line.subject, line.version)
 abbrev pub position_at : RawAgainst → VersionPosition
 position_at line = ((string_bytes line.subject, line.version), line.position)
 
--- each version with ids has evidence, and its ids are at the positions from 1 to their number
+-- each version with ids has evidence, and the positions of its ids are exactly those from 1 to some number
 abbrev pub AreInSequence : List RawEvidence → List RawAgainst → Type 0
 AreInSequence evidence against = HaveEvidence (map version_at evidence) (map position_at against) × AreContiguous (map position_at against)
 

@@ -15,9 +15,9 @@ use reg_tables::{RawMeta, raw_meta};
 use sqlite::Alter;
 use std::alloc::Global;
 
-/// The subject's own level (`None` if it has none, or without a subject) and the global level, then
-/// the same two of modes. The levels may be placeholders unless `needs.levels` is set, the modes
-/// unless `needs.modes` is set.
+/// The subject's own level (`None` if it has none, or without a subject) and the global level, and
+/// likewise its own mode and the global mode. The levels may be placeholders unless `needs.levels`
+/// is set, the modes unless `needs.modes` is set.
 pub(crate) fn settings_for<S: Alter>(
     alloc: Global,
     db: &mut Conn<S>,

@@ -78,7 +78,7 @@ fn has_no_extras(table: &Table) -> bool
     table.computed.as_slice().is_empty() && has_no_stamps(&table.stamps) && !table.is_counted
 }
 
-/// Whether a column of a STRICT table is as declared, apart from NOT NULL: name and type as given,
+/// Whether a column is as declared, apart from NOT NULL: the given name and type, in a STRICT table,
 /// default NULL, compared by bytes.
 fn is_declared_but_for_null(column: &Column, name: &[u8], kind: Kind) -> bool
     ensures { IsTrue result ↔ (column.now ≡ record column.now {

@@ -16,7 +16,7 @@ returns-in_err-put_version-clause-fault g c clean =
     let new = state g.S.Store c.put_version.new.tx.conn.now in
     let e = c.in_err-put_version.field-0.0 in
     let row = c.args.row.now in
-    let change = AddRow row c.args.own.now in
+    let change = AddRow row c.args.evidence.now in
     let fails = rw (c.as_str-subject.ensures.text, c.subject.ensures, c.version.ensures, c.id.ensures) at (c.in_err-put_version.ensures.fault clean) in
     erred_with c.from_residual.result e (IsFaultOfChange old new change) c.from_residual.ensures.1
     (fault_of_change old new e (c.in_err-put_version.ensures.frame.shut clean) change (λ was it fit.
@@ -29,7 +29,7 @@ returns-clause-made g c clean =
     let early : HasCleanDisk mid = omega (arith, c.put_version_evidence.ensures.frame.keeps.survives.clean) in
     let placed = rw (c.as_str-subject.ensures.text, c.subject.ensures, c.version.ensures, c.id.ensures, c.deleted.ensures) at (c.in_ok-put_version.ensures.put early) in
     let within = rw (c.as_str-subject.ensures.text, c.subject.ensures) at c.as_str-subject.ensures.subject in
-    on_ok c.put_version_evidence.result (λ given was s fits. spells_row old mid (state g.S.Store c.put_version_evidence.new.tx.conn.now) c.args.row.now c.args.own.now placed was s fits within given)
+    on_ok c.put_version_evidence.result (λ given was s fits. spells_row old mid (state g.S.Store c.put_version_evidence.new.tx.conn.now) c.args.row.now c.args.evidence.now placed was s fits within given)
     (rw (c.as_str-subject.ensures.text, c.subject.ensures, c.version-2.ensures) at (c.put_version_evidence.ensures.put clean))
 
 pub returns-clause-fault : goal.returns-clause-fault
@@ -42,5 +42,5 @@ returns-clause-fault g c clean =
     let placed = rw (c.as_str-subject.ensures.text, c.subject.ensures, c.version.ensures, c.id.ensures, c.deleted.ensures) at (first.put early) in
     if_err c.put_version_evidence.result (λ e fails was over fits.
     insert_fault_later old mid new first.frame.keeps.survives early c.put_version_evidence.ensures.frame.keeps.survives.counts (first.frame.inside early) e
-    (row_fails old mid new c.args.row.now c.args.own.now placed was (over (first.frame.was_open early)) fits e fails))
+    (row_fails old mid new c.args.row.now c.args.evidence.now placed was (over (first.frame.was_open early)) fits e fails))
     (rw (c.as_str-subject.ensures.text, c.subject.ensures, c.version-2.ensures) at (c.put_version_evidence.ensures.fault clean))
