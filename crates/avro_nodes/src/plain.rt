@@ -7,7 +7,7 @@ ghost use Rattle.std.specs.Char.{is_ascii_digit};
 ghost use Rattle.std.specs.List.{prefix_len, list_all};
 ghost use Rattle.std.specs.Str.{IsCharBoundary};
 ghost use Rattle.std.specs.Str.Parse.{digits_value};
-ghost use Rattle.avro_nodes.specs.Plain.{Inside, Outside, is_number_char as is_number_char_of, pieces, joined, before, is_whole, whole_part as whole_part_of, are_digits as are_digits_of, are_zeros as are_zeros_of, respelt_whole, begins_number as begins_number_of, piece_text, run as run_of, plain};
+ghost use Rattle.avro_nodes.specs.Plain.{Inside, Outside, is_number_char as is_number_char_of, pieces, joined, before, is_whole, whole_part, are_digits as are_digits_of, are_zeros as are_zeros_of, respelt_whole, begins_number as begins_number_of, piece_text, run as run_of, plain};
 
 use crate::error::OutOfMemory;
 use memchr::memchr2;
@@ -128,9 +128,9 @@ fn are_zeros(text: &str) -> bool
 
 /// The part of a run before its point, or the whole run without a point. It is `None` unless the
 /// point is followed by one or more zeros and nothing else.
-fn whole_part(run: &str) -> Option<&str>
+fn whole_part_if_integer(run: &str) -> Option<&str>
     ensures { option_map (λ s. s.now) result
-        ≡ (if is_whole run.now then Some (whole_part_of run.now) else None) }
+        ≡ (if is_whole run.now then Some (whole_part run.now) else None) }
 {
     match run.split_once('.') {
         None => Some(run),
@@ -189,7 +189,7 @@ fn respell_run(run: &str) -> Option<&str>
     ensures { option_map (λ s. s.now) result ≡ piece_text (run_of run.now) }
 {
     if begins_number(run) {
-        respell_whole(whole_part(run)?)
+        respell_whole(whole_part_if_integer(run)?)
     } else {
         Some(run)
     }
