@@ -12,7 +12,7 @@ use Rattle.reg_core.specs.declared.number.VersionChoice.{VersionChoice}
 use Rattle.reg_core.specs.declared.number.VersionChoice.TheVariants.{Latest, Numbered}
 use Rattle.reg_core.specs.Compatibility.{latest}
 use Rattle.reg_core.specs.Registry.{Registry, Row, Version}
-use Rattle.reg_core.specs.Rows.{rows_of, shown_rows, chosen_row}
+use Rattle.reg_core.specs.Rows.{rows_of, visible_rows, chosen_row}
 use Rattle.reg_core.specs.ReadCommands.{found_row}
 use Rattle.reg_core.proofs.RowLemmas.{rows_of-subject, rows_of-got, got-rows_of, filter_keeps}
 
@@ -56,10 +56,10 @@ filter_all p (x ∷ xs) h =
     ap (λ b. if b then x ∷ filter p xs else filter p xs) (All-head (λ y. p y ≡ true) x xs h) ∙ ap (λ rest. x ∷ rest) (filter_all p xs (All-tail (λ y. p y ≡ true) x xs h))
 
 -- the last shown version is shown
-pub last_is_shown : (deleted : Bool) (rows : List Row) → shown_rows deleted (latest (shown_rows deleted rows)) ≡ latest (shown_rows deleted rows)
+pub last_is_shown : (deleted : Bool) (rows : List Row) → visible_rows deleted (latest (visible_rows deleted rows)) ≡ latest (visible_rows deleted rows)
 last_is_shown deleted rows =
     let p = λ (row : Row). deleted || not row.1.deleted in
-    filter_all p (latest (shown_rows deleted rows)) (All-latest (λ row. p row ≡ true) (shown_rows deleted rows) (filter_passes p rows))
+    filter_all p (latest (visible_rows deleted rows)) (All-latest (λ row. p row ≡ true) (visible_rows deleted rows) (filter_passes p rows))
 
 -- the last version suffices to find the latest one, or that there is none
 last_alone : (rows : List Row) → found_row (Some Latest) (latest rows) ≡ found_row (Some Latest) rows
@@ -68,8 +68,8 @@ last_alone (row ∷ []) = refl
 last_alone (row ∷ next ∷ rows) = last_alone (next ∷ rows)
 
 -- the last shown version suffices to find the latest shown one
-pub latest_tells : (deleted : Bool) (rows : List Row) → found_row (Some Latest) (shown_rows deleted (latest (shown_rows deleted rows))) ≡ found_row (Some Latest) (shown_rows deleted rows)
-latest_tells deleted rows = ap (found_row (Some Latest)) (last_is_shown deleted rows) ∙ last_alone (shown_rows deleted rows)
+pub latest_tells : (deleted : Bool) (rows : List Row) → found_row (Some Latest) (visible_rows deleted (latest (visible_rows deleted rows))) ≡ found_row (Some Latest) (visible_rows deleted rows)
+latest_tells deleted rows = ap (found_row (Some Latest)) (last_is_shown deleted rows) ∙ last_alone (visible_rows deleted rows)
 
 -- ---- a version by its number
 
@@ -99,7 +99,7 @@ absent_among number (row ∷ rows) h = by (latest (row ∷ rows)) refl (All-late
 
 module _ (g : Registry) (subject : List ℕ) (number : ℕ) (deleted : Bool) where
   abbrev rows : List Row
-  rows = shown_rows deleted (rows_of g subject)
+  rows = visible_rows deleted (rows_of g subject)
 
   abbrev HasNumber : Row → Bool
   HasNumber row = row.0.1 == number
@@ -109,7 +109,7 @@ module _ (g : Registry) (subject : List ℕ) (number : ℕ) (deleted : Bool) whe
 
   -- if no shown version has the number, the last shown one suffices to find none
   pub absent_told : ((version : Version) → get g.rows (subject, number) ≡ Some version → (deleted || not version.deleted) ≡ false)
-      → found_row (Some (Numbered number)) (shown_rows deleted (latest rows)) ≡ found_row (Some (Numbered number)) rows
+      → found_row (Some (Numbered number)) (visible_rows deleted (latest rows)) ≡ found_row (Some (Numbered number)) rows
   absent_told hidden = ap (found_row (Some (Numbered number))) (last_is_shown deleted (rows_of g subject)) ∙ absent_among number rows (λ k d lt. not_it _ (of_subject k d lt) (got k d lt) (filter_passes IsShown (rows_of g subject) k d lt))
     where
       of_subject : All (λ (row : Row). row.0.0 ≡ subject) rows
@@ -161,7 +161,7 @@ module _ (g : Registry) (subject : List ℕ) (number : ℕ) (deleted : Bool) whe
     found_only (r ∷ rs) one there = ap (λ (o : Option Row). ok_or o VersionNotFound) (find_only (r ∷ rs) one there)
 
     -- the version with the number suffices to find it
-    pub number_told : found_row (Some (Numbered number)) (shown_rows deleted (row ∷ [])) ≡ found_row (Some (Numbered number)) rows
+    pub number_told : found_row (Some (Numbered number)) (visible_rows deleted (row ∷ [])) ≡ found_row (Some (Numbered number)) rows
     number_told =
         ap (found_row (Some (Numbered number))) (filter_all IsShown (row ∷ []) (All-cons (λ (r : Row). IsShown r ≡ true) row [] shown (All-nil (λ (r : Row). IsShown r ≡ true))))
         ∙ ap (λ b. ok_or (if b then Some row else None) VersionNotFound) (eq-eqb number number refl)

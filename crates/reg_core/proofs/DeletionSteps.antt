@@ -14,7 +14,7 @@ use Rattle.reg_core.specs.Machine.{permitted_step}
 use Rattle.reg_core.specs.Numbers.{parse_choice}
 use Rattle.reg_core.specs.Replies.{ReplyView, success, fault}
 use Rattle.reg_core.specs.Registry.{Registry, Row}
-use Rattle.reg_core.specs.Rows.{rows_of, shown_rows, live_rows}
+use Rattle.reg_core.specs.Rows.{rows_of, visible_rows, live_rows}
 use Rattle.reg_core.specs.Views.{after_changes, IsDecisionInput}
 use Rattle.reg_core.proofs.ChosenRows.{filter_all}
 use Rattle.reg_core.proofs.DeletionLemmas.{All-row_to_soft_delete, All-row_to_remove, row_to_soft_delete-got}
@@ -22,7 +22,7 @@ use Rattle.reg_core.proofs.RowLemmas.{rows_of-subject}
 use Rattle.reg_core.proofs.DeletionChanges.{deleted_as, removed_as, changes_of, subject_deleted_as, subject_removed_as}
 
 -- with `deleted`, all versions are shown
-pub all_shown : (rows : List Row) → shown_rows true rows ≡ rows
+pub all_shown : (rows : List Row) → visible_rows true rows ≡ rows
 all_shown rows = filter_all (λ (row : Row). true || not row.1.deleted) rows (λ k d lt. refl)
 
 module _ (g : Registry) (subject version : List ℕ) (permanent : Bool) (view : View) (schema : Option (List NodeView)) (input : IsDecisionInput g (DeleteVersion subject version permanent) schema view) where

@@ -16,7 +16,7 @@ use Rattle.reg_core.specs.DeletionCommands.{require_live, require_deleted, found
 use Rattle.reg_core.specs.ReadCommands.{found_row, lookup_row, rows_with_id}
 use Rattle.reg_core.specs.RegisterCommands.{is_among}
 use Rattle.reg_core.specs.Registry.{Row}
-use Rattle.reg_core.specs.Rows.{rows_with, live_rows, shown_rows, next_number}
+use Rattle.reg_core.specs.Rows.{rows_with, live_rows, visible_rows, next_number}
 use Rattle.reg_core.specs.declared.needs.SubjectRows.{SubjectRows}
 use Rattle.reg_core.specs.declared.needs.SubjectRows.TheVariants.{Every, ToChoose, ToDelete, ToLookUp, ToCompare, ToRegister}
 use Rattle.reg_core.specs.Needs.{SufficeToRegister, SufficeForSubject}
@@ -127,9 +127,9 @@ registers_all level known seen all is = subst (λ (rows : List Row). SufficeToRe
 
 pub all_tell : (level : Level) (known : Option ℕ) (asked : SubjectRows) (seen all : List Row) → seen ≡ all → SufficeForSubject level known asked seen all
 all_tell level known Every seen all is = is
-all_tell level known (ToChoose choice deleted) seen all is = ap (λ (rows : List Row). found_row choice (shown_rows deleted rows)) is
+all_tell level known (ToChoose choice deleted) seen all is = ap (λ (rows : List Row). found_row choice (visible_rows deleted rows)) is
 all_tell level known (ToDelete choice permanent) seen all is = ap (row_to_delete permanent choice) is
-all_tell level known (ToLookUp deleted) seen all is = ap (λ (rows : List Row). lookup_row known (shown_rows deleted rows)) is
+all_tell level known (ToLookUp deleted) seen all is = ap (λ (rows : List Row). lookup_row known (visible_rows deleted rows)) is
 all_tell level known ToCompare seen all is = ap (λ (rows : List Row). named_versions level (live_rows rows)) is
 all_tell level known ToRegister seen all is = registers_all level known seen all is
 
@@ -150,13 +150,13 @@ looked_some (Some id) [] row e = absurd (none-some row e)
 looked_some (Some id) (r ∷ rows) row e = ap (λ (o : Option Row). ok_or o SchemaNotFound) e
 
 -- the last shown version with the id suffices to look it up
-pub looks_up_found : (deleted : Bool) (id : ℕ) (row : Row) (all : List Row) → last_or None (rows_with id (shown_rows deleted all)) ≡ Some row → (deleted || not row.1.deleted) ≡ true → row.1.id ≡ id
-    → lookup_row (Some id) (shown_rows deleted (row ∷ [])) ≡ lookup_row (Some id) (shown_rows deleted all)
+pub looks_up_found : (deleted : Bool) (id : ℕ) (row : Row) (all : List Row) → last_or None (rows_with id (visible_rows deleted all)) ≡ Some row → (deleted || not row.1.deleted) ≡ true → row.1.id ≡ id
+    → lookup_row (Some id) (visible_rows deleted (row ∷ [])) ≡ lookup_row (Some id) (visible_rows deleted all)
 looks_up_found deleted id row all e shown has =
     let p = λ (r : Row). deleted || not r.1.deleted in
-    let alone : shown_rows deleted (row ∷ []) ≡ row ∷ [] = filter_all p (row ∷ []) (All-cons (λ (r : Row). p r ≡ true) row [] shown (All-nil (λ (r : Row). p r ≡ true))) in
+    let alone : visible_rows deleted (row ∷ []) ≡ row ∷ [] = filter_all p (row ∷ []) (All-cons (λ (r : Row). p r ≡ true) row [] shown (All-nil (λ (r : Row). p r ≡ true))) in
     let itself : last_or None (rows_with id (row ∷ [])) ≡ Some row = ap (λ (b : Bool). last_or None (if b then row ∷ [] else [])) (eq-eqb row.1.id id has) in
-    ap (lookup_row (Some id)) alone ∙ looked_some (Some id) (row ∷ []) row itself ∙ sym (looked_some (Some id) (shown_rows deleted all) row e)
+    ap (lookup_row (Some id)) alone ∙ looked_some (Some id) (row ∷ []) row itself ∙ sym (looked_some (Some id) (visible_rows deleted all) row e)
 
 none_last_of : (xs : List Row) → last_or None xs ≡ None → xs ≡ []
 none_last_of [] e = refl
@@ -174,10 +174,10 @@ looked_last known (row ∷ rows) e = by (latest (row ∷ rows)) refl (none_lates
     by (r ∷ rs) is none = looked_none known r rs none
 
 -- if no shown version has the id, the last shown one suffices
-pub looks_up_none : (deleted : Bool) (known : Option ℕ) (all : List Row) → last_or None (rows_with_id known (shown_rows deleted all)) ≡ None
-    → lookup_row known (shown_rows deleted (latest (shown_rows deleted all))) ≡ lookup_row known (shown_rows deleted all)
+pub looks_up_none : (deleted : Bool) (known : Option ℕ) (all : List Row) → last_or None (rows_with_id known (visible_rows deleted all)) ≡ None
+    → lookup_row known (visible_rows deleted (latest (visible_rows deleted all))) ≡ lookup_row known (visible_rows deleted all)
 looks_up_none deleted known all e =
-    ap (lookup_row known) (last_is_shown deleted all) ∙ looked_last known (shown_rows deleted all) (none_last_of (rows_with_id known (shown_rows deleted all)) e)
+    ap (lookup_row known) (last_is_shown deleted all) ∙ looked_last known (visible_rows deleted all) (none_last_of (rows_with_id known (visible_rows deleted all)) e)
 
 -- ---- DeleteVersion
 
@@ -218,13 +218,13 @@ marks_none (row ∷ rows) e = by (latest (row ∷ rows)) refl dead ∙ sym (mark
     by (r ∷ rs) is h = marked_none r rs (passes_none (λ (x : Row). not x.1.deleted) (r ∷ rs) h)
 
 -- versions that suffice to choose one with `deleted` suffice to choose it of all
-found_shown : (choice : Option VersionChoice) (seen all : List Row) → found_row choice (shown_rows true seen) ≡ found_row choice (shown_rows true all) → found_row choice seen ≡ found_row choice all
+found_shown : (choice : Option VersionChoice) (seen all : List Row) → found_row choice (visible_rows true seen) ≡ found_row choice (visible_rows true all) → found_row choice seen ≡ found_row choice all
 found_shown choice seen all e = ap (found_row choice) (sym (all_shown seen)) ∙ (e ∙ ap (found_row choice) (all_shown all))
 
-pub removes_shown : (choice : Option VersionChoice) (seen all : List Row) → found_row choice (shown_rows true seen) ≡ found_row choice (shown_rows true all) → row_to_delete true choice seen ≡ row_to_delete true choice all
+pub removes_shown : (choice : Option VersionChoice) (seen all : List Row) → found_row choice (visible_rows true seen) ≡ found_row choice (visible_rows true all) → row_to_delete true choice seen ≡ row_to_delete true choice all
 removes_shown choice seen all e = removes_as choice seen all (found_shown choice seen all e)
 
-pub marks_shown : (number : ℕ) (seen all : List Row) → found_row (Some (Numbered number)) (shown_rows true seen) ≡ found_row (Some (Numbered number)) (shown_rows true all)
+pub marks_shown : (number : ℕ) (seen all : List Row) → found_row (Some (Numbered number)) (visible_rows true seen) ≡ found_row (Some (Numbered number)) (visible_rows true all)
     → row_to_delete false (Some (Numbered number)) seen ≡ row_to_delete false (Some (Numbered number)) all
 marks_shown number seen all e = marks_as number seen all (found_shown (Some (Numbered number)) seen all e)
 

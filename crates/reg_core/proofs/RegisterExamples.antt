@@ -9,7 +9,7 @@ use Rattle.avro_nodes.specs.Identity.{identity_at}
 use Rattle.reg_core.specs.declared.code.Code.TheVariants.{SubjectNotFound, VersionNotFound, SchemaNotFound, InvalidVersion}
 use Rattle.reg_core.specs.declared.number.VersionChoice.TheVariants.{Latest, Numbered}
 use Rattle.reg_core.specs.Registry.{Row, Schemas}
-use Rattle.reg_core.specs.Rows.{shown_rows, live_rows, chosen_row, next_number, id_of, text_at, schemas_of}
+use Rattle.reg_core.specs.Rows.{visible_rows, live_rows, chosen_row, next_number, id_of, text_at, schemas_of}
 use Rattle.reg_core.specs.ReadCommands.{found_row, lookup_row}
 use Rattle.reg_core.specs.RegisterCommands.{is_among, id_for}
 
@@ -27,10 +27,10 @@ first_number = refl
 deleted_versions_number_is_not_used_again : next_number rows ≡ 8
 deleted_versions_number_is_not_used_again = refl
 
-deleted_versions_are_not_shown : shown_rows false rows ≡ row 1 4 false ∷ row 3 2 false ∷ []
+deleted_versions_are_not_shown : visible_rows false rows ≡ row 1 4 false ∷ row 3 2 false ∷ []
 deleted_versions_are_not_shown = refl
 
-deleted_versions_are_shown_where_asked_for : shown_rows true rows ≡ rows
+deleted_versions_are_shown_where_asked_for : visible_rows true rows ≡ rows
 deleted_versions_are_shown_where_asked_for = refl
 
 latest_is_the_last_that_is_shown : chosen_row Latest (live_rows rows) ≡ Some (row 3 2 false)

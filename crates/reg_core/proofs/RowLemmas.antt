@@ -13,7 +13,7 @@ use Rattle.std.proofs.lemmas.Option.{none-some, same_Some}
 use Rattle.std.proofs.lemmas.Slice.Eq.{bytes_eq-Decides}
 use Rattle.avro_nodes.specs.Nodes.{NodeView}
 use Rattle.reg_core.specs.Registry.{Registry, Schemas, RowKey, Row, Rows, Version, IsRow, IsRegistry, row_cmp, schema_at}
-use Rattle.reg_core.specs.Rows.{rows_of, live_rows, shown_rows, next_number, text_at}
+use Rattle.reg_core.specs.Rows.{rows_of, live_rows, visible_rows, next_number, text_at}
 use Rattle.reg_core.proofs.IdLemmas.{schema_there, text_there}
 
 -- ---- lists
@@ -168,6 +168,6 @@ next_number-absent g subject = by (get g.rows (subject, next_number (rows_of g s
 pub All-live_rows : (P : Row → Type 0) (rows : List Row) → All P rows → All P (live_rows rows)
 All-live_rows P rows h = All-filter (λ (row : Row). not row.1.deleted) P rows h
 
--- if `P` is true of each version, it is true of each shown one
-pub All-shown_rows : (P : Row → Type 0) (deleted : Bool) (rows : List Row) → All P rows → All P (shown_rows deleted rows)
-All-shown_rows P deleted rows h = All-filter (λ (row : Row). deleted || not row.1.deleted) P rows h
+-- if `P` is true of each version, it is true of each visible one
+pub All-visible_rows : (P : Row → Type 0) (deleted : Bool) (rows : List Row) → All P rows → All P (visible_rows deleted rows)
+All-visible_rows P deleted rows h = All-filter (λ (row : Row). deleted || not row.1.deleted) P rows h

@@ -12,7 +12,7 @@ use Rattle.reg_core.specs.Bodies.{version_body, schema_body}
 use Rattle.reg_core.specs.Compatibility.{latest}
 use Rattle.reg_core.specs.Numbers.{parse_id, parse_choice}
 use Rattle.reg_core.specs.Registry.{Registry, Row}
-use Rattle.reg_core.specs.Rows.{rows_of, rows_with, shown_rows, text_at, known_id}
+use Rattle.reg_core.specs.Rows.{rows_of, rows_with, visible_rows, text_at, known_id}
 use Rattle.reg_core.specs.ReadCommands.{Texts, found_row, lookup_row, rows_with_id, text_reply, version_reply, version_text_reply, id_reply, lookup_reply}
 use Rattle.reg_core.specs.Replies.{ReplyView}
 use Rattle.reg_core.specs.RegisterCommands.{supported_schema}
@@ -95,17 +95,17 @@ at_command g schema view told command variant is tells input =
     tells (subst (λ (c : Command). IsDecisionInput g c schema view) is input) ∙ ap (λ (c : Command). (permitted_step g c).1) (sym is)
 
 pub told_version : (g : Registry) (view : View) (subject version : List ℕ) (deleted : Bool) → IsViewOf view g (Version subject version deleted)
-    → version_reply (view_text view) (found_row (parse_choice version) (shown_rows deleted view.rows.items)) ≡ (permitted_step g (Version subject version deleted)).1
+    → version_reply (view_text view) (found_row (parse_choice version) (visible_rows deleted view.rows.items)) ≡ (permitted_step g (Version subject version deleted)).1
 unfolding permitted_step
 told_version g view subject version deleted shows =
-    same_version (view_text view) (text_at g.schemas) (found_row (parse_choice version) (shown_rows deleted view.rows.items)) shows.texts
+    same_version (view_text view) (text_at g.schemas) (found_row (parse_choice version) (visible_rows deleted view.rows.items)) shows.texts
     ∙ ap (version_reply (text_at g.schemas)) shows.rows
 
 pub told_text : (g : Registry) (view : View) (subject version : List ℕ) (deleted : Bool) → IsViewOf view g (Text subject version deleted)
-    → version_text_reply (view_text view) (found_row (parse_choice version) (shown_rows deleted view.rows.items)) ≡ (permitted_step g (Text subject version deleted)).1
+    → version_text_reply (view_text view) (found_row (parse_choice version) (visible_rows deleted view.rows.items)) ≡ (permitted_step g (Text subject version deleted)).1
 unfolding permitted_step
 told_text g view subject version deleted shows =
-    same_version_text (view_text view) (text_at g.schemas) (found_row (parse_choice version) (shown_rows deleted view.rows.items)) shows.texts
+    same_version_text (view_text view) (text_at g.schemas) (found_row (parse_choice version) (visible_rows deleted view.rows.items)) shows.texts
     ∙ ap (version_text_reply (text_at g.schemas)) shows.rows
 
 pub told_id : (g : Registry) (view : View) (id : List ℕ) → IsViewOf view g (ById id) → id_reply (view_text view) (parse_id id) view.rows.items ≡ (permitted_step g (ById id)).1
@@ -125,13 +125,13 @@ known_as texts text true known own rows same = ap (λ id. lookup_reply texts (su
 known_as texts text false known own rows same = refl
 
 pub told_lookup : (g : Registry) (view : View) (schema : Option (List NodeView)) (subject text : List ℕ) (supported deleted : Bool) → schema ≡ supported_schema text supported → IsViewOf view g (Lookup subject text supported deleted)
-    → lookup_reply (view_text view) schema view.known (shown_rows deleted view.rows.items) ≡ (permitted_step g (Lookup subject text supported deleted)).1
+    → lookup_reply (view_text view) schema view.known (visible_rows deleted view.rows.items) ≡ (permitted_step g (Lookup subject text supported deleted)).1
 unfolding permitted_step
 told_lookup g view schema subject text supported deleted sent shows =
-    same_lookup (view_text view) (text_at g.schemas) schema view.known (shown_rows deleted view.rows.items) shows.texts
-    ∙ (ap (λ s. lookup_reply (text_at g.schemas) s view.known (shown_rows deleted view.rows.items)) sent
-    ∙ (lookup_as (text_at g.schemas) (supported_schema text supported) view.known (shown_rows deleted view.rows.items) (shown_rows deleted (rows_of g subject)) shows.rows
-    ∙ known_as (text_at g.schemas) text supported view.known (known_id g.schemas (supported_schema text supported)) (shown_rows deleted (rows_of g subject)) shows.known))
+    same_lookup (view_text view) (text_at g.schemas) schema view.known (visible_rows deleted view.rows.items) shows.texts
+    ∙ (ap (λ s. lookup_reply (text_at g.schemas) s view.known (visible_rows deleted view.rows.items)) sent
+    ∙ (lookup_as (text_at g.schemas) (supported_schema text supported) view.known (visible_rows deleted view.rows.items) (visible_rows deleted (rows_of g subject)) shows.rows
+    ∙ known_as (text_at g.schemas) text supported view.known (known_id g.schemas (supported_schema text supported)) (visible_rows deleted (rows_of g subject)) shows.known))
 
 -- the used schema is the command's schema
 pub used_schema-sent : (c : Command) → used_schema c (command_schema c) ≡ command_schema c

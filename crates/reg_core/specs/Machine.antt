@@ -11,7 +11,7 @@ use Rattle.reg_core.specs.Modes.{mode_of, is_read_only}
 use Rattle.reg_core.specs.Numbers.{parse_id, parse_choice}
 use Rattle.reg_core.specs.Replies.{ReplyView, fault}
 use Rattle.reg_core.specs.Registry.{Registry}
-use Rattle.reg_core.specs.Rows.{rows_of, shown_rows, text_at, known_id}
+use Rattle.reg_core.specs.Rows.{rows_of, visible_rows, text_at, known_id}
 use Rattle.reg_core.specs.Settings.{level_setting, mode_setting, set, own_or_global, setting_reply, setting_reply_or_fault}
 use Rattle.reg_core.specs.ReadCommands.{types_reply, subjects_reply, versions_reply, found_row, version_reply, version_text_reply, id_reply, id_versions_reply, lookup_reply, rows_with_id}
 use Rattle.reg_core.specs.DeletionCommands.{delete_version, delete_subject}
@@ -92,11 +92,11 @@ permitted_step g (DeleteVersion subject version permanent) = delete_version g su
 permitted_step g (DeleteSubject subject permanent) = delete_subject g subject permanent
 permitted_step g Global = (g, setting_reply level_setting g.global)
 permitted_step g (LevelOf subject default_to_global) = (g, setting_reply_or_fault level_setting (own_or_global (g.own subject) g.global default_to_global))
-permitted_step g (Lookup subject text supported deleted) = (g, lookup_reply (text_at g.schemas) (supported_schema text supported) (known_id g.schemas (supported_schema text supported)) (shown_rows deleted (rows_of g subject)))
-permitted_step g (Subjects deleted) = (g, subjects_reply (shown_rows deleted (entries g.rows)))
-permitted_step g (Versions subject deleted) = (g, versions_reply (shown_rows deleted (rows_of g subject)))
-permitted_step g (Version subject version deleted) = (g, version_reply (text_at g.schemas) (found_row (parse_choice version) (shown_rows deleted (rows_of g subject))))
-permitted_step g (Text subject version deleted) = (g, version_text_reply (text_at g.schemas) (found_row (parse_choice version) (shown_rows deleted (rows_of g subject))))
+permitted_step g (Lookup subject text supported deleted) = (g, lookup_reply (text_at g.schemas) (supported_schema text supported) (known_id g.schemas (supported_schema text supported)) (visible_rows deleted (rows_of g subject)))
+permitted_step g (Subjects deleted) = (g, subjects_reply (visible_rows deleted (entries g.rows)))
+permitted_step g (Versions subject deleted) = (g, versions_reply (visible_rows deleted (rows_of g subject)))
+permitted_step g (Version subject version deleted) = (g, version_reply (text_at g.schemas) (found_row (parse_choice version) (visible_rows deleted (rows_of g subject))))
+permitted_step g (Text subject version deleted) = (g, version_text_reply (text_at g.schemas) (found_row (parse_choice version) (visible_rows deleted (rows_of g subject))))
 permitted_step g (ById id) = (g, id_reply (text_at g.schemas) (parse_id id) (rows_with_id (parse_id id) (entries g.rows)))
 permitted_step g (VersionsOfId id deleted) = (g, id_versions_reply (parse_id id) deleted (rows_with_id (parse_id id) (entries g.rows)))
 permitted_step g Types = (g, types_reply)

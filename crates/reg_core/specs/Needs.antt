@@ -14,7 +14,7 @@ use Rattle.reg_core.specs.Numbers.{parse_id, parse_choice}
 use Rattle.reg_core.specs.ReadCommands.{found_row, lookup_row, rows_with_id}
 use Rattle.reg_core.specs.RegisterCommands.{is_among}
 use Rattle.reg_core.specs.Registry.{Registry, Row}
-use Rattle.reg_core.specs.Rows.{rows_of, shown_rows, live_rows, next_number}
+use Rattle.reg_core.specs.Rows.{rows_of, visible_rows, live_rows, next_number}
 
 -- Schema Registry API reference: which versions a command reads, and for those of its subject, the purpose
 abbrev pub row_needs : Command → RowsNeeded
@@ -56,9 +56,9 @@ pub record SufficeToRegister (level : Level) (known : Option ℕ) (seen all : Li
 -- few versions suffice, `seen` may omit the others.
 abbrev pub SufficeForSubject : Level → Option ℕ → SubjectRows → List Row → List Row → Type 0
 SufficeForSubject level known Every seen all = seen ≡ all
-SufficeForSubject level known (ToChoose choice deleted) seen all = found_row choice (shown_rows deleted seen) ≡ found_row choice (shown_rows deleted all)
+SufficeForSubject level known (ToChoose choice deleted) seen all = found_row choice (visible_rows deleted seen) ≡ found_row choice (visible_rows deleted all)
 SufficeForSubject level known (ToDelete choice permanent) seen all = row_to_delete permanent choice seen ≡ row_to_delete permanent choice all
-SufficeForSubject level known (ToLookUp deleted) seen all = lookup_row known (shown_rows deleted seen) ≡ lookup_row known (shown_rows deleted all)
+SufficeForSubject level known (ToLookUp deleted) seen all = lookup_row known (visible_rows deleted seen) ≡ lookup_row known (visible_rows deleted all)
 SufficeForSubject level known ToCompare seen all = named_versions level (live_rows seen) ≡ named_versions level (live_rows all)
 SufficeForSubject level known ToRegister seen all = SufficeToRegister level known seen all
 

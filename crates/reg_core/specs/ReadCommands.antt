@@ -9,7 +9,7 @@ use Rattle.reg_core.specs.declared.code.Code.TheVariants.{InvalidSchema, Invalid
 use Rattle.reg_core.specs.declared.number.VersionChoice.{VersionChoice}
 use Rattle.reg_core.specs.Registry.{Row}
 use Rattle.reg_core.specs.Replies.{ReplyView, success, fault}
-use Rattle.reg_core.specs.Rows.{rows_with, shown_rows, chosen_row}
+use Rattle.reg_core.specs.Rows.{rows_with, visible_rows, chosen_row}
 use Rattle.reg_core.specs.Bodies.{strings_body, numbers_body, subject_versions_body, version_body, schema_body}
 
 -- Schema Registry API reference, GET /schemas/types: only Avro
@@ -62,7 +62,7 @@ id_reply texts (Some id) (row ∷ rows) = text_reply schema_body (texts id)
 abbrev pub id_versions_reply : Option ℕ → Bool → List Row → ReplyView
 id_versions_reply None deleted rows = fault SchemaNotFound
 id_versions_reply (Some id) deleted [] = fault SchemaNotFound
-id_versions_reply (Some id) deleted (row ∷ rows) = success (subject_versions_body (shown_rows deleted (row ∷ rows)))
+id_versions_reply (Some id) deleted (row ∷ rows) = success (subject_versions_body (visible_rows deleted (row ∷ rows)))
 
 -- the versions with this id; none if there is no id
 abbrev pub rows_with_id : Option ℕ → List Row → List Row

@@ -18,9 +18,9 @@ rows_of g subject = filter (λ (row : Row). bytes_eq row.0.0 subject) (entries g
 abbrev pub rows_with : ℕ → List Row → List Row
 rows_with id rows = filter (λ (row : Row). row.1.id == id) rows
 
--- Schema Registry API reference, Subjects: the versions that a command shows: all if `shows_deleted`, else those that aren't soft-deleted
-abbrev pub shown_rows : Bool → List Row → List Row
-shown_rows shows_deleted rows = filter (λ (row : Row). shows_deleted || not row.1.deleted) rows
+-- Schema Registry API reference, Subjects: the versions that a command sees: all if `shows_deleted`, else those that aren't soft-deleted
+abbrev pub visible_rows : Bool → List Row → List Row
+visible_rows shows_deleted rows = filter (λ (row : Row). shows_deleted || not row.1.deleted) rows
 
 -- Schema Registry API reference, Subjects: the versions that aren't soft-deleted
 abbrev pub live_rows : List Row → List Row

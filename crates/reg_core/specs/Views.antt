@@ -19,7 +19,7 @@ use Rattle.reg_core.specs.Numbers.{parse_choice}
 use Rattle.reg_core.specs.Registry.{Registry, IsRegistry, Row, RowKey, Rows, IsRow, Schemas, max_number, schema_at, own_with, own_without}
 use Rattle.reg_core.specs.Registry as registry
 use Rattle.reg_core.specs.DeletionCommands.{as_deleted}
-use Rattle.reg_core.specs.Rows.{shown_rows, live_rows, known_id, id_of, text_at}
+use Rattle.reg_core.specs.Rows.{visible_rows, live_rows, known_id, id_of, text_at}
 use Rattle.reg_core.specs.ReadCommands.{found_row, lookup_row}
 use Rattle.reg_core.specs.RegisterCommands.{is_among}
 use Rattle.reg_core.specs.Replies.{IsCommandReply}
@@ -48,9 +48,9 @@ abbrev pub rows_to_read : Command → View → List Row
 rows_to_read (Register subject text supported) view =
     let live = live_rows view.rows.items in
     if is_among view.known live then [] else named_versions (level_of_view view) live
-rows_to_read (Lookup subject text supported deleted) view = found_as_list (lookup_row view.known (shown_rows deleted view.rows.items))
-rows_to_read (Version subject version deleted) view = found_as_list (found_row (parse_choice version) (shown_rows deleted view.rows.items))
-rows_to_read (Text subject version deleted) view = found_as_list (found_row (parse_choice version) (shown_rows deleted view.rows.items))
+rows_to_read (Lookup subject text supported deleted) view = found_as_list (lookup_row view.known (visible_rows deleted view.rows.items))
+rows_to_read (Version subject version deleted) view = found_as_list (found_row (parse_choice version) (visible_rows deleted view.rows.items))
+rows_to_read (Text subject version deleted) view = found_as_list (found_row (parse_choice version) (visible_rows deleted view.rows.items))
 rows_to_read (ById id) view = latest view.rows.items
 rows_to_read (Check subject version text supported) view = named_versions (level_of_view view) (found_as_list (found_row (parse_choice version) (live_rows view.rows.items)))
 rows_to_read (CheckAll subject text supported) view = named_versions (level_of_view view) (live_rows view.rows.items)

@@ -10,7 +10,7 @@ use Rattle.std.proofs.lemmas.List.Elements.{All-head, All-tail, All-weaker, filt
 use Rattle.sqlite_trees.proofs.ListLemmas.{filter-map}
 use Rattle.reg_core.specs.Compatibility.{latest}
 use Rattle.reg_core.specs.Registry.{Registry, Row, RowKey, Version, row_cmp}
-use Rattle.reg_core.specs.Rows.{rows_of, rows_with, shown_rows}
+use Rattle.reg_core.specs.Rows.{rows_of, rows_with, visible_rows}
 use Rattle.reg_core.proofs.RowLemmas.{each_got, got_entry, row_order, row_keys_apart, filter_keeps}
 use Rattle.reg_core.proofs.ChosenRows.{filter_all, last_or-map}
 use Rattle.reg_tables.specs.declared.listed.SubjectVersion.{SubjectVersion}
@@ -38,17 +38,17 @@ map_map f h (Some x) = refl
 module _ (contents : Contents) (g : Registry) (spelled : (key : RowKey) → get contents.versions key ≡ option_map stored_version (get g.rows key)) (subject : List ℕ) where
   -- the last of all versions: if deleted ones are shown, every version is shown
   pub last_told : (found : Option SubjectVersion) → option_map subject_version_view found ≡ last_or None (subject_versions subject contents)
-      → option_map (λ (line : SubjectVersion). row_numbered subject (subject_version_view line)) found ≡ last_or None (shown_rows true (rows_of g subject))
+      → option_map (λ (line : SubjectVersion). row_numbered subject (subject_version_view line)) found ≡ last_or None (visible_rows true (rows_of g subject))
   last_told found is =
       map_map subject_version_view (row_numbered subject) found ∙ ap (option_map (row_numbered subject)) is ∙ sym (last_or-map (row_numbered subject) None (subject_versions subject contents))
       ∙ ap (last_or None) (subject_spelled contents g spelled subject ∙ sym (filter_all (λ row. true || not row.1.deleted) (rows_of g subject) (λ k d lt. refl)))
 
   pub last_live_told : (found : Option SubjectVersion) → option_map subject_version_view found ≡ last_or None (filter (λ (version : SubjectVersionView). not version.1.deleted) (subject_versions subject contents))
-      → option_map (λ (line : SubjectVersion). row_numbered subject (subject_version_view line)) found ≡ last_or None (shown_rows false (rows_of g subject))
+      → option_map (λ (line : SubjectVersion). row_numbered subject (subject_version_view line)) found ≡ last_or None (visible_rows false (rows_of g subject))
   last_live_told found is =
       map_map subject_version_view (row_numbered subject) found ∙ ap (option_map (row_numbered subject)) is
       ∙ sym (last_or-map (row_numbered subject) None (filter (λ (version : SubjectVersionView). not version.1.deleted) (subject_versions subject contents)))
-      ∙ ap (last_or None) (sym (filter-map (λ row. not row.1.deleted) (row_numbered subject) (subject_versions subject contents)) ∙ ap (shown_rows false) (subject_spelled contents g spelled subject))
+      ∙ ap (last_or None) (sym (filter-map (λ row. not row.1.deleted) (row_numbered subject) (subject_versions subject contents)) ∙ ap (visible_rows false) (subject_spelled contents g spelled subject))
 
   pub entry_told : (number : ℕ) (entry : VersionEntry) → get contents.versions (subject, number) ≡ Some (entry_row entry) → get g.rows (subject, number) ≡ Some (record { id = entry.id; deleted = entry.deleted })
   entry_told number entry there =

@@ -11,7 +11,7 @@ use Rattle.sqlite_rules.specs.Lists.{Has}
 use Rattle.sqlite_rules.proofs.ListLemmas.{contains_had, has_contained, has_filtered, has_kept}
 use Rattle.sqlite_trees.proofs.ListLemmas.{filter-map}
 use Rattle.reg_core.specs.Registry.{Registry, Row, RowKey}
-use Rattle.reg_core.specs.Rows.{rows_of, rows_with, shown_rows}
+use Rattle.reg_core.specs.Rows.{rows_of, rows_with, visible_rows}
 use Rattle.reg_core.proofs.ChosenRows.{last_or-map}
 use Rattle.reg_core.proofs.LastRows.{Rising, rows_of-rise}
 use Rattle.reg_tables.specs.Contents.{Contents}
@@ -107,14 +107,14 @@ last_is_greatest (x ∷ y ∷ rows) o last up (inr later) greatest = last_is_gre
 
 module _ (g : Registry) (subject : List ℕ) (deleted : Bool) (id : ℕ) where
   abbrev its : List Row
-  its = rows_with id (shown_rows deleted (rows_of g subject))
+  its = rows_with id (visible_rows deleted (rows_of g subject))
 
   abbrev is_it : Row → Bool
   is_it row = row.1.id == id
 
   its_are_shown : (row : Row) → Has its row → Has (rows_with id (entries g.rows)) row × (is_shown_of deleted subject row ≡ true)
   its_are_shown row there =
-      let one = has_filtered is_it (shown_rows deleted (rows_of g subject)) row there in
+      let one = has_filtered is_it (visible_rows deleted (rows_of g subject)) row there in
       let two = has_filtered (λ (r : Row). deleted || not r.1.deleted) (rows_of g subject) row one.0 in
       let three = has_filtered (λ (r : Row). bytes_eq r.0.0 subject) (entries g.rows) row two.0 in
       (has_kept is_it (entries g.rows) row three.0 one.1, rw (three.1, two.1) refl)
@@ -123,7 +123,7 @@ module _ (g : Registry) (subject : List ℕ) (deleted : Bool) (id : ℕ) where
   shown_are_its row there shown =
       let one = has_filtered is_it (entries g.rows) row there in
       let parts = both_parts (bytes_eq row.0.0 subject) (deleted || not row.1.deleted) shown in
-      has_kept is_it (shown_rows deleted (rows_of g subject)) row (has_kept (λ (r : Row). deleted || not r.1.deleted) (rows_of g subject) row (has_kept (λ (r : Row). bytes_eq r.0.0 subject) (entries g.rows) row one.0 parts.0) parts.1) one.1
+      has_kept is_it (visible_rows deleted (rows_of g subject)) row (has_kept (λ (r : Row). deleted || not r.1.deleted) (rows_of g subject) row (has_kept (λ (r : Row). bytes_eq r.0.0 subject) (entries g.rows) row one.0 parts.0) parts.1) one.1
 
   -- the last shown version among all of the id is the subject's last
   pub last_is_told : (rows : List Row) → AreSome rows (rows_with id (entries g.rows)) → length rows < versions_limit → (last : Option Row) → IsLastShown deleted subject rows last → last ≡ last_or None its
@@ -135,7 +135,7 @@ module _ (g : Registry) (subject : List ℕ) (deleted : Bool) (id : ℕ) where
           let it = its_are_shown x (inside x (inl refl)) in
           absurd (both_ways _ (All-contains (λ (r : Row). is_shown_of deleted subject r ≡ false) rows x none (some.few few x (contains_had (rows_with id (entries g.rows)) x it.0))) it.1)
   last_is_told rows some few (Some last) is =
-      sym (last_is_greatest its None last (rises_filtered is_it (shown_rows deleted (rows_of g subject)) (rises_filtered (λ (r : Row). deleted || not r.1.deleted) (rows_of g subject) (rows_of-rise g subject)))
+      sym (last_is_greatest its None last (rises_filtered is_it (visible_rows deleted (rows_of g subject)) (rises_filtered (λ (r : Row). deleted || not r.1.deleted) (rows_of g subject) (rows_of-rise g subject)))
       (shown_are_its last (has_contained (rows_with id (entries g.rows)) last (some.each last is.0)) is.1)
       (λ r there. let it = its_are_shown r there in All-contains (λ (x : Row). is_shown_of deleted subject x ≡ true → x.0.1 ≤ last.0.1) rows r is.2 (some.few few r (contains_had (rows_with id (entries g.rows)) r it.0)) it.1))
 
@@ -159,7 +159,7 @@ module _ (contents : Contents) (g : Registry) (id : ℕ) (spelled : map row_spel
 module _ (contents : Contents) (g : Registry) (spelled : (key : RowKey) → get contents.versions key ≡ option_map stored_version (get g.rows key)) (subject : List ℕ) (id : ℕ) (deleted : Bool) where
   pub last_with_id_told : (found : Option SubjectVersion)
       → option_map subject_version_view found ≡ last_or None (filter (λ (version : SubjectVersionView). (deleted || not version.1.deleted) && (version.1.id == id)) (subject_versions subject contents))
-      → option_map (λ (line : SubjectVersion). row_numbered subject (subject_version_view line)) found ≡ last_or None (rows_with id (shown_rows deleted (rows_of g subject)))
+      → option_map (λ (line : SubjectVersion). row_numbered subject (subject_version_view line)) found ≡ last_or None (rows_with id (visible_rows deleted (rows_of g subject)))
   last_with_id_told found is =
       let shown = λ (row : Row). (deleted || not row.1.deleted) && (row.1.id == id) in
       map_map subject_version_view (row_numbered subject) found ∙ ap (option_map (row_numbered subject)) is

@@ -16,7 +16,7 @@ ghost use Rattle.reg_core.specs.Views.{ChangesFit, IsDecisionInput, after_change
 
 use crate::code::Code;
 use crate::decision::bodies::{number_reply, numbers_reply};
-use crate::decision::rows::{chosen_row, found_row, shown_rows};
+use crate::decision::rows::{chosen_row, found_row, visible_rows};
 use crate::decision::{Change, Decision, View, unchanged};
 use crate::number::{VersionChoice, parse_choice};
 use crate::reply::Reply;
@@ -44,8 +44,8 @@ pub fn delete_version(
     ensures refusal { IfOk result (λ decision. decision.reply.status ≢ 200 → decision.changes.items ≡ []) }
     ensures own { IfOk result (λ decision. IsCommandReply decision.reply) }
 {
-    let rows = shown_rows(alloc, true, &view.rows)?;
-    let live = shown_rows(alloc, false, &view.rows)?;
+    let rows = visible_rows(alloc, true, &view.rows)?;
+    let live = visible_rows(alloc, false, &view.rows)?;
     match row_to_delete(permanent, parse_choice(version), &rows, &live) {
         Ok(row) => delete_one(alloc, subject, row.version(), permanent),
         Err(code) => Ok(unchanged(alloc, Reply::fault(code))),
@@ -152,8 +152,8 @@ pub fn delete_subject(
     ensures refusal { IfOk result (λ decision. decision.reply.status ≢ 200 → decision.changes.items ≡ []) }
     ensures own { IfOk result (λ decision. IsCommandReply decision.reply) }
 {
-    let rows = shown_rows(alloc, true, &view.rows)?;
-    let live = shown_rows(alloc, false, &view.rows)?;
+    let rows = visible_rows(alloc, true, &view.rows)?;
+    let live = visible_rows(alloc, false, &view.rows)?;
     if let Some(code) = subject_refusal(permanent, &rows, &live) {
         return Ok(unchanged(alloc, Reply::fault(code)));
     }

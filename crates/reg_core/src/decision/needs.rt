@@ -6,7 +6,7 @@ ghost use Rattle.reg_core.specs.Compatibility.{latest, named_versions};
 ghost use Rattle.reg_core.specs.Numbers.{parse_choice};
 ghost use Rattle.reg_core.specs.ReadCommands.{found_row, lookup_row};
 ghost use Rattle.reg_core.specs.RegisterCommands.{is_among};
-ghost use Rattle.reg_core.specs.Rows.{live_rows, shown_rows};
+ghost use Rattle.reg_core.specs.Rows.{live_rows, visible_rows};
 ghost use Rattle.reg_core.specs.Views.{level_of_view, found_as_list, rows_to_read};
 
 use crate::code::Code;
@@ -15,7 +15,7 @@ use crate::compatibility::{latest, named};
 use crate::decision::View;
 use crate::decision::reading::lookup_row;
 use crate::decision::registering::{id_among, level_in_force};
-use crate::decision::rows::{found_row, shown_rows};
+use crate::decision::rows::{found_row, visible_rows};
 use crate::number::parse_choice;
 use crate::row::Row;
 use avro_nodes::OutOfMemory;
@@ -69,7 +69,7 @@ fn ids_for_register(alloc: Global, view: &View) -> Result<Vec<u32>, OutOfMemory>
     ensures { IfOk result (λ ids. let live = live_rows view.now.rows.items in ids.items
         ≡ map (λ row. row.1.id) (if is_among view.now.known live then [] else named_versions (level_of_view view.now) live)) }
 {
-    let live = shown_rows(alloc, false, &view.rows)?;
+    let live = visible_rows(alloc, false, &view.rows)?;
     if id_among(view.known, &live).is_some() {
         return Ok(Vec::new(alloc));
     }
@@ -81,7 +81,7 @@ fn ids_for_check_all(alloc: Global, view: &View) -> Result<Vec<u32>, OutOfMemory
     ensures { IfOk result (λ ids. ids.items
         ≡ map (λ row. row.1.id) (named_versions (level_of_view view.now) (live_rows view.now.rows.items))) }
 {
-    let live = shown_rows(alloc, false, &view.rows)?;
+    let live = visible_rows(alloc, false, &view.rows)?;
     ids_of(alloc, named(level_in_force(view), &live))
 }
 
@@ -90,7 +90,7 @@ fn ids_for_check(alloc: Global, view: &View, version: &str) -> Result<Vec<u32>, 
     ensures { IfOk result (λ ids. ids.items ≡ map (λ row. row.1.id) (named_versions (level_of_view view.now)
         (found_as_list (found_row (parse_choice version.now) (live_rows view.now.rows.items))))) }
 {
-    let live = shown_rows(alloc, false, &view.rows)?;
+    let live = visible_rows(alloc, false, &view.rows)?;
     match found_row(parse_choice(version), &live) {
         Ok(row) => ids_of(alloc, named(level_in_force(view), &[row])),
         Err(_) => Ok(Vec::new(alloc)),
@@ -105,18 +105,18 @@ fn ids_for_version(
     shows_deleted: bool,
 ) -> Result<Vec<u32>, OutOfMemory>
     ensures { IfOk result (λ ids. ids.items ≡ map (λ row. row.1.id)
-        (found_as_list (found_row (parse_choice version.now) (shown_rows shows_deleted view.now.rows.items)))) }
+        (found_as_list (found_row (parse_choice version.now) (visible_rows shows_deleted view.now.rows.items)))) }
 {
-    let shown = shown_rows(alloc, shows_deleted, &view.rows)?;
+    let shown = visible_rows(alloc, shows_deleted, &view.rows)?;
     found_ids(alloc, found_row(parse_choice(version), &shown))
 }
 
 /// The id of the version that Lookup shows, if it is found.
 fn ids_for_lookup(alloc: Global, view: &View, shows_deleted: bool) -> Result<Vec<u32>, OutOfMemory>
     ensures { IfOk result (λ ids. ids.items ≡ map (λ row. row.1.id)
-        (found_as_list (lookup_row view.now.known (shown_rows shows_deleted view.now.rows.items)))) }
+        (found_as_list (lookup_row view.now.known (visible_rows shows_deleted view.now.rows.items)))) }
 {
-    let shown = shown_rows(alloc, shows_deleted, &view.rows)?;
+    let shown = visible_rows(alloc, shows_deleted, &view.rows)?;
     found_ids(alloc, lookup_row(view.known, &shown))
 }
 

@@ -7,7 +7,7 @@ ghost use Rattle.avro_nodes.specs.Nodes.{nodes_view};
 ghost use Rattle.reg_core.specs.Bodies.{schema_body, version_body};
 ghost use Rattle.reg_core.specs.Numbers.{parse_choice, parse_id};
 ghost use Rattle.reg_core.specs.ReadCommands.{found_row, id_reply, id_versions_reply, lookup_row, lookup_reply, rows_with_id, subjects_reply, text_reply, types_reply, version_reply, version_text_reply, versions_reply};
-ghost use Rattle.reg_core.specs.Rows.{shown_rows};
+ghost use Rattle.reg_core.specs.Rows.{visible_rows};
 ghost use Rattle.reg_core.specs.Views.{view_text};
 
 use crate::code::Code;
@@ -15,7 +15,7 @@ use crate::decision::View;
 use crate::decision::bodies::{
     numbers_reply, schema_reply, strings_reply, subject_versions_reply, version_reply,
 };
-use crate::decision::rows::{found_row, shown_rows};
+use crate::decision::rows::{found_row, visible_rows};
 use crate::number::{parse_choice, parse_id};
 use crate::reply::Reply;
 use crate::row::Row;
@@ -32,9 +32,9 @@ pub fn types(alloc: Global) -> Result<Reply, OutOfMemory>
 
 /// The reply with the subjects of the shown versions.
 pub fn subjects(alloc: Global, shows_deleted: bool, rows: &[Row]) -> Result<Reply, OutOfMemory>
-    ensures { IfOk result (λ reply. reply ≡ subjects_reply (shown_rows shows_deleted rows.now)) }
+    ensures { IfOk result (λ reply. reply ≡ subjects_reply (visible_rows shows_deleted rows.now)) }
 {
-    let shown = shown_rows(alloc, shows_deleted, rows)?;
+    let shown = visible_rows(alloc, shows_deleted, rows)?;
     let subjects = subjects_of(alloc, shown.as_slice())?;
     strings_reply(alloc, subjects.as_slice())
 }
@@ -54,9 +54,9 @@ fn subjects_of<'a>(alloc: Global, rows: &[&'a Row]) -> Result<Vec<&'a str>, OutO
 
 /// The reply with the numbers of the subject's shown versions.
 pub fn versions(alloc: Global, shows_deleted: bool, rows: &[Row]) -> Result<Reply, OutOfMemory>
-    ensures { IfOk result (λ reply. reply ≡ versions_reply (shown_rows shows_deleted rows.now)) }
+    ensures { IfOk result (λ reply. reply ≡ versions_reply (visible_rows shows_deleted rows.now)) }
 {
-    let shown = shown_rows(alloc, shows_deleted, rows)?;
+    let shown = visible_rows(alloc, shows_deleted, rows)?;
     if shown.is_empty() {
         return Ok(Reply::fault(Code::SubjectNotFound));
     }
@@ -73,9 +73,9 @@ pub fn version(
     shows_deleted: bool,
 ) -> Result<Reply, OutOfMemory>
     ensures { IfOk result (λ reply. reply ≡ version_reply (view_text view.now)
-        (found_row (parse_choice choice.now) (shown_rows shows_deleted view.now.rows.items))) }
+        (found_row (parse_choice choice.now) (visible_rows shows_deleted view.now.rows.items))) }
 {
-    let shown = shown_rows(alloc, shows_deleted, view.rows.as_slice())?;
+    let shown = visible_rows(alloc, shows_deleted, view.rows.as_slice())?;
     match found_row(parse_choice(choice), shown.as_slice()) {
         Ok(row) => shown_version(alloc, view, row),
         Err(code) => Ok(Reply::fault(code)),
@@ -90,9 +90,9 @@ pub fn version_text(
     shows_deleted: bool,
 ) -> Result<Reply, OutOfMemory>
     ensures { IfOk result (λ reply. reply ≡ version_text_reply (view_text view.now)
-        (found_row (parse_choice text.now) (shown_rows shows_deleted view.now.rows.items))) }
+        (found_row (parse_choice text.now) (visible_rows shows_deleted view.now.rows.items))) }
 {
-    let shown = shown_rows(alloc, shows_deleted, view.rows.as_slice())?;
+    let shown = visible_rows(alloc, shows_deleted, view.rows.as_slice())?;
     match found_row(parse_choice(text), shown.as_slice()) {
         Ok(row) => shown_text(view, row.id()),
         Err(code) => Ok(Reply::fault(code)),
@@ -108,12 +108,12 @@ pub fn lookup(
 ) -> Result<Reply, OutOfMemory>
     ensures { IfOk result (λ reply. reply ≡ lookup_reply (view_text view.now)
         (option_map nodes_view (option_copied schema.entry)) view.now.known
-        (shown_rows shows_deleted view.now.rows.items)) }
+        (visible_rows shows_deleted view.now.rows.items)) }
 {
     if schema.is_none() {
         return Ok(Reply::fault(Code::InvalidSchema));
     }
-    let shown = shown_rows(alloc, shows_deleted, view.rows.as_slice())?;
+    let shown = visible_rows(alloc, shows_deleted, view.rows.as_slice())?;
     match lookup_row(view.known, shown.as_slice()) {
         Ok(row) => shown_version(alloc, view, row),
         Err(code) => Ok(Reply::fault(code)),
@@ -170,7 +170,7 @@ pub fn versions_of_id(
     if parse_id(id).is_none() || rows.is_empty() {
         return Ok(Reply::fault(Code::SchemaNotFound));
     }
-    let shown = shown_rows(alloc, shows_deleted, rows)?;
+    let shown = visible_rows(alloc, shows_deleted, rows)?;
     subject_versions_reply(alloc, shown.as_slice())
 }
 

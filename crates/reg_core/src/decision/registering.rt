@@ -16,7 +16,7 @@ use crate::code::Code;
 use crate::compatibility::named;
 use crate::decision::comparing::is_admitted_in_view;
 use crate::decision::needs::ids_of;
-use crate::decision::rows::{found_row, shown_rows};
+use crate::decision::rows::{found_row, visible_rows};
 use crate::decision::{Change, Decision, View, unchanged};
 use crate::evidence::Evidence;
 use crate::level::Level;
@@ -58,7 +58,7 @@ pub fn register(
     let Some(new) = schema else {
         return Ok(unchanged(alloc, Reply::fault(Code::InvalidSchema)));
     };
-    let live = shown_rows(alloc, false, &view.rows)?;
+    let live = visible_rows(alloc, false, &view.rows)?;
     if let Some(id) = id_among(view.known, &live) {
         let reply = id_reply(alloc, id)?;
         return Ok(unchanged(alloc, reply));
@@ -90,7 +90,7 @@ pub fn check_all(
     let Some(new) = schema else {
         return Ok(Reply::fault(Code::InvalidSchema));
     };
-    let live = shown_rows(alloc, false, &view.rows)?;
+    let live = visible_rows(alloc, false, &view.rows)?;
     let compatible = is_admitted_in_view(alloc, view, level_in_force(view), &live, new, cache)?;
     verdict_reply(alloc, compatible)
 }
@@ -115,7 +115,7 @@ pub fn check(
     let Some(new) = schema else {
         return Ok(Reply::fault(Code::InvalidSchema));
     };
-    let live = shown_rows(alloc, false, &view.rows)?;
+    let live = visible_rows(alloc, false, &view.rows)?;
     match found_row(Some(choice), &live) {
         Ok(row) => {
             let compatible = is_admitted_in_view(

@@ -1,9 +1,9 @@
-//! The versions that a command shows or chooses.
+//! The versions that a command sees or chooses.
 
 ghost use Rattle.std.specs.Prelude.{◌≡◌, IfOk, map, option_copied};
 ghost use Rattle.std.specs.Result.{result_map_both};
 ghost use Rattle.reg_core.specs.ReadCommands.{found_row};
-ghost use Rattle.reg_core.specs.Rows.{chosen_row, shown_rows};
+ghost use Rattle.reg_core.specs.Rows.{chosen_row, visible_rows};
 
 use crate::code::Code;
 use crate::number::VersionChoice;
@@ -13,18 +13,18 @@ use std::alloc::Global;
 
 /// The versions that a command sees, in their order: all if `shows_deleted`, else those that
 /// aren't soft-deleted.
-pub fn shown_rows<'a>(
+pub fn visible_rows<'a>(
     alloc: Global,
     shows_deleted: bool,
     rows: &'a [Row],
 ) -> Result<Vec<&'a Row>, OutOfMemory>
-    ensures { IfOk result (λ shown. map (λ row. row.now) shown.items ≡ shown_rows shows_deleted rows.now) }
+    ensures { IfOk result (λ visible. map (λ row. row.now) visible.items ≡ visible_rows shows_deleted rows.now) }
 {
-    let shown = rows
+    let visible = rows
         .iter()
         .filter(|row| shows_deleted || !row.deleted())
         .collect(alloc)?;
-    Ok(shown)
+    Ok(visible)
 }
 
 /// The chosen one of these versions, or the code of the refusal.

@@ -6,7 +6,7 @@ ghost use Rattle.std.specs.List.{last_or};
 ghost use Rattle.reg_core.specs.declared.number.VersionChoice.TheVariants.{Numbered};
 ghost use Rattle.reg_core.specs.Compatibility.{latest};
 ghost use Rattle.reg_core.specs.Registry.{Version};
-ghost use Rattle.reg_core.specs.Rows.{rows_of, rows_with, shown_rows};
+ghost use Rattle.reg_core.specs.Rows.{rows_of, rows_with, visible_rows};
 ghost use Rattle.reg_core.specs.ReadCommands.{found_row, rows_with_id};
 ghost use Rattle.reg_tables.specs.Entries.{listed_version_view, subject_version_view};
 ghost use Rattle.reg_store.specs.declared.error.StoreError.TheVariants.{Memory};
@@ -34,8 +34,8 @@ pub(crate) fn chosen_rows<S: Alter>(
     deleted: bool,
 ) -> Result<Vec<Row>, StoreError>
     ensures { MayRead db.old db.new result (λ was rows.
-        found_row choice (shown_rows deleted rows.items)
-        ≡ found_row choice (shown_rows deleted (rows_of was.registry subject.now))) }
+        found_row choice (visible_rows deleted rows.items)
+        ≡ found_row choice (visible_rows deleted (rows_of was.registry subject.now))) }
 {
     let Some(choice) = choice else {
         return Ok(Vec::new(alloc));
@@ -55,8 +55,8 @@ fn numbered_rows<S: Alter>(
     deleted: bool,
 ) -> Result<Vec<Row>, StoreError>
     ensures { MayRead db.old db.new result (λ was rows.
-        found_row (Some (Numbered number)) (shown_rows deleted rows.items)
-        ≡ found_row (Some (Numbered number)) (shown_rows deleted (rows_of was.registry subject.now))) }
+        found_row (Some (Numbered number)) (visible_rows deleted rows.items)
+        ≡ found_row (Some (Numbered number)) (visible_rows deleted (rows_of was.registry subject.now))) }
 {
     match shown_line(db, subject, number, deleted)? {
         Some(line) => Ok(row_list(alloc, subject, Some(line))?),
@@ -97,7 +97,7 @@ pub(crate) fn last_rows<S: Alter>(
     deleted: bool,
 ) -> Result<Vec<Row>, StoreError>
     ensures { Reads db.old db.new result (λ was rows.
-        rows.items ≡ latest (shown_rows deleted (rows_of was.registry subject.now))) }
+        rows.items ≡ latest (visible_rows deleted (rows_of was.registry subject.now))) }
 {
     let line = last_line(db, subject, deleted)?;
     Ok(row_list(alloc, subject, line)?)
@@ -111,7 +111,7 @@ pub(crate) fn last_line<S: Alter>(
 ) -> Result<Option<SubjectVersion>, StoreError>
     ensures { Reads db.old db.new result (λ was found.
         option_map (λ line. row_numbered subject.now (subject_version_view line)) found
-        ≡ last_or None (shown_rows deleted (rows_of was.registry subject.now))) }
+        ≡ last_or None (visible_rows deleted (rows_of was.registry subject.now))) }
 {
     if deleted {
         Ok(last_version_of(&mut db.idle, subject.as_str())?)

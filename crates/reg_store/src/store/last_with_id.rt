@@ -3,7 +3,7 @@
 ghost use Rattle.std.specs.Prelude.{◌≡◌, None, option_map, map};
 ghost use Rattle.std.specs.FinMap.{entries};
 ghost use Rattle.std.specs.List.{last_or};
-ghost use Rattle.reg_core.specs.Rows.{rows_of, rows_with, shown_rows};
+ghost use Rattle.reg_core.specs.Rows.{rows_of, rows_with, visible_rows};
 ghost use Rattle.reg_tables.specs.Entries.{listed_version_view, subject_version_view};
 ghost use Rattle.reg_store.specs.Inside.Reads.{Reads};
 ghost use Rattle.reg_store.specs.Inside.Viewing.{AreSome, IsLastShown, IsLaterOf, is_shown_of, row_numbered, row_spelled};
@@ -29,7 +29,7 @@ pub(crate) fn line_with_id<S: Alter>(
 ) -> Result<Option<SubjectVersion>, StoreError>
     ensures { Reads db.old db.new result (λ was found.
         option_map (λ line. row_numbered subject.now (subject_version_view line)) found
-        ≡ last_or None (rows_with id (shown_rows deleted (rows_of was.registry subject.now)))) }
+        ≡ last_or None (rows_with id (visible_rows deleted (rows_of was.registry subject.now)))) }
 {
     let lines = lines_of_id(alloc, db, id)?;
     if lines.len() < VERSIONS_LIMIT {
@@ -59,7 +59,7 @@ fn line_of_subject<S: Alter>(
 ) -> Result<Option<SubjectVersion>, StoreError>
     ensures { Reads db.old db.new result (λ was found.
         option_map (λ line. row_numbered subject.now (subject_version_view line)) found
-        ≡ last_or None (rows_with id (shown_rows deleted (rows_of was.registry subject.now)))) }
+        ≡ last_or None (rows_with id (visible_rows deleted (rows_of was.registry subject.now)))) }
 {
     Ok(last_version_with_id(&mut db.idle, subject.as_str(), id, deleted)?)
 }

@@ -7,7 +7,7 @@ ghost use Rattle.reg_core.specs.Compatibility.{is_transitive, named_versions};
 ghost use Rattle.reg_core.specs.DeletionCommands.{row_to_delete};
 ghost use Rattle.reg_core.specs.ReadCommands.{lookup_row};
 ghost use Rattle.reg_core.specs.RegisterCommands.{is_among};
-ghost use Rattle.reg_core.specs.Rows.{live_rows, rows_of, shown_rows};
+ghost use Rattle.reg_core.specs.Rows.{live_rows, rows_of, visible_rows};
 ghost use Rattle.reg_core.specs.Needs.{SufficeToRegister};
 ghost use Rattle.reg_store.specs.Inside.Reads.{MayRead, Reads};
 
@@ -119,8 +119,8 @@ pub(crate) fn looked_up_rows<S: Alter>(
     known: Option<u32>,
 ) -> Result<Vec<Row>, StoreError>
     ensures { Reads db.old db.new result (λ was rows.
-        lookup_row known (shown_rows deleted rows.items)
-        ≡ lookup_row known (shown_rows deleted (rows_of was.registry subject.now))) }
+        lookup_row known (visible_rows deleted rows.items)
+        ≡ lookup_row known (visible_rows deleted (rows_of was.registry subject.now))) }
 {
     match known {
         Some(id) => found_rows(alloc, db, subject, deleted, id),
@@ -137,8 +137,8 @@ fn found_rows<S: Alter>(
     id: u32,
 ) -> Result<Vec<Row>, StoreError>
     ensures { Reads db.old db.new result (λ was rows.
-        lookup_row (Some id) (shown_rows deleted rows.items)
-        ≡ lookup_row (Some id) (shown_rows deleted (rows_of was.registry subject.now))) }
+        lookup_row (Some id) (visible_rows deleted rows.items)
+        ≡ lookup_row (Some id) (visible_rows deleted (rows_of was.registry subject.now))) }
 {
     match line_with_id(alloc, db, subject, deleted, id)? {
         Some(line) => Ok(row_list(alloc, subject, Some(line))?),

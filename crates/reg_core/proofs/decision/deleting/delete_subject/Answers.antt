@@ -9,7 +9,7 @@ use Rattle.reg_core.specs.Inside.Evidence.{AddNoVersion}
 use Rattle.reg_core.specs.DeletionCommands.{numbers_reply}
 use Rattle.reg_core.specs.Registry.{Registry, Row}
 use Rattle.reg_core.specs.Replies.{ReplyView, IsCommandReply}
-use Rattle.reg_core.specs.Rows.{live_rows, shown_rows}
+use Rattle.reg_core.specs.Rows.{live_rows, visible_rows}
 use Rattle.reg_core.specs.Views.{after_changes, ChangesFit}
 use Rattle.reg_core.proofs.DeletionChanges.{changes_of, changes_of-fit, changes_of-add_none}
 use Rattle.reg_core.proofs.DeletionSteps.{subject_refused, subject_gone, subject_removed, all_shown}
@@ -20,7 +20,7 @@ abbrev now : List (Bor Row) → List Row
 now rows = map (λ (row : Bor Row). row.now) rows
 
 -- the refusal by the collected versions is the refusal by the view's versions
-in_view : {X : Type 0} (found : X) (test : List Row → List Row → X) (all rows live : List Row) → rows ≡ shown_rows true all → live ≡ live_rows all → found ≡ test rows live → found ≡ test all (live_rows all)
+in_view : {X : Type 0} (found : X) (test : List Row → List Row → X) (all rows live : List Row) → rows ≡ visible_rows true all → live ≡ live_rows all → found ≡ test rows live → found ≡ test all (live_rows all)
 in_view found test all rows live are alive is = is ∙ (ap (λ (rs : List Row). test rs live) (are ∙ all_shown all) ∙ ap (test all) alive)
 
 changes_seen : (permanent : Bool) (subject : List ℕ) (seen : List (Bor Row)) (rows : List Row) → now seen ≡ rows
@@ -32,14 +32,14 @@ changes_seen permanent subject seen rows are =
 pub returns-in-Some-clause-reply : goal.returns-in-Some-clause-reply
 returns-in-Some-clause-reply c g schema input =
     let why = in_view (Some c.in-Some.code) (subject_refusal c.args.permanent) c.args.view.now.rows.items _ _
-    (ap now c.deref-3.ensures.value ∙ (c.in_ok-rows.ensures ∙ ap (shown_rows true) c.deref.ensures.value)) (ap now c.deref-4.ensures.value ∙ (c.in_ok-live.ensures ∙ ap live_rows c.deref-2.ensures.value)) c.in-Some.ensures in
+    (ap now c.deref-3.ensures.value ∙ (c.in_ok-rows.ensures ∙ ap (visible_rows true) c.deref.ensures.value)) (ap now c.deref-4.ensures.value ∙ (c.in_ok-live.ensures ∙ ap live_rows c.deref-2.ensures.value)) c.in-Some.ensures in
     c.unchanged.ensures.reply ∙ (c.fault.ensures
     ∙ ap (λ (s : Registry × ReplyView). s.1) (sym (subject_refused g c.args.subject.now c.args.permanent c.args.view.now schema input c.in-Some.code why)))
 
 pub returns-in-Some-clause-changes : goal.returns-in-Some-clause-changes
 returns-in-Some-clause-changes c g schema input =
     let why = in_view (Some c.in-Some.code) (subject_refusal c.args.permanent) c.args.view.now.rows.items _ _
-    (ap now c.deref-3.ensures.value ∙ (c.in_ok-rows.ensures ∙ ap (shown_rows true) c.deref.ensures.value)) (ap now c.deref-4.ensures.value ∙ (c.in_ok-live.ensures ∙ ap live_rows c.deref-2.ensures.value)) c.in-Some.ensures in
+    (ap now c.deref-3.ensures.value ∙ (c.in_ok-rows.ensures ∙ ap (visible_rows true) c.deref.ensures.value)) (ap now c.deref-4.ensures.value ∙ (c.in_ok-live.ensures ∙ ap live_rows c.deref-2.ensures.value)) c.in-Some.ensures in
     ap (λ (changes : List Change). after_changes changes g) c.unchanged.ensures.changes
     ∙ ap (λ (s : Registry × ReplyView). s.0) (sym (subject_refused g c.args.subject.now c.args.permanent c.args.view.now schema input c.in-Some.code why))
 
@@ -50,10 +50,10 @@ returns-in-Some-clause-own c =
 pub returns-then-permanent-clause-reply : goal.returns-then-permanent-clause-reply
 returns-then-permanent-clause-reply c =
     let none = in_view None (subject_refusal true) c.args.view.now.rows.items _ _
-    (ap now c.deref-3.ensures.value ∙ (c.in_ok-rows.ensures ∙ ap (shown_rows true) c.deref.ensures.value)) (ap now c.deref-4.ensures.value ∙ (c.in_ok-live.ensures ∙ ap live_rows c.deref-2.ensures.value))
+    (ap now c.deref-3.ensures.value ∙ (c.in_ok-rows.ensures ∙ ap (visible_rows true) c.deref.ensures.value)) (ap now c.deref-4.ensures.value ∙ (c.in_ok-live.ensures ∙ ap live_rows c.deref-2.ensures.value))
     (rw c.if-permanent.true at c.in_default.ensures) in
     let rows : now c.deref-then-permanent.result.now ≡ c.args.view.now.rows.items =
-    ap now c.deref-then-permanent.ensures.value ∙ (c.in_ok-rows.ensures ∙ ap (shown_rows true) c.deref.ensures.value) ∙ all_shown c.args.view.now.rows.items in
+    ap now c.deref-then-permanent.ensures.value ∙ (c.in_ok-rows.ensures ∙ ap (visible_rows true) c.deref.ensures.value) ∙ all_shown c.args.view.now.rows.items in
     rw c.if-permanent.true
     (IfOk-weaker c.delete_all.result _ _
     (λ decision h g schema input.
@@ -63,10 +63,10 @@ returns-then-permanent-clause-reply c =
 pub returns-then-permanent-clause-changes : goal.returns-then-permanent-clause-changes
 returns-then-permanent-clause-changes c =
     let none = in_view None (subject_refusal true) c.args.view.now.rows.items _ _
-    (ap now c.deref-3.ensures.value ∙ (c.in_ok-rows.ensures ∙ ap (shown_rows true) c.deref.ensures.value)) (ap now c.deref-4.ensures.value ∙ (c.in_ok-live.ensures ∙ ap live_rows c.deref-2.ensures.value))
+    (ap now c.deref-3.ensures.value ∙ (c.in_ok-rows.ensures ∙ ap (visible_rows true) c.deref.ensures.value)) (ap now c.deref-4.ensures.value ∙ (c.in_ok-live.ensures ∙ ap live_rows c.deref-2.ensures.value))
     (rw c.if-permanent.true at c.in_default.ensures) in
     let rows : now c.deref-then-permanent.result.now ≡ c.args.view.now.rows.items =
-    ap now c.deref-then-permanent.ensures.value ∙ (c.in_ok-rows.ensures ∙ ap (shown_rows true) c.deref.ensures.value) ∙ all_shown c.args.view.now.rows.items in
+    ap now c.deref-then-permanent.ensures.value ∙ (c.in_ok-rows.ensures ∙ ap (visible_rows true) c.deref.ensures.value) ∙ all_shown c.args.view.now.rows.items in
     rw c.if-permanent.true
     (IfOk-weaker c.delete_all.result _ _
     (λ decision h g schema input.
@@ -83,7 +83,7 @@ returns-then-permanent-clause-fit c =
 pub returns-clause-reply : goal.returns-clause-reply
 returns-clause-reply c =
     let none = in_view None (subject_refusal false) c.args.view.now.rows.items _ _
-    (ap now c.deref-3.ensures.value ∙ (c.in_ok-rows.ensures ∙ ap (shown_rows true) c.deref.ensures.value)) (ap now c.deref-4.ensures.value ∙ (c.in_ok-live.ensures ∙ ap live_rows c.deref-2.ensures.value))
+    (ap now c.deref-3.ensures.value ∙ (c.in_ok-rows.ensures ∙ ap (visible_rows true) c.deref.ensures.value)) (ap now c.deref-4.ensures.value ∙ (c.in_ok-live.ensures ∙ ap live_rows c.deref-2.ensures.value))
     (rw c.if-permanent.false at c.in_default.ensures) in
     let live : now c.deref-else-permanent.result.now ≡ live_rows c.args.view.now.rows.items =
     ap now c.deref-else-permanent.ensures.value ∙ (c.in_ok-live.ensures ∙ ap live_rows c.deref-2.ensures.value) in
@@ -96,7 +96,7 @@ returns-clause-reply c =
 pub returns-clause-changes : goal.returns-clause-changes
 returns-clause-changes c =
     let none = in_view None (subject_refusal false) c.args.view.now.rows.items _ _
-    (ap now c.deref-3.ensures.value ∙ (c.in_ok-rows.ensures ∙ ap (shown_rows true) c.deref.ensures.value)) (ap now c.deref-4.ensures.value ∙ (c.in_ok-live.ensures ∙ ap live_rows c.deref-2.ensures.value))
+    (ap now c.deref-3.ensures.value ∙ (c.in_ok-rows.ensures ∙ ap (visible_rows true) c.deref.ensures.value)) (ap now c.deref-4.ensures.value ∙ (c.in_ok-live.ensures ∙ ap live_rows c.deref-2.ensures.value))
     (rw c.if-permanent.false at c.in_default.ensures) in
     let live : now c.deref-else-permanent.result.now ≡ live_rows c.args.view.now.rows.items =
     ap now c.deref-else-permanent.ensures.value ∙ (c.in_ok-live.ensures ∙ ap live_rows c.deref-2.ensures.value) in

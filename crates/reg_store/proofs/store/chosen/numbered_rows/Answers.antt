@@ -1,7 +1,7 @@
 use Rattle.std.proofs.Common.{◌≡◌, ◌∙◌, [], ◌∷◌, Some, ap, subst}
 use Rattle.reg_core.specs.declared.number.VersionChoice.TheVariants.{Numbered}
 use Rattle.reg_core.specs.ReadCommands.{found_row}
-use Rattle.reg_core.specs.Rows.{rows_of, shown_rows}
+use Rattle.reg_core.specs.Rows.{rows_of, visible_rows}
 use Rattle.reg_core.proofs.ChosenRows.{absent_told, number_told}
 use Rattle.reg_tables.specs.Entries.{subject_version_view}
 use Rattle.reg_store.specs.Inside.Viewing.{row_numbered}
@@ -22,11 +22,11 @@ returns-in_ok-row_list-in-Some g c =
     let rows = rows_of was.registry subject in
     let found = rw c.in-Some.is at line in
     let told = number_told was.registry subject c.in-Some.line.number c.args.deleted row.1 found.0 found.2 in
-    ap (λ items. found_row (Some (Numbered c.args.number)) (shown_rows c.args.deleted items)) c.in_ok-row_list-in-Some.ensures
-    ∙ subst (λ n. found_row (Some (Numbered n)) (shown_rows c.args.deleted (row ∷ [])) ≡ found_row (Some (Numbered n)) (shown_rows c.args.deleted rows)) found.1 told)).may
+    ap (λ items. found_row (Some (Numbered c.args.number)) (visible_rows c.args.deleted items)) c.in_ok-row_list-in-Some.ensures
+    ∙ subst (λ n. found_row (Some (Numbered n)) (visible_rows c.args.deleted (row ∷ [])) ≡ found_row (Some (Numbered n)) (visible_rows c.args.deleted rows)) found.1 told)).may
 
 pub returns-in-None : goal.returns-in-None
 returns-in-None g c =
     may_go_on c.in_ok-line.ensures.may c.last_rows.ensures.may (λ was over line.
     let hidden = rw c.in-None.is at line in
-    match_each c.last_rows.result (λ rows is. ap (λ items. found_row (Some (Numbered c.args.number)) (shown_rows c.args.deleted items)) is ∙ absent_told was.registry c.args.subject.now c.args.number c.args.deleted hidden) (λ e h. h))
+    match_each c.last_rows.result (λ rows is. ap (λ items. found_row (Some (Numbered c.args.number)) (visible_rows c.args.deleted items)) is ∙ absent_told was.registry c.args.subject.now c.args.number c.args.deleted hidden) (λ e h. h))

@@ -6,14 +6,14 @@ use Rattle.reg_core.specs.declared.number.VersionChoice.TheVariants.{Latest, Num
 use Rattle.reg_core.specs.DeletionCommands.{row_to_delete}
 use Rattle.reg_core.specs.ReadCommands.{found_row}
 use Rattle.reg_core.specs.Registry.{Row}
-use Rattle.reg_core.specs.Rows.{rows_of, shown_rows}
+use Rattle.reg_core.specs.Rows.{rows_of, visible_rows}
 use Rattle.reg_core.proofs.FewRows.{removes_shown, marks_shown}
 use Rattle.reg_store.proofs.ReadLemmas.{may_retell}
 use Rattle.reg_store.proofs.store.sufficient_rows.deleted_rows.Goals as goal
 use Rattle.reg_store.proofs.store.sufficient_rows.deleted_rows.Goals.{in_default-via-in-Some-Latest+else-not-permanent, in_default-via-in-Some+in_default, in_default-via-in_default}
 
 -- versions that suffice to choose one suffice to delete it, unless the last live one is soft-deleted
-deletes : (permanent : Bool) (choice : Option VersionChoice) (seen all : List Row) → (permanent ≡ false → choice ≢ Some Latest) → found_row choice (shown_rows true seen) ≡ found_row choice (shown_rows true all)
+deletes : (permanent : Bool) (choice : Option VersionChoice) (seen all : List Row) → (permanent ≡ false → choice ≢ Some Latest) → found_row choice (visible_rows true seen) ≡ found_row choice (visible_rows true all)
     → row_to_delete permanent choice seen ≡ row_to_delete permanent choice all
 deletes true choice seen all other told = removes_shown choice seen all told
 deletes false None seen all other told = refl

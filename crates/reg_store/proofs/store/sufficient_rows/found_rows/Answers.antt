@@ -2,7 +2,7 @@ use Rattle.std.proofs.Common.{◌≡◌, ◌∙◌, None, Some, sym, ap}
 use Rattle.std.specs.Prelude.{option_map}
 use Rattle.std.specs.List.{last_or}
 use Rattle.reg_core.specs.ReadCommands.{lookup_row}
-use Rattle.reg_core.specs.Rows.{rows_of, rows_with, shown_rows}
+use Rattle.reg_core.specs.Rows.{rows_of, rows_with, visible_rows}
 use Rattle.reg_core.proofs.FewRows.{looks_up_found, looks_up_none}
 use Rattle.reg_tables.specs.declared.listed.SubjectVersion.{SubjectVersion}
 use Rattle.reg_tables.specs.Entries.{subject_version_view}
@@ -24,9 +24,9 @@ returns-in_ok-row_list-in-Some g c =
     let deleted = c.args.deleted in
     let all = rows_of was.registry subject in
     let row = row_numbered subject (subject_version_view c.in-Some.line) in
-    let last : last_or None (rows_with c.args.id (shown_rows deleted all)) ≡ Some row =
+    let last : last_or None (rows_with c.args.id (visible_rows deleted all)) ≡ Some row =
     sym found ∙ ap (option_map (λ (line : SubjectVersion). row_numbered subject (subject_version_view line))) c.in-Some.is in
-    ap (λ items. lookup_row (Some c.args.id) (shown_rows deleted items)) c.in_ok-row_list-in-Some.ensures
+    ap (λ items. lookup_row (Some c.args.id) (visible_rows deleted items)) c.in_ok-row_list-in-Some.ensures
     ∙ looks_up_found deleted c.args.id row all last (found_is_shown c.args.id deleted all row last) (found_has c.args.id deleted all row last))
 
 pub returns-in-None : goal.returns-in-None
@@ -35,6 +35,6 @@ returns-in-None g c =
     let subject = c.args.subject.now in
     let deleted = c.args.deleted in
     let all = rows_of was.registry subject in
-    let none : last_or None (rows_with c.args.id (shown_rows deleted all)) ≡ None =
+    let none : last_or None (rows_with c.args.id (visible_rows deleted all)) ≡ None =
     sym found ∙ ap (option_map (λ (line : SubjectVersion). row_numbered subject (subject_version_view line))) c.in-None.is in
-    match_each c.last_rows.result (λ rows is. ap (λ items. lookup_row (Some c.args.id) (shown_rows deleted items)) is ∙ looks_up_none deleted (Some c.args.id) all none) (λ e h. h))
+    match_each c.last_rows.result (λ rows is. ap (λ items. lookup_row (Some c.args.id) (visible_rows deleted items)) is ∙ looks_up_none deleted (Some c.args.id) all none) (λ e h. h))

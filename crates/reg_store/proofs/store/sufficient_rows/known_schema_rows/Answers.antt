@@ -4,7 +4,7 @@ use Rattle.std.specs.List.{last_or}
 use Rattle.std.proofs.lemmas.Bool.{not-true}
 use Rattle.reg_core.specs.Needs.{SufficeToRegister}
 use Rattle.reg_core.specs.Registry.{Row}
-use Rattle.reg_core.specs.Rows.{live_rows, rows_of, rows_with, shown_rows}
+use Rattle.reg_core.specs.Rows.{live_rows, rows_of, rows_with, visible_rows}
 use Rattle.reg_core.proofs.FewRows.{registers_found}
 use Rattle.reg_tables.specs.declared.listed.SubjectVersion.{SubjectVersion}
 use Rattle.reg_tables.specs.Entries.{subject_version_view}
@@ -25,7 +25,7 @@ returns-in_ok-row_list-in-Some g c =
     let subject = c.args.subject.now in
     let all = rows_of was.registry subject in
     let row = row_numbered subject (subject_version_view c.in-Some.line) in
-    let last : last_or None (rows_with c.args.id (shown_rows false all)) ≡ Some row =
+    let last : last_or None (rows_with c.args.id (visible_rows false all)) ≡ Some row =
     sym found ∙ ap (option_map (λ (line : SubjectVersion). row_numbered subject (subject_version_view line))) c.in-Some.is in
     subst (λ (rows : List Row). SufficeToRegister c.args.level (Some c.args.id) rows all) (sym c.in_ok-row_list-in-Some.ensures)
     (registers_found c.args.level c.args.id row all (found_there c.args.id false all row last) (found_has c.args.id false all row last) (not-true row.1.deleted (found_is_shown c.args.id false all row last))))

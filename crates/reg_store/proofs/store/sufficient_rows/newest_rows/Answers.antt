@@ -4,7 +4,7 @@ use Rattle.std.specs.List.{last_or}
 use Rattle.reg_core.specs.Compatibility.{latest}
 use Rattle.reg_core.specs.Needs.{SufficeToRegister}
 use Rattle.reg_core.specs.Registry.{Row}
-use Rattle.reg_core.specs.Rows.{live_rows, rows_of, shown_rows}
+use Rattle.reg_core.specs.Rows.{live_rows, rows_of, visible_rows}
 use Rattle.reg_core.proofs.DeletionSteps.{all_shown}
 use Rattle.reg_core.proofs.FewRows.{registers_ends, registers_last, registers_none}
 use Rattle.reg_core.proofs.LastRows.{rows_of-rise}
@@ -15,7 +15,7 @@ use Rattle.reg_store.proofs.ReadLemmas.{both, fail, stop, tell}
 use Rattle.reg_store.proofs.store.sufficient_rows.newest_rows.Goals as goal
 
 -- the last version, by the line that was read
-latest_read : (subject : List ℕ) (all : List Row) (found line : Option SubjectVersion) → option_map (λ (line : SubjectVersion). row_numbered subject (subject_version_view line)) found ≡ last_or None (shown_rows true all)
+latest_read : (subject : List ℕ) (all : List Row) (found line : Option SubjectVersion) → option_map (λ (line : SubjectVersion). row_numbered subject (subject_version_view line)) found ≡ last_or None (visible_rows true all)
     → found ≡ line → latest all ≡ option_to_list (option_map (λ (line : SubjectVersion). row_numbered subject (subject_version_view line)) line)
 latest_read subject all found line read is =
     ap option_to_list (ap (last_or None) (sym (all_shown all)) ∙ (sym read ∙ ap (option_map (λ (line : SubjectVersion). row_numbered subject (subject_version_view line))) is))
