@@ -25,15 +25,15 @@ fn has_version<'a>(sorted: &[(&'a str, u32)], position: &(&'a str, u32, u32)) ->
 }
 
 /// Whether the sorted versions contain the version (subject and number) of each item of
-/// `positions`. True if there is no item.
+/// `version_positions`. True if there is no item.
 fn contains_version_of_each<'a>(
     sorted: &[(&'a str, u32)],
-    positions: &[(&'a str, u32, u32)],
+    version_positions: &[(&'a str, u32, u32)],
 ) -> bool
     requires { AreSortedVersions sorted.now }
-    ensures { IsTrue result ↔ AllByRecursion (HasVersion sorted.now) positions.now }
+    ensures { IsTrue result ↔ AllByRecursion (HasVersion sorted.now) version_positions.now }
 {
-    for position in positions {
+    for position in version_positions {
         if !has_version(sorted, position) {
             return false;
         }
@@ -45,14 +45,15 @@ fn contains_version_of_each<'a>(
 /// order.
 pub fn have_evidence<'a>(
     versions_with_evidence: Vec<(&'a str, u32)>,
-    positions: &[(&'a str, u32, u32)],
+    version_positions: &[(&'a str, u32, u32)],
 ) -> bool
     ensures { IsTrue result
-        ↔ HaveEvidence (map version_view versions_with_evidence.entry.items) (map position_view positions.now) }
+        ↔ HaveEvidence (map version_view versions_with_evidence.entry.items)
+        (map position_view version_positions.now) }
 {
     let mut sorted = versions_with_evidence;
     sorted.sort_unstable();
-    contains_version_of_each(&sorted, positions)
+    contains_version_of_each(&sorted, version_positions)
 }
 
 /// Whether the position is 1, or the sorted positions contain its predecessor.
@@ -82,10 +83,10 @@ fn have_predecessors(sorted: &[(&str, u32, u32)]) -> bool
 
 /// Whether the positions of each version are 1, 2, .. up to their number, in any order. An item is
 /// a subject, a version's number, and a position. Duplicates aren't detected.
-pub fn are_contiguous(positions: Vec<(&str, u32, u32)>) -> bool
-    ensures { IsTrue result ↔ AreContiguous (map position_view positions.entry.items) }
+pub fn are_contiguous(version_positions: Vec<(&str, u32, u32)>) -> bool
+    ensures { IsTrue result ↔ AreContiguous (map position_view version_positions.entry.items) }
 {
-    let mut sorted = positions;
+    let mut sorted = version_positions;
     sorted.sort_unstable();
     have_predecessors(&sorted)
 }
