@@ -5,7 +5,7 @@ use Rattle.sqlite.specs.Held.{state}
 use Rattle.sqlite.specs.Order.{column}
 use Rattle.reg_tables.specs.declared.autocommit.AutocommitConnection.{AutocommitConnection}
 use Rattle.reg_tables.specs.Frames.{after_begin, ReadsInAutocommit}
-use Rattle.reg_tables.specs.Lookups.{Finds}
+use Rattle.reg_tables.specs.Lookups.{ReadsTable}
 use Rattle.reg_tables.specs.Layout.{HasFiveTables, no_schema, HasEightTables}
 use Rattle.reg_tables.specs.Reads.{HoldsReadable, CanBeRead, HasReadableMeta, HasLayout, HoldsReadableIn}
 use Rattle.reg_tables.specs.FailedCalls.{IsFault, IsUnreadable}
@@ -66,7 +66,7 @@ module _ {S X : Type 0} {g : Ghosts S} {q : TableQuery} {params : Row} (asked : 
     (read : HasCleanDisk (state g new.conn) → IfOk r (λ x. (last : Held S) × (found : List Row) × Shown q.sql params (after_begin g old.conn) (state g last) found × Reads x found))
     (failed : HasCleanDisk (state g new.conn) → IfErr r (λ e. (last : Held S) × FailsToList is_readable q.sql params (after_begin g old.conn) (state g last) (state g new.conn) e)) where
   pub finds_versions : ((last : State) (schema : Schema) (contents : Contents) → HoldsContents schema (after_begin g old.conn).now contents → HasFiveTables schema → (found : List Row) → Shown q.sql params (after_begin g old.conn) last found
-      → ((x : X) → Reads x found → IsRightFor contents x) × (AreReadable contents → All is_readable found)) → Finds Versions old new r IsRightFor
+      → ((x : X) → Reads x found → IsRightFor contents x) × (AreReadable contents → All is_readable found)) → ReadsTable Versions old new r IsRightFor
   finds_versions each = record {
     frame = frame;
     found = λ clean. if_ok r (λ x its schema known contents holds. (each (state g its.0) schema contents holds known its.1 its.2).0 x its.3) (read clean);

@@ -14,7 +14,7 @@ use Rattle.reg_tables.specs.FailedCalls.{IsFault, IsUnreadable}
 
 -- On a clean disk, a call that reads this table commits nothing. If the schema has this table and the tables have some contents, an Ok is right for them.
 -- An Err is a fault if the connection was closed, or if the schema has this table and the contents of all tables are readable.
-pub record Finds {S X : Type 0} {g : Ghosts S} (name : TableName) (old new : AutocommitConnection S g) (result : Result X Error) (IsRightFor : Contents → X → Type 0) : Type 0 where
+pub record ReadsTable {S X : Type 0} {g : Ghosts S} (name : TableName) (old new : AutocommitConnection S g) (result : Result X Error) (IsRightFor : Contents → X → Type 0) : Type 0 where
   pub frame : ReadsInAutocommit g old.conn new.conn result
   pub found : HasCleanDisk (conn_state new) → IfOk result (λ x. (schema : Schema) → HasTable name schema → (contents : Contents) → HoldsContents schema (conn_state old).now contents → IsRightFor contents x)
   pub fault : HasCleanDisk (conn_state new) → IfErr result (λ e. CanBeReadIn (HasTable name) (conn_state old) → IsFault (conn_state old) (conn_state new) e)

@@ -32,7 +32,7 @@ HoldsReadable = HoldsReadableIn HasFiveTables
 abbrev pub CanBeRead : State → Type 0
 CanBeRead = CanBeReadIn HasFiveTables
 
--- the schema begins with the five tables, and the rows of `meta` are a map from names to values, all UTF-8
+-- the schema begins with the five tables and has no view, and the rows of `meta` are a map from names to values, all UTF-8
 pub record HasReadableMeta (db : Database) : Type 0 where
   pub first : HasFiveTables db.schema
   pub values : TextMap (List ℕ)

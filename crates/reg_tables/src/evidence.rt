@@ -7,7 +7,7 @@ ghost use Rattle.sqlite.specs.State.{HasCleanDisk};
 ghost use Rattle.reg_tables.specs.Frames.{state_in, RunsInTransaction, conn_state, ReadsInAutocommit};
 ghost use Rattle.reg_tables.specs.Layout.{IsLayoutTwo, HasEightTables};
 ghost use Rattle.reg_tables.specs.Changes.{with_evidence, with_against};
-ghost use Rattle.reg_tables.specs.Lookups.{Finds, ListsTable};
+ghost use Rattle.reg_tables.specs.Lookups.{ReadsTable, ListsTable};
 ghost use Rattle.reg_tables.specs.FailedCalls.{IsInsertFault, IsFault, IsUnreadable};
 ghost use Rattle.reg_tables.specs.Contents.{TableName, evidence_form, against_form};
 ghost use Rattle.reg_tables.specs.Writing.{ChangesIf, ForHeldContents};
@@ -90,7 +90,7 @@ pub struct RawAgainst {
 impl FromRow for u64 {
     ghost Cells = { Value };
 
-    ghost shown = { λ row. column row 0 };
+    ghost cells_read = { λ row. column row 0 };
 
     ghost cells = { λ count. Int (pos count) };
 
@@ -104,7 +104,7 @@ impl FromRow for u64 {
 impl FromRow for RawEvidence {
     ghost Cells = { RowParts };
 
-    ghost shown = { parts_of evidence_form };
+    ghost cells_read = { parts_of evidence_form };
 
     ghost cells = { λ line. entry_parts evidence_form (evidence_entry line) };
 
@@ -123,7 +123,7 @@ impl FromRow for RawEvidence {
 impl FromRow for RawAgainst {
     ghost Cells = { RowParts };
 
-    ghost shown = { parts_of against_form };
+    ghost cells_read = { parts_of against_form };
 
     ghost cells = { λ line. entry_parts against_form (against_entry line) };
 
@@ -199,7 +199,7 @@ pub fn evidence_of<S: Alter>(
     subject: &str,
     number: u32,
 ) -> Result<Option<String>, Error>
-    ensures { Finds TableName.Evidence db.old db.new result (λ contents found.
+    ensures { ReadsTable TableName.Evidence db.old db.new result (λ contents found.
         option_map string_bytes found ≡ get contents.evidence (subject.now, number)) }
 {
     find::<S, Evidence>(db, params![subject, number])
@@ -216,7 +216,7 @@ pub fn against_at<S: Alter>(
     number: u32,
     position: u32,
 ) -> Result<Option<u32>, Error>
-    ensures { Finds TableName.Against db.old db.new result (λ contents found.
+    ensures { ReadsTable TableName.Against db.old db.new result (λ contents found.
         found ≡ get contents.against ((subject.now, number), position)) }
 {
     find::<S, Against>(db, params![subject, number, position])

@@ -6,7 +6,7 @@ ghost use Rattle.sqlite.specs.Order.{column};
 ghost use Rattle.reg_tables.specs.Frames.{state_in, RunsInTransaction};
 ghost use Rattle.sqlite.specs.State.{HasCleanDisk};
 ghost use Rattle.reg_tables.specs.Contents.{KeptReplyView, kept_cells, IsReadableReply, TableName, kept_form};
-ghost use Rattle.reg_tables.specs.Lookups.{Finds, ListsTable};
+ghost use Rattle.reg_tables.specs.Lookups.{ReadsTable, ListsTable};
 ghost use Rattle.reg_tables.specs.Changes.{with_kept};
 ghost use Rattle.reg_tables.specs.Writing.{ForHeldContents, ChangesIf};
 ghost use Rattle.reg_tables.specs.FailedCalls.{IsInsertFault};
@@ -32,7 +32,7 @@ pub struct KeptReply {
 }
 
 impl FromRow for KeptReply {
-    ghost shown = { λ row. column row 0 ∷ column row 1 ∷ column row 2 ∷ [] };
+    ghost cells_read = { λ row. column row 0 ∷ column row 1 ∷ column row 2 ∷ [] };
 
     ghost cells = { λ reply. kept_cells (kept_reply_view reply) };
 
@@ -80,7 +80,7 @@ pub struct RawKept {
 impl FromRow for RawKept {
     ghost Cells = { RowParts };
 
-    ghost shown = { parts_of kept_form };
+    ghost cells_read = { parts_of kept_form };
 
     ghost cells = { λ line. entry_parts kept_form (kept_entry line) };
 
@@ -132,7 +132,7 @@ pub fn kept_reply<S: Alter>(
     db: &mut AutocommitConnection<S>,
     key: &str,
 ) -> Result<Option<KeptReply>, Error>
-    ensures { Finds TableName.Kept db.old db.new result (λ contents found.
+    ensures { ReadsTable TableName.Kept db.old db.new result (λ contents found.
         MatchOption found (get contents.kept key.now ≡ None)
         (λ reply. get contents.kept key.now ≡ Some (kept_reply_view reply))) }
 {

@@ -31,7 +31,7 @@ pub(crate) trait KeyedTable {
     fn find_sql() -> &'static str
         ensures finds { (schema : Schema) → HasTable name schema → FindsRow schema name result.now }
         ensures read { (found : Self.Found) (value : ValueOf name)
-            → Self.Found.shown ((form_of name).value_cells value) ≡ Self.Found.cells found → value_of found ≡ value }
+            → Self.Found.cells_read ((form_of name).value_cells value) ≡ Self.Found.cells found → value_of found ≡ value }
         ensures readable { (contents : Contents) → AreReadable contents → (key : KeyOf name) (value : ValueOf name)
             → get (map_of name contents) key ≡ Some value → Self.Found.is_readable ((form_of name).value_cells value) };
 }
@@ -56,7 +56,7 @@ pub(crate) trait ChangedTable: FilledTable {
 }
 
 impl FromRow for String {
-    ghost shown = { λ row. column row 0 ∷ [] };
+    ghost cells_read = { λ row. column row 0 ∷ [] };
 
     ghost cells = { λ text. text_cells (string_bytes text) };
 

@@ -2,7 +2,7 @@
 
 ghost use Rattle.std.specs.Prelude.{◌≡◌, None, Some, MatchOption, string_bytes};
 ghost use Rattle.std.specs.FinMap.{get};
-ghost use Rattle.reg_tables.specs.Lookups.{Finds, ListsTable};
+ghost use Rattle.reg_tables.specs.Lookups.{ReadsTable, ListsTable};
 ghost use Rattle.reg_tables.specs.Changes.{with_level, without_level};
 ghost use Rattle.reg_tables.specs.Writing.{AppliesChange};
 ghost use Rattle.reg_tables.specs.FailedCalls.{IsWriteFault, IsInsertFault};
@@ -57,7 +57,7 @@ pub struct RawLevel {
 impl FromRow for RawLevel {
     ghost Cells = { RowParts };
 
-    ghost shown = { parts_of pair_form };
+    ghost cells_read = { parts_of pair_form };
 
     ghost cells = { λ line. entry_parts pair_form (level_entry line) };
 
@@ -107,7 +107,7 @@ pub fn own_level<S: Alter>(
     db: &mut AutocommitConnection<S>,
     subject: &str,
 ) -> Result<Option<String>, Error>
-    ensures { Finds TableName.Levels db.old db.new result (λ contents found.
+    ensures { ReadsTable TableName.Levels db.old db.new result (λ contents found.
         MatchOption found (get contents.levels subject.now ≡ None)
         (λ level. get contents.levels subject.now ≡ Some (string_bytes level))) }
 {

@@ -7,7 +7,7 @@ ghost use Rattle.std.specs.List.{last_or};
 ghost use Rattle.std.specs.FinMap.{entries, get};
 ghost use Rattle.sqlite.specs.Order.{column};
 ghost use Rattle.reg_tables.specs.Contents.{VersionEntryView, TableName, text_cmp};
-ghost use Rattle.reg_tables.specs.Lookups.{Finds};
+ghost use Rattle.reg_tables.specs.Lookups.{ReadsTable};
 ghost use Rattle.reg_tables.specs.Entries.{subject_version_view, subject_version_cells, subject_versions, IsReadableSubjectVersion, listed_version_view, listed_version_cells, id_versions, IsReadableListedVersion};
 
 use crate::autocommit::AutocommitConnection;
@@ -34,7 +34,7 @@ pub struct ListedVersion {
 }
 
 impl FromRow for SubjectVersion {
-    ghost shown = { λ row. column row 0 ∷ column row 1 ∷ column row 2 ∷ [] };
+    ghost cells_read = { λ row. column row 0 ∷ column row 1 ∷ column row 2 ∷ [] };
 
     ghost cells = { λ line. subject_version_cells (subject_version_view line) };
 
@@ -50,7 +50,7 @@ impl FromRow for SubjectVersion {
 }
 
 impl FromRow for ListedVersion {
-    ghost shown = { λ row. column row 0 ∷ column row 1 ∷ column row 2 ∷ column row 3 ∷ [] };
+    ghost cells_read = { λ row. column row 0 ∷ column row 1 ∷ column row 2 ∷ column row 3 ∷ [] };
 
     ghost cells = { λ line. listed_version_cells (listed_version_view line) };
 
@@ -76,7 +76,7 @@ pub fn versions_of<S: Alter>(
     db: &mut AutocommitConnection<S>,
     subject: &str,
 ) -> Result<Vec<SubjectVersion>, Error>
-    ensures { Finds TableName.Versions db.old db.new result (λ contents lines.
+    ensures { ReadsTable TableName.Versions db.old db.new result (λ contents lines.
         map subject_version_view lines.items ≡ subject_versions subject.now contents) }
 {
     list(
@@ -96,7 +96,7 @@ pub fn last_version_of<S: Alter>(
     db: &mut AutocommitConnection<S>,
     subject: &str,
 ) -> Result<Option<SubjectVersion>, Error>
-    ensures { Finds TableName.Versions db.old db.new result (λ contents found.
+    ensures { ReadsTable TableName.Versions db.old db.new result (λ contents found.
         option_map subject_version_view found ≡ last_or None (subject_versions subject.now contents)) }
 {
     first(
@@ -115,7 +115,7 @@ pub fn last_live_version_of<S: Alter>(
     db: &mut AutocommitConnection<S>,
     subject: &str,
 ) -> Result<Option<SubjectVersion>, Error>
-    ensures { Finds TableName.Versions db.old db.new result (λ contents found.
+    ensures { ReadsTable TableName.Versions db.old db.new result (λ contents found.
         option_map subject_version_view found
         ≡ last_or None (filter (λ version. not version.1.deleted) (subject_versions subject.now contents))) }
 {
@@ -136,7 +136,7 @@ pub fn next_version_of<S: Alter>(
     subject: &str,
     number: u32,
 ) -> Result<Option<SubjectVersion>, Error>
-    ensures { Finds TableName.Versions db.old db.new result (λ contents found.
+    ensures { ReadsTable TableName.Versions db.old db.new result (λ contents found.
         option_map subject_version_view found
         ≡ find (λ version. is_gt (nat_cmp version.0 number)) (subject_versions subject.now contents)) }
 {
@@ -156,7 +156,7 @@ pub fn first_version_after<S: Alter>(
     db: &mut AutocommitConnection<S>,
     subject: &str,
 ) -> Result<Option<ListedVersion>, Error>
-    ensures { Finds TableName.Versions db.old db.new result (λ contents found.
+    ensures { ReadsTable TableName.Versions db.old db.new result (λ contents found.
         option_map listed_version_view found
         ≡ find (λ entry. is_gt (text_cmp entry.0.0 subject.now)) (entries contents.versions)) }
 {
@@ -177,7 +177,7 @@ pub fn versions_of_id<S: Alter>(
     db: &mut AutocommitConnection<S>,
     id: u32,
 ) -> Result<Vec<ListedVersion>, Error>
-    ensures { Finds TableName.Versions db.old db.new result (λ contents lines.
+    ensures { ReadsTable TableName.Versions db.old db.new result (λ contents lines.
         map listed_version_view lines.items ≡ id_versions id contents) }
 {
     list(
@@ -197,7 +197,7 @@ pub fn any_version_of_id<S: Alter>(
     db: &mut AutocommitConnection<S>,
     id: u32,
 ) -> Result<Option<ListedVersion>, Error>
-    ensures { Finds TableName.Versions db.old db.new result (λ contents found.
+    ensures { ReadsTable TableName.Versions db.old db.new result (λ contents found.
         MatchOption found ((key : List ℕ × ℕ) (version : VersionEntryView)
         → get contents.versions key ≡ Some version → version.id ≢ id)
         (λ line. (get contents.versions (listed_version_view line).0 ≡ Some (listed_version_view line).1) × (line.id ≡ id))) }
@@ -218,7 +218,7 @@ pub fn all_versions<S: Alter>(
     alloc: Global,
     db: &mut AutocommitConnection<S>,
 ) -> Result<Vec<ListedVersion>, Error>
-    ensures { Finds TableName.Versions db.old db.new result (λ contents lines.
+    ensures { ReadsTable TableName.Versions db.old db.new result (λ contents lines.
         map listed_version_view lines.items ≡ entries contents.versions) }
 {
     list(

@@ -6,7 +6,7 @@ ghost use Rattle.reg_tables.specs.Frames.{conn_state};
 ghost use Rattle.sqlite.specs.State.{HasCleanDisk};
 ghost use Rattle.sqlite.specs.declared.types.Value.TheVariants.{Text};
 ghost use Rattle.reg_tables.specs.Layout.{meta, TakesMeta, HasFiveTables};
-ghost use Rattle.reg_tables.specs.Lookups.{Finds, ListsTable};
+ghost use Rattle.reg_tables.specs.Lookups.{ReadsTable, ListsTable};
 ghost use Rattle.reg_tables.specs.Rooms.{HasRoom, CanBeStored};
 ghost use Rattle.reg_tables.specs.Contents.{Contents, HoldsLayoutOne, TableName, pair_form};
 ghost use Rattle.reg_tables.specs.Changes.{with_meta, with_global, with_global_mode, marked_layout_two};
@@ -62,7 +62,7 @@ pub struct RawMeta {
 impl FromRow for RawMeta {
     ghost Cells = { RowParts };
 
-    ghost shown = { parts_of pair_form };
+    ghost cells_read = { parts_of pair_form };
 
     ghost cells = { λ line. entry_parts pair_form (meta_entry line) };
 
@@ -138,7 +138,7 @@ pub fn mark_layout_two<S: Alter>(tx: &mut Transaction<'_, S>) -> Result<(), Erro
 ///
 /// A read error; others only if the tables can't be read.
 pub fn global_level<S: Alter>(db: &mut AutocommitConnection<S>) -> Result<Option<String>, Error>
-    ensures { Finds TableName.Meta db.old db.new result (λ contents found.
+    ensures { ReadsTable TableName.Meta db.old db.new result (λ contents found.
         MatchOption found (get contents.meta (codes "global") ≡ None)
         (λ level. get contents.meta (codes "global") ≡ Some (string_bytes level))) }
 {

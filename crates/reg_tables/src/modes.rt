@@ -12,7 +12,7 @@ ghost use Rattle.reg_tables.specs.Writing.{AppliesChange};
 ghost use Rattle.reg_tables.specs.Changes.{with_mode, without_mode};
 ghost use Rattle.reg_tables.specs.FailedCalls.{IsWriteFault, IsInsertFault};
 ghost use Rattle.reg_tables.specs.Inside.ReadableRows.{IsReadablePair};
-ghost use Rattle.reg_tables.specs.Lookups.{Finds};
+ghost use Rattle.reg_tables.specs.Lookups.{ReadsTable};
 
 use crate::autocommit::AutocommitConnection;
 use crate::keyed::{ChangedTable, FilledTable, KeyedTable, delete, find, set};
@@ -59,7 +59,7 @@ pub struct RawMode {
 impl FromRow for RawMode {
     ghost Cells = { RowParts };
 
-    ghost shown = { parts_of pair_form };
+    ghost cells_read = { parts_of pair_form };
 
     ghost cells = { λ line. entry_parts pair_form (mode_entry line) };
 
@@ -109,7 +109,7 @@ pub fn own_mode<S: Alter>(
     db: &mut AutocommitConnection<S>,
     subject: &str,
 ) -> Result<Option<String>, Error>
-    ensures { Finds TableName.Modes db.old db.new result (λ contents found.
+    ensures { ReadsTable TableName.Modes db.old db.new result (λ contents found.
         MatchOption found (get contents.modes subject.now ≡ None)
         (λ mode. get contents.modes subject.now ≡ Some (string_bytes mode))) }
 {

@@ -19,7 +19,7 @@ use std::alloc::Global;
 impl FromRow for u32 {
     ghost Cells = { Value };
 
-    ghost shown = { λ row. column row 0 };
+    ghost cells_read = { λ row. column row 0 };
 
     ghost cells = { λ id. Int (pos id) };
 
@@ -40,7 +40,7 @@ pub struct RawText {
 impl FromRow for RawText {
     ghost Cells = { RowParts };
 
-    ghost shown = { parts_of text_form };
+    ghost cells_read = { parts_of text_form };
 
     ghost cells = { λ line. entry_parts text_form (text_entry line) };
 

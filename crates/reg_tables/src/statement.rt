@@ -61,7 +61,7 @@ pub(crate) trait FromRow: Sized {
     // The cells of the columns that are read: a row, or parts of it.
     ghost Cells: { Type 0 } = { SqlRow };
 
-    ghost shown: { SqlRow → Cells };
+    ghost cells_read: { SqlRow → Cells };
 
     ghost cells: { Self → Cells };
 
@@ -71,7 +71,7 @@ pub(crate) trait FromRow: Sized {
     /// Reads the value. A readable row fails only by `OutOfMemory`, any other row also because a
     /// column can't be converted.
     fn read(row: &Row) -> Result<Self, Error>
-        ensures ok { IfOk result (λ value. shown row.now ≡ cells value) }
+        ensures ok { IfOk result (λ value. cells_read row.now ≡ cells value) }
         ensures err { IfErr result (λ e. is_readable row.now
             → e ≡ Error.SqliteFailure ErrorCode.OutOfMemory) }
         ensures reading_error { IfErr result IsReadingError };
@@ -80,7 +80,7 @@ pub(crate) trait FromRow: Sized {
 /// The values of the rows. Each row is dropped after it is read: only one row's texts are in memory
 /// twice at a time.
 fn lines_in<L: FromRow + Drop>(alloc: Global, rows: Vec<Row>) -> Result<Vec<L>, Error>
-    ensures ok { IfOk result (λ lines. map L.shown rows.items ≡ map L.cells lines.items) }
+    ensures ok { IfOk result (λ lines. map L.cells_read rows.items ≡ map L.cells lines.items) }
     ensures err { IfErr result (λ e. (All L.is_readable rows.items
         → e ≡ Error.SqliteFailure ErrorCode.OutOfMemory) × IsReadingError e) }
 {
@@ -102,7 +102,7 @@ pub(crate) fn list<S: Alter, L: FromRow + Drop>(
     ensures read { HasCleanDisk (conn_state db.new) → IfOk result (λ lines. (last : Held S)
         × (found : List SqlRow)
         × Shown sql.now (bound values.now) (after_begin S.Store db.old.conn) (state S.Store last) found
-        × (map L.shown found ≡ map L.cells lines.items)) }
+        × (map L.cells_read found ≡ map L.cells lines.items)) }
     ensures failed { HasCleanDisk (conn_state db.new) → IfErr result (λ e. (last : Held S)
         × FailsToList L.is_readable sql.now (bound values.now) (after_begin S.Store db.old.conn)
         (state S.Store last) (conn_state db.new) e) }
@@ -121,7 +121,7 @@ pub(crate) fn first<S: Alter, L: FromRow>(
     ensures read { HasCleanDisk (conn_state db.new) → IfOk result (λ line. (last : Held S)
         × (found : List SqlRow)
         × Shown sql.now (bound values.now) (after_begin S.Store db.old.conn) (state S.Store last) found
-        × (option_map L.shown (slice_get found 0) ≡ option_map L.cells line)) }
+        × (option_map L.cells_read (slice_get found 0) ≡ option_map L.cells line)) }
     ensures failed { HasCleanDisk (conn_state db.new) → IfErr result (λ e. (last : Held S)
         × FailsToList L.is_readable sql.now (bound values.now) (after_begin S.Store db.old.conn)
         (state S.Store last) (conn_state db.new) e) }

@@ -5,7 +5,7 @@ ghost use Rattle.std.specs.FinMap.{get};
 ghost use Rattle.reg_tables.specs.Frames.{state_in, RunsInTransaction};
 ghost use Rattle.sqlite.specs.State.{HasCleanDisk};
 ghost use Rattle.reg_tables.specs.Contents.{number_cells, TableName};
-ghost use Rattle.reg_tables.specs.Lookups.{Finds};
+ghost use Rattle.reg_tables.specs.Lookups.{ReadsTable};
 ghost use Rattle.reg_tables.specs.Changes.{with_text};
 ghost use Rattle.reg_tables.specs.Writing.{ForHeldContents, ChangesIf};
 ghost use Rattle.reg_tables.specs.FailedCalls.{IsPutFault};
@@ -58,7 +58,7 @@ pub fn put_text<S: Alter>(tx: &mut Transaction<'_, S>, id: u32, text: &str) -> R
 ///
 /// A read error; others only if the tables can't be read.
 pub fn text_of<S: Alter>(db: &mut AutocommitConnection<S>, id: u32) -> Result<Option<String>, Error>
-    ensures { Finds TableName.Texts db.old db.new result (λ contents found.
+    ensures { ReadsTable TableName.Texts db.old db.new result (λ contents found.
         MatchOption found (get contents.texts id ≡ None)
         (λ text. get contents.texts id ≡ Some (string_bytes text))) }
 {
@@ -80,7 +80,7 @@ fn number_in(row: &Row) -> Result<u32, Error>
 ///
 /// A read error; others only if the tables can't be read.
 pub fn id_of<S: Alter>(db: &mut AutocommitConnection<S>, text: &str) -> Result<Option<u32>, Error>
-    ensures { Finds TableName.Texts db.old db.new result (λ contents found.
+    ensures { ReadsTable TableName.Texts db.old db.new result (λ contents found.
         MatchOption found ((id : ℕ) → get contents.texts id ≢ Some text.now)
         (λ id. get contents.texts id ≡ Some text.now)) }
 {
@@ -97,7 +97,7 @@ pub fn id_of<S: Alter>(db: &mut AutocommitConnection<S>, text: &str) -> Result<O
 ///
 /// A read error; others only if the tables can't be read.
 pub fn last_id<S: Alter>(db: &mut AutocommitConnection<S>) -> Result<Option<u32>, Error>
-    ensures { Finds TableName.Texts db.old db.new result (λ contents found.
+    ensures { ReadsTable TableName.Texts db.old db.new result (λ contents found.
         MatchOption found ((id : ℕ) → get contents.texts id ≡ None)
         (λ id. IsSome (get contents.texts id)
         × ((other : ℕ) → IsSome (get contents.texts other) → other ≤ id))) }

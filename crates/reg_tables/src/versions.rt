@@ -6,7 +6,7 @@ ghost use Rattle.sqlite.specs.Order.{column};
 ghost use Rattle.reg_tables.specs.Frames.{state_in, RunsInTransaction};
 ghost use Rattle.sqlite.specs.State.{HasCleanDisk};
 ghost use Rattle.reg_tables.specs.Contents.{VersionEntryView, version_cells, TableName, flag_cell, version_form};
-ghost use Rattle.reg_tables.specs.Lookups.{Finds, ListsTable};
+ghost use Rattle.reg_tables.specs.Lookups.{ReadsTable, ListsTable};
 ghost use Rattle.reg_tables.specs.Changes.{without_version, with_version, marking_deleted};
 ghost use Rattle.reg_tables.specs.Writing.{AppliesChange, ForHeldContents, ChangesIf};
 ghost use Rattle.reg_tables.specs.FailedCalls.{IsWriteFault, IsInsertFault};
@@ -31,7 +31,7 @@ pub struct VersionEntry {
 }
 
 impl FromRow for VersionEntry {
-    ghost shown = { λ row. column row 0 ∷ column row 1 ∷ [] };
+    ghost cells_read = { λ row. column row 0 ∷ column row 1 ∷ [] };
 
     ghost cells = { λ entry. version_cells (version_entry_view entry) };
 
@@ -80,7 +80,7 @@ pub struct RawVersion {
 impl FromRow for RawVersion {
     ghost Cells = { RowParts };
 
-    ghost shown = { parts_of version_form };
+    ghost cells_read = { parts_of version_form };
 
     ghost cells = { λ line. entry_parts version_form (version_entry line) };
 
@@ -188,7 +188,7 @@ pub fn version_of<S: Alter>(
     subject: &str,
     number: u32,
 ) -> Result<Option<VersionEntry>, Error>
-    ensures { Finds TableName.Versions db.old db.new result (λ contents found.
+    ensures { ReadsTable TableName.Versions db.old db.new result (λ contents found.
         MatchOption found (get contents.versions (subject.now, number) ≡ None)
         (λ entry. get contents.versions (subject.now, number) ≡ Some (version_entry_view entry))) }
 {

@@ -3,7 +3,7 @@
 ghost use Rattle.std.specs.Prelude.{◌≡◌, ◌==◌, ◌&&◌, ◌||◌, None, not, map, filter, option_map};
 ghost use Rattle.std.specs.List.{last_or};
 ghost use Rattle.reg_tables.specs.Contents.{TableName};
-ghost use Rattle.reg_tables.specs.Lookups.{Finds};
+ghost use Rattle.reg_tables.specs.Lookups.{ReadsTable};
 ghost use Rattle.reg_tables.specs.Entries.{AreVersionsOfId, listed_version_view, versions_limit, subject_version_view, subject_versions};
 
 use crate::autocommit::AutocommitConnection;
@@ -26,7 +26,7 @@ pub fn some_versions_of_id<S: Alter>(
     db: &mut AutocommitConnection<S>,
     id: u32,
 ) -> Result<Vec<ListedVersion>, Error>
-    ensures { Finds TableName.Versions db.old db.new result (λ contents lines.
+    ensures { ReadsTable TableName.Versions db.old db.new result (λ contents lines.
         AreVersionsOfId id contents (map listed_version_view lines.items)) }
 {
     list(
@@ -51,7 +51,7 @@ pub fn last_version_with_id<S: Alter>(
     id: u32,
     deleted: bool,
 ) -> Result<Option<SubjectVersion>, Error>
-    ensures { Finds TableName.Versions db.old db.new result (λ contents found.
+    ensures { ReadsTable TableName.Versions db.old db.new result (λ contents found.
         option_map subject_version_view found
         ≡ last_or None (filter (λ version. (deleted || not version.1.deleted) && (version.1.id == id))
         (subject_versions subject.now contents))) }

@@ -10,7 +10,7 @@ pub returns-clause-found : goal.returns-clause-found
 returns-clause-found g c clean =
     let sql = c.find_sql.ensures in
     if_ok c.first.result (λ line read schema known key cells contents holds.
-    line_found schema g.T.KeyedTable.name known c.find_sql.result.now (sql.finds schema known) key (after_begin g.S.Store c.args.db.now.conn) (state g.S.Store read.0) contents holds g.T.Found.FromRow.shown g.T.Found.FromRow.cells g.T.KeyedTable.value_of sql.read
+    line_found schema g.T.KeyedTable.name known c.find_sql.result.now (sql.finds schema known) key (after_begin g.S.Store c.args.db.now.conn) (state g.S.Store read.0) contents holds g.T.Found.FromRow.cells_read g.T.Found.FromRow.cells g.T.KeyedTable.value_of sql.read
     read.1 (rw cells at read.2) line read.3) (c.first.ensures.read clean)
 
 pub returns-clause-fault : goal.returns-clause-fault

@@ -10,13 +10,13 @@ first_of_all P (x ∷ rows) row is all = let same : x ≡ row = cc in subst P sa
 pub returns-in-None-clause-read : goal.returns-in-None-clause-read
 returns-in-None-clause-read g c clean =
     let shown = c.in_ok-rows.ensures.shown clean in
-    (shown.0, c.in_ok-rows.rows.items, shown.1, ap (option_map g.L.FromRow.shown) (sym (c.in-None.ensures.value ∙ ap (λ (l : List Row). slice_get l 0) c.deref.ensures.value)))
+    (shown.0, c.in_ok-rows.rows.items, shown.1, ap (option_map g.L.FromRow.cells_read) (sym (c.in-None.ensures.value ∙ ap (λ (l : List Row). slice_get l 0) c.deref.ensures.value)))
 
 pub returns-clause-read : goal.returns-clause-read
 returns-clause-read g c clean =
     let shown = c.in_ok-rows.ensures.shown clean in
     let row = c.in-Some.ensures.value ∙ ap (λ (l : List Row). slice_get l 0) c.deref.ensures.value in
-    (shown.0, c.in_ok-rows.rows.items, shown.1, ap (option_map g.L.FromRow.shown) (sym row) ∙ ap Some c.in_ok-read-in-Some.ensures.ok)
+    (shown.0, c.in_ok-rows.rows.items, shown.1, ap (option_map g.L.FromRow.cells_read) (sym row) ∙ ap Some c.in_ok-read-in-Some.ensures.ok)
 
 pub returns-in_err-rows-clause-failed : goal.returns-in_err-rows-clause-failed
 returns-in_err-rows-clause-failed g c clean =
