@@ -28,9 +28,9 @@ pub record Processes {S : Type 0} {g : Ghosts S} (old new : Service S g) (exchan
   pub crash : HasCleanDisk (state_in new) → (was : Stored) → IsOpenOver (state_in old) was → RecoversAcknowledged old new was (exchange ∷ [])
   -- if the connection is open, a crash leaves exactly what the tables spell
   pub crash_while_open : RecoversSpelled (state_in new)
-  -- On a clean disk, if the connection was open before the call and is open after it: if the reply is 50001, the tables spell what they
-  -- spelled. Otherwise the reply is due, and a first delivery was applied once. The evidence of an added version has the level in force and
-  -- the ids that the version was compared with. If all evidence was true, it still is.
+  -- On a clean disk, if the connection was open before the call: a reply other than 50001 is due, also if the call closed the connection. If
+  -- the connection is still open: after 50001 the tables spell what they spelled, and after another reply a first delivery was applied once. The
+  -- evidence of an added version has the level in force and the ids that the version was compared with. If all evidence was true, it still is.
   pub exactly_once : HasCleanDisk (state_in new) → ServesOver (state_in old) (state_in new) (served (exchange ∷ []))
 
 -- This project's choice: the service processed each delivery of a list, in the state that the previous one left.
