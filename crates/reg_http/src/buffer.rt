@@ -3,6 +3,8 @@
 
 ghost use Rattle.std.specs.Prelude.{◌≡◌, ◌≤◌, ◌<◌, ◌+◌, ◌-◌, ◌++◌, [], ℕ, List, length, take, drop, IfOk, OnErr, slice_range, vec_len};
 ghost use Rattle.std.specs.Io.KnownBytes.{Consumes, IsAtEnd, Keeps};
+ghost use Rattle.reg_messages.specs.Framing.{max_body};
+ghost use Rattle.reg_messages.specs.Messages.{max_head};
 
 use httparse::spans::{EMPTY_HEADER_SPAN, HeaderSpan};
 use reg_core::OutOfMemory;
@@ -24,8 +26,10 @@ pub struct Buffer {
 }
 
 impl Model for Buffer {
-    ghost use Rattle.std.specs.Prelude.{ℕ, List, ◌≡◌, ◌≤◌, slice_range, vec_len};
+    ghost use Rattle.std.specs.Prelude.{ℕ, List, ◌≡◌, ◌≤◌, ◌+◌, slice_range, vec_len};
     ghost use Rattle.std.specs.Coded.{coded_list, coded_ℕ};
+    ghost use Rattle.reg_messages.specs.Framing.{max_body};
+    ghost use Rattle.reg_messages.specs.Messages.{max_head};
 
     ghost Value = { List ℕ };
 
@@ -33,7 +37,8 @@ impl Model for Buffer {
 
     ghost view = { λ b. slice_range b.bytes.items b.first b.last };
 
-    ghost invariant = { λ b. (b.first ≤ b.last) × (b.last ≤ 1064960) × (vec_len b.bytes ≡ 1064960) };
+    ghost invariant = { λ b. (b.first ≤ b.last) × (b.last ≤ max_head + max_body)
+        × (vec_len b.bytes ≡ max_head + max_body) };
 }
 
 /// Reads once, into the bytes from position `at` on, and returns the number of bytes read: 0 at the
@@ -116,7 +121,7 @@ impl Buffer {
     ///
     /// The error of the read. Nothing has changed then.
     pub fn fill<R: Read>(&mut self, reader: &mut R) -> io::Result<usize>
-        requires { length self.old < 1064960 }
+        requires { length self.old < max_head + max_body }
         ensures ok { IfOk result (λ n. (more : List ℕ) × (self.new ≡ self.old ++ more) × (length more ≡ n)
             × Consumes (R.remaining reader.old) (R.remaining reader.new) more
             × (n ≡ 0 → IsAtEnd (R.remaining reader.new))) }

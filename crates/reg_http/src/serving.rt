@@ -1,9 +1,11 @@
 //! A connection, from its first byte to its end.
 
-ghost use Rattle.std.specs.Prelude.{◌≡◌, ◌<◌, [], length};
+ghost use Rattle.std.specs.Prelude.{◌≡◌, ◌<◌, ◌+◌, [], length};
 ghost use Rattle.sqlite.specs.State.{HasCleanDisk};
 ghost use Rattle.reg_service.specs.Crashes.{ServesDurably};
 ghost use Rattle.reg_service.specs.Services.{state_in};
+ghost use Rattle.reg_messages.specs.Framing.{max_body};
+ghost use Rattle.reg_messages.specs.Messages.{max_head};
 ghost use Rattle.reg_http.specs.Transitions.{StoredTransition};
 ghost use Rattle.reg_http.specs.Sessions.{Session};
 ghost use Rattle.reg_http.specs.Inside.Readings.{ReadsAs, end_of};
@@ -44,7 +46,7 @@ enum ReadOutcome {
 
 /// Reads once, and appends the bytes to the buffer.
 fn read_more<R: Read>(buffer: &mut Buffer, reader: &mut R) -> ReadOutcome
-    requires { length buffer.old < 1064960 }
+    requires { length buffer.old < max_head + max_body }
     ensures { ReadsAs (R.remaining reader.old) (R.remaining reader.new) buffer.old buffer.new result }
 {
     match buffer.fill(reader) {
