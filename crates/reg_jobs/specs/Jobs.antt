@@ -28,7 +28,7 @@ use Rattle.reg_jobs.specs.declared.job.Opened.{Opened}
 use Rattle.reg_jobs.specs.declared.job.Opened.TheVariants.{Nothing, Texts, Failed, Empty, OrphanedLog, Fresh, Database}
 use Rattle.reg_jobs.specs.declared.outcome.Fault.{Fault}
 use Rattle.reg_jobs.specs.declared.outcome.Outcome.{Outcome}
-use Rattle.reg_jobs.specs.declared.outcome.Outcome.TheVariants.{Session as SessionEnded, Unopened, NotListening, Text as TextEnded, Check as CheckEnded, List as ListEnded, Migrated, Audited}
+use Rattle.reg_jobs.specs.declared.outcome.Outcome.TheVariants.{Session as SessionEnded, Unopened, NotListening, Text as TextEnded, Check as CheckEnded, List as ListEnded, Migrate as MigrateEnded, Audit as AuditEnded}
 use Rattle.reg_jobs.specs.Auditing.{AuditsAs}
 use Rattle.reg_jobs.specs.declared.auditing.AuditOutcome.{AuditOutcome}
 use Rattle.reg_jobs.specs.Databases.{ReturnsConnection, IsCreatedIn, CreatesNone, OpensNone}
@@ -153,8 +153,8 @@ RunsOn g opened returned reader reader' writer writer' (NotListening port) = ⊥
 RunsOn g opened returned reader reader' writer writer' (TextEnded printed) = ⊥
 RunsOn g opened returned reader reader' writer writer' (CheckEnded checked) = ⊥
 RunsOn g opened returned reader reader' writer writer' (ListEnded listed) = ⊥
-RunsOn g opened returned reader reader' writer writer' (Migrated migrated) = ⊥
-RunsOn g opened returned reader reader' writer writer' (Audited audited) = ⊥
+RunsOn g opened returned reader reader' writer writer' (MigrateEnded migrated) = ⊥
+RunsOn g opened returned reader reader' writer writer' (AuditEnded audited) = ⊥
 
 -- the outcome of `run`: a session over what was opened if the job names a file, otherwise over a new registry in memory
 abbrev pub RunsJob : {S : Type 0} (g : Ghosts S) → Opened S → Bool → Option (Held S) → Option (List ℕ) → Option (List ℕ) → Option (List ℕ) → Option (List ℕ) → Outcome → Type 0
@@ -204,8 +204,8 @@ ListsOn g opened kind returned writer writer' (NotListening port) = ⊥
 ListsOn g opened kind returned writer writer' (TextEnded printed) = ⊥
 ListsOn g opened kind returned writer writer' (CheckEnded checked) = ⊥
 ListsOn g opened kind returned writer writer' (ListEnded listed) = OverDatabase g opened (λ old. ReturnsConnection g returned (ListsOver old kind writer writer' listed))
-ListsOn g opened kind returned writer writer' (Migrated migrated) = ⊥
-ListsOn g opened kind returned writer writer' (Audited audited) = ⊥
+ListsOn g opened kind returned writer writer' (MigrateEnded migrated) = ⊥
+ListsOn g opened kind returned writer writer' (AuditEnded audited) = ⊥
 
 -- an audit of the stored state of a database, which the tables still spell
 pub record AuditsOver (old : State) (writer writer' : Option (List ℕ)) (audited : AuditOutcome) (new : State) : Type 0 where
@@ -222,8 +222,8 @@ AuditsOn g opened returned writer writer' (NotListening port) = ⊥
 AuditsOn g opened returned writer writer' (TextEnded printed) = ⊥
 AuditsOn g opened returned writer writer' (CheckEnded checked) = ⊥
 AuditsOn g opened returned writer writer' (ListEnded listed) = ⊥
-AuditsOn g opened returned writer writer' (Migrated migrated) = ⊥
-AuditsOn g opened returned writer writer' (Audited audited) = OverDatabase g opened (λ old. ReturnsConnection g returned (AuditsOver old writer writer' audited))
+AuditsOn g opened returned writer writer' (MigrateEnded migrated) = ⊥
+AuditsOn g opened returned writer writer' (AuditEnded audited) = OverDatabase g opened (λ old. ReturnsConnection g returned (AuditsOver old writer writer' audited))
 
 -- nothing was opened that could be migrated, and nothing was written
 abbrev pub MigratesNothing : Option (List ℕ) → Option (List ℕ) → StoreError → Outcome → Type 0

@@ -12,7 +12,7 @@ use Rattle.reg_migrate.specs.Errors.{KeepsCrashStates}
 use Rattle.reg_migrate.specs.Migrations.{IsReasonOver, RecoversToMigrated, CrashKeepsStored, Migrates}
 use Rattle.reg_http.specs.Output.{AppendsPrefix}
 use Rattle.reg_jobs.specs.declared.outcome.Outcome.{Outcome}
-use Rattle.reg_jobs.specs.declared.outcome.Outcome.TheVariants.{Unopened, Migrated}
+use Rattle.reg_jobs.specs.declared.outcome.Outcome.TheVariants.{Unopened, Migrate as MigrateEnded}
 use Rattle.reg_jobs.specs.declared.migration.MigrateOutcome.{MigrateOutcome}
 use Rattle.reg_jobs.specs.declared.migration.MigrateOutcome.TheVariants.{Whole, NotWritten}
 
@@ -48,7 +48,7 @@ pub record FailsToMigrate (old new : State) (error : MigrateError) : Type 0 wher
 -- the outcome for a database that wasn't migrated. If it has layout 2, a line says that there is nothing to do; otherwise nothing is
 -- printed
 abbrev pub PrintsUnmigrated : MigrateError → Option (List ℕ) → Option (List ℕ) → Outcome → Type 0
-PrintsUnmigrated migrating.AlreadyNew writer writer' outcome = (printed : MigrateOutcome) × (outcome ≡ Migrated printed) × PrintsLine nothing_line writer writer' printed
+PrintsUnmigrated migrating.AlreadyNew writer writer' outcome = (printed : MigrateOutcome) × (outcome ≡ MigrateEnded printed) × PrintsLine nothing_line writer writer' printed
 PrintsUnmigrated migrating.Memory writer writer' outcome = (outcome ≡ Unopened Memory) × (writer' ≡ writer)
 PrintsUnmigrated migrating.Disk writer writer' outcome = (outcome ≡ Unopened Disk) × (writer' ≡ writer)
 PrintsUnmigrated migrating.NotARegistry writer writer' outcome = (outcome ≡ Unopened NotARegistry) × (writer' ≡ writer)
@@ -57,10 +57,10 @@ PrintsUnmigrated (migrating.NewerLayout number) writer writer' outcome = (outcom
 -- a database was migrated, and its line was printed
 pub record IsMigrated (old new : State) (writer writer' : Option (List ℕ)) (outcome : Outcome) : Type 0 where
   pub printed : MigrateOutcome
-  pub outcome_is : outcome ≡ Migrated printed
+  pub outcome_is : outcome ≡ MigrateEnded printed
   pub migrated : MigratesPrinting old new writer writer' printed
 
--- `migrate` returned an error, and committed nothing. If the database has layout 2 already, the outcome is `Migrated`, and the printed line
+-- `migrate` returned an error, and committed nothing. If the database has layout 2 already, the outcome is `Migrate`, and the printed line
 -- says that there is nothing to do.
 pub record HasMigrateError (old new : State) (writer writer' : Option (List ℕ)) (outcome : Outcome) : Type 0 where
   pub error : MigrateError

@@ -11,7 +11,7 @@ use Rattle.reg_jobs.specs.declared.files.FileFault.TheVariants.{CannotRead, NotS
 use Rattle.reg_jobs.specs.declared.files.TextOutcome.TheVariants.{Whole, Nothing as NothingPrinted, NotWritten}
 use Rattle.reg_jobs.specs.declared.files.CheckOutcome.TheVariants.{Verdict, Reader, Writer, OutOfMemory as CheckOutOfMemory, NotWritten as VerdictNotWritten}
 use Rattle.reg_jobs.specs.declared.outcome.Outcome.{Outcome}
-use Rattle.reg_jobs.specs.declared.outcome.Outcome.TheVariants.{Session as SessionEnded, Unopened, NotListening, Text as TextEnded, Check as CheckEnded, List as ListEnded, Migrated, Audited}
+use Rattle.reg_jobs.specs.declared.outcome.Outcome.TheVariants.{Session as SessionEnded, Unopened, NotListening, Text as TextEnded, Check as CheckEnded, List as ListEnded, Migrate as MigrateEnded, Audit as AuditEnded}
 use Rattle.reg_jobs.specs.declared.auditing.AuditOutcome.TheVariants.{Verdict as EvidenceVerdict, Unread as EvidenceUnread, NotWritten as EvidenceNotWritten}
 use Rattle.reg_jobs.specs.declared.migration.MigrateOutcome.TheVariants.{Whole as MigrateWhole, NotWritten as MigrateNotWritten}
 use Rattle.reg_jobs.specs.declared.listings.ListOutcome.TheVariants.{Whole as ListedWhole, Unread, NotWritten as ListNotWritten, OutOfMemory as ListOutOfMemory}
@@ -64,12 +64,12 @@ result_of (ListEnded ListedWhole) file writer = Ok 0
 result_of (ListEnded (Unread error)) file writer = Err (fault_of_database error, file)
 result_of (ListEnded ListNotWritten) file writer = Err (FaultWriteFailed, file)
 result_of (ListEnded ListOutOfMemory) file writer = Err (FaultOutOfMemory, file)
-result_of (Migrated MigrateWhole) file writer = Ok 0
-result_of (Migrated MigrateNotWritten) file writer = Err (FaultWriteFailed, file)
-result_of (Audited (EvidenceVerdict true)) file writer = Ok 0
-result_of (Audited (EvidenceVerdict false)) file writer = Ok 1
-result_of (Audited (EvidenceUnread error)) file writer = Err (fault_of_database error, file)
-result_of (Audited EvidenceNotWritten) file writer = Err (FaultWriteFailed, file)
+result_of (MigrateEnded MigrateWhole) file writer = Ok 0
+result_of (MigrateEnded MigrateNotWritten) file writer = Err (FaultWriteFailed, file)
+result_of (AuditEnded (EvidenceVerdict true)) file writer = Ok 0
+result_of (AuditEnded (EvidenceVerdict false)) file writer = Ok 1
+result_of (AuditEnded (EvidenceUnread error)) file writer = Err (fault_of_database error, file)
+result_of (AuditEnded EvidenceNotWritten) file writer = Err (FaultWriteFailed, file)
 
 -- the program's status, 2 for every fault
 abbrev pub status_of : Result ℕ (Fault × List ℕ) → ℕ

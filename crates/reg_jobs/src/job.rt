@@ -255,7 +255,7 @@ fn audit_on<S: Alter + Drop, W: Write>(
     match open_existing_store(alloc, opened) {
         Ok(store) => {
             let (audit_outcome, connection) = audit_store(store, writer);
-            (Outcome::Audited(audit_outcome), Some(connection))
+            (Outcome::Audit(audit_outcome), Some(connection))
         }
         Err((error, connection)) => (Outcome::Unopened(error), connection),
     }

@@ -52,7 +52,7 @@ fn print_unmigrated<W: Write>(error: MigrateError, writer: &mut W) -> Outcome
 {
     match error {
         MigrateError::AlreadyNew => {
-            Outcome::Migrated(print_parts(writer, &["layout 2: nothing to do\n"]))
+            Outcome::Migrate(print_parts(writer, &["layout 2: nothing to do\n"]))
         }
         MigrateError::Memory => Outcome::Unopened(StoreError::Memory),
         MigrateError::Disk => Outcome::Unopened(StoreError::Disk),
@@ -76,7 +76,7 @@ pub fn migrate_in<S: Alter, W: Write>(
     }
     let (migrated, connection) = migrate(alloc, connection);
     let outcome = match migrated {
-        Ok(report) => Outcome::Migrated(print_kept(writer, report.versions)),
+        Ok(report) => Outcome::Migrate(print_kept(writer, report.versions)),
         Err(error) => print_unmigrated(error, writer),
     };
     (outcome, connection)

@@ -25,10 +25,10 @@ pub enum Outcome {
     Check(CheckOutcome),
     /// The outcome of `list`.
     List(ListOutcome),
-    /// The registry was migrated to this program's layout, or had it.
-    Migrated(MigrateOutcome),
+    /// The outcome of `migrate`: the registry was migrated to this program's layout, or had it.
+    Migrate(MigrateOutcome),
     /// The outcome of `audit`.
-    Audited(AuditOutcome),
+    Audit(AuditOutcome),
 }
 
 /// A fault that has a line on standard error.
@@ -121,12 +121,12 @@ pub fn result_of<'a>(outcome: Outcome, file: &'a str, writer: &'a str) -> Result
         Outcome::List(ListOutcome::Unread(error)) => Err(fault_of_database(error).on(file)),
         Outcome::List(ListOutcome::NotWritten) => Err(Fault::WriteFailed.on(file)),
         Outcome::List(ListOutcome::OutOfMemory) => Err(Fault::OutOfMemory.on(file)),
-        Outcome::Migrated(MigrateOutcome::Whole) => Ok(0),
-        Outcome::Migrated(MigrateOutcome::NotWritten) => Err(Fault::WriteFailed.on(file)),
-        Outcome::Audited(AuditOutcome::Verdict(true)) => Ok(0),
-        Outcome::Audited(AuditOutcome::Verdict(false)) => Ok(1),
-        Outcome::Audited(AuditOutcome::Unread(error)) => Err(fault_of_database(error).on(file)),
-        Outcome::Audited(AuditOutcome::NotWritten) => Err(Fault::WriteFailed.on(file)),
+        Outcome::Migrate(MigrateOutcome::Whole) => Ok(0),
+        Outcome::Migrate(MigrateOutcome::NotWritten) => Err(Fault::WriteFailed.on(file)),
+        Outcome::Audit(AuditOutcome::Verdict(true)) => Ok(0),
+        Outcome::Audit(AuditOutcome::Verdict(false)) => Ok(1),
+        Outcome::Audit(AuditOutcome::Unread(error)) => Err(fault_of_database(error).on(file)),
+        Outcome::Audit(AuditOutcome::NotWritten) => Err(Fault::WriteFailed.on(file)),
     }
 }
 

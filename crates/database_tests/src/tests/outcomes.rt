@@ -29,13 +29,13 @@ const OUTCOMES: [(Outcome, &str, u8); 26] = [
     (Outcome::List(ListOutcome::Unread(StoreError::NewerLayout(2))), "avroreg: F has layout 2, newer than this program\n", 2),
     (Outcome::List(ListOutcome::NotWritten), "avroreg: write failed\n", 2),
     (Outcome::List(ListOutcome::OutOfMemory), "avroreg: out of memory\n", 2),
-    (Outcome::Audited(AuditOutcome::Unread(StoreError::Memory)), "avroreg: out of memory\n", 2),
-    (Outcome::Audited(AuditOutcome::Unread(StoreError::Disk)), "avroreg: cannot open F\n", 2),
-    (Outcome::Audited(AuditOutcome::NotWritten), "avroreg: write failed\n", 2),
+    (Outcome::Audit(AuditOutcome::Unread(StoreError::Memory)), "avroreg: out of memory\n", 2),
+    (Outcome::Audit(AuditOutcome::Unread(StoreError::Disk)), "avroreg: cannot open F\n", 2),
+    (Outcome::Audit(AuditOutcome::NotWritten), "avroreg: write failed\n", 2),
     (Outcome::Session(Ended::Closed), "", 0),
     (Outcome::List(ListOutcome::Whole), "", 0),
-    (Outcome::Audited(AuditOutcome::Verdict(true)), "", 0),
-    (Outcome::Audited(AuditOutcome::Verdict(false)), "", 1),
+    (Outcome::Audit(AuditOutcome::Verdict(true)), "", 0),
+    (Outcome::Audit(AuditOutcome::Verdict(false)), "", 1),
 ];
 
 /// A line is written in full, or up to the write that fails.
