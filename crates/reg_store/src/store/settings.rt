@@ -15,28 +15,45 @@ use reg_tables::{RawMeta, raw_meta};
 use sqlite::Alter;
 use std::alloc::Global;
 
-/// The subject's own level (`None` if it has none, or without a subject) and the global level, and
-/// likewise its own mode and the global mode. The levels may be placeholders unless `needs.levels`
-/// is set, the modes unless `needs.modes` is set.
+/// The level and the mode of a subject, and the global ones.
+#[derive(Clone, Copy)]
+pub(crate) struct LevelsAndModes {
+    /// The subject's own level. `None` if it has none, or without a subject.
+    pub own: Option<Level>,
+    /// The global level.
+    pub global: Level,
+    /// The subject's own mode. `None` if it has none, or without a subject.
+    pub own_mode: Option<Mode>,
+    /// The global mode.
+    pub global_mode: Mode,
+}
+
+/// The levels and the modes for a command on this subject. The levels may be placeholders unless
+/// `needs.levels` is set, the modes unless `needs.modes` is set.
 pub(crate) fn settings_for<S: Alter>(
     alloc: Global,
     db: &mut Conn<S>,
     subject: Option<&Subject>,
     needs: Needs,
-) -> Result<((Option<Level>, Level), (Option<Mode>, Mode)), StoreError>
+) -> Result<LevelsAndModes, StoreError>
     ensures { Reads db.old db.new result (λ was settings.
         (IsTrue needs.levels
-        → (settings.0.0 ≡ option_and_then was.registry.own (option_copied subject.entry))
-        × (settings.0.1 ≡ was.registry.global))
+        → (settings.own ≡ option_and_then was.registry.own (option_copied subject.entry))
+        × (settings.global ≡ was.registry.global))
         × (IsTrue needs.modes
-        → (settings.1.0 ≡ option_and_then was.registry.own_modes (option_copied subject.entry))
-        × (settings.1.1 ≡ was.registry.global_mode))) }
+        → (settings.own_mode ≡ option_and_then was.registry.own_modes (option_copied subject.entry))
+        × (settings.global_mode ≡ was.registry.global_mode))) }
 {
     if needs.modes {
         return settings_with_modes(alloc, db, subject, needs.levels);
     }
     let levels = levels_for(db, subject, needs.levels)?;
-    Ok((levels, (None, Mode::Readwrite)))
+    Ok(LevelsAndModes {
+        own: levels.0,
+        global: levels.1,
+        own_mode: None,
+        global_mode: Mode::Readwrite,
+    })
 }
 
 /// As `settings_for` if the modes are needed. Without `needs_levels` the levels may be
@@ -46,18 +63,24 @@ fn settings_with_modes<S: Alter>(
     db: &mut Conn<S>,
     subject: Option<&Subject>,
     needs_levels: bool,
-) -> Result<((Option<Level>, Level), (Option<Mode>, Mode)), StoreError>
+) -> Result<LevelsAndModes, StoreError>
     ensures { Reads db.old db.new result (λ was settings.
         (IsTrue needs_levels
-        → (settings.0.0 ≡ option_and_then was.registry.own (option_copied subject.entry))
-        × (settings.0.1 ≡ was.registry.global))
-        × ((settings.1.0 ≡ option_and_then was.registry.own_modes (option_copied subject.entry))
-        × (settings.1.1 ≡ was.registry.global_mode))) }
+        → (settings.own ≡ option_and_then was.registry.own (option_copied subject.entry))
+        × (settings.global ≡ was.registry.global))
+        × ((settings.own_mode
+        ≡ option_and_then was.registry.own_modes (option_copied subject.entry))
+        × (settings.global_mode ≡ was.registry.global_mode))) }
 {
     let globals = globals(alloc, db)?;
     let own_level = own_level_for(db, subject, needs_levels)?;
     let own_mode = own_mode_for(db, subject)?;
-    Ok(((own_level, globals.0), (own_mode, globals.1)))
+    Ok(LevelsAndModes {
+        own: own_level,
+        global: globals.0,
+        own_mode,
+        global_mode: globals.1,
+    })
 }
 
 /// The global level and the global mode in one read.

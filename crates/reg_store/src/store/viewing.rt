@@ -71,17 +71,16 @@ fn view_but_texts<S: Alter>(
 {
     let needs = command.needs();
     let settings = settings_for(alloc, db, command.subject(), needs)?;
-    let levels = settings.0;
     let ids = ids_for(db, identity, needs.count)?;
-    let level = levels.0.unwrap_or(levels.1);
+    let level = settings.own.unwrap_or(settings.global);
     let rows = rows_for(alloc, db, command.subject(), needs.rows, level, ids.0)?;
     Ok(View {
         rows,
         texts: BTreeMap::new(alloc),
-        own: levels.0,
-        global: levels.1,
-        own_mode: settings.1.0,
-        global_mode: settings.1.1,
+        own: settings.own,
+        global: settings.global,
+        own_mode: settings.own_mode,
+        global_mode: settings.global_mode,
         known: ids.0,
         count: ids.1,
     })
