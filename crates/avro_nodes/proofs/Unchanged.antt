@@ -9,7 +9,7 @@ use Rattle.std.proofs.Math.Nat.{div-lt_iff_lt-mul}
 use Rattle.std.proofs.lemmas.Bool.{false≢true, true≢false, ltb-true, lt-ltb, le-leb, and_parts, and_from, eq-eqb, ne_eqb}
 use Rattle.std.proofs.lemmas.Fmt.{decimal_is_IsNumeral, decimal_digit, first_decimal}
 use Rattle.std.proofs.lemmas.List.{append-nil, take_all}
-use Rattle.std.proofs.lemmas.Str.Parse.{digit_at}
+use Rattle.std.proofs.lemmas.Str.Parse.{digit_at, digits_value_short}
 use Rattle.std.specs.List.{flat_map}
 use Rattle.serde_json.proofs.OnLiterals.{serde_json_on_literals}
 use Rattle.serde_json.specs.Data.{Num, unsigned, negative, float, Data, null, boolean, number, string, array, object, Items, no_items, item, Members, no_members, member}
@@ -19,7 +19,7 @@ use Rattle.avro_nodes.specs.Whole.{is_whole_number, has_whole_numbers, items_hav
 use Rattle.avro_nodes.specs.Nodes.{NodeView}
 use Rattle.avro_nodes.specs.Identity.{identity, identity_value, nodes_pass}
 use Rattle.avro_nodes.proofs.Runs.{before_before, before_nothing, number_next, no_number_next, alone}
-use Rattle.avro_nodes.proofs.Numbers.{own}
+use Rattle.avro_nodes.proofs.Numbers.{own, spells, digits_of_digits}
 use Rattle.avro_nodes.proofs.Plainness.{identity_is_whole}
 
 -- ---- bytes that are copied, and don't change the position in or outside strings
@@ -192,6 +192,12 @@ digits_respelt n h =
     let ds = decimal n in
     let bare : is_minus (slice_index ds 0) ≡ false = ne_eqb (get_or ds 0 0) 45 (λ e. omega (arith, e, first_is n h)) in
     whole_alone ds (no_point ds (all_digits n h)) ∙ rw (bare, digits_are n h, value_is n h, lt-ltb n (2 ^ 64) h) refl
+
+-- a number of at most 19 digits stays as it is
+pub short_number_stays : (s : List ℕ) → are_digits s ≡ true → length s < 20 → piece_text (run s) ≡ Some s
+short_number_stays s e short =
+    let small : digits_value 10 s < 2 ^ 64 = omega (arith, digits_value_short own s 19 (digits_of_digits s e) (omega arith)) in
+    either_spelt (begins_number s) s (subst (λ (t : List ℕ). respelt t ≡ Some t) (spells s e small) (digits_respelt (digits_value 10 s) small))
 
 below_respelt : (n : ℕ) → n < 2 ^ 63 → respelt (45 ∷ decimal (suc n)) ≡ Some (45 ∷ decimal (suc n))
 below_respelt n h =
