@@ -7,7 +7,8 @@ use Rattle.serde_json.specs.View.{view, number_view, items_view}
 use Rattle.serde_json.specs.declared.number.Number.{Number as Numeral}
 use Rattle.serde_json.specs.declared.value.Value.{Value}
 use Rattle.avro_schema.specs.declared.borrowed.Object.{Object as Attributes}
-use Rattle.avro_schema.specs.declared.borrowed.Json.{Json, fold-Json, Null, Bool as Truth, Number, Text, Array, Object, the_lemmas}
+use Rattle.avro_schema.specs.declared.foreign_array.ForeignArray.{ForeignArray}
+use Rattle.avro_schema.specs.declared.borrowed.Json.{Json, fold-Json, Null, Bool as Truth, Number, Text, Array, Foreign, Object, the_lemmas}
 use Rattle.avro_schema.specs.declared.borrowed.Json.TheOpen.{Json-F}
 use Rattle.avro_schema.specs.Inside.Borrowed.{value_data, items_data, members_data}
 
@@ -27,6 +28,9 @@ of_Text s = search (rules, the_lemmas)
 
 pub of_Array : (v : Vec Json Global) → value_data (Array v) ≡ array (items_data v.items)
 of_Array v = search (rules, the_lemmas)
+
+pub of_Foreign : (a : ForeignArray) → value_data (Foreign a) ≡ array (items_view a.items.items)
+of_Foreign a = search (rules, the_lemmas)
 
 pub of_Object : (o : Attributes (Bor (List ℕ) × Json)) → value_data (Object o) ≡ object (members_data o)
 of_Object o = search (rules, the_lemmas)
@@ -65,6 +69,7 @@ size_step (Json-F.Bool b) = 0
 size_step (Json-F.Number n) = 0
 size_step (Json-F.Text s) = 0
 size_step (Json-F.Array v) = suc (sum_of v.items)
+size_step (Json-F.Foreign a) = 0
 size_step (Json-F.Object o) = suc (entries_sum o.reserved.items)
 
 abbrev pub size : Json → ℕ

@@ -1,8 +1,8 @@
 -- Simple names separated by dots, one byte at a time.
-use Rattle.std.proofs.Common.{◌≡◌, ℕ, List, [], ◌∷◌, Bool, true, false, not, cond, ◌&&◌, ◌||◌, refl, sym, ap, ◌∙◌, true≢false, inl, inr}
-use Rattle.std.specs.List.{list_all, list_any, slice_split, onto_first}
+use Rattle.std.proofs.Common.{◌≡◌, ℕ, List, [], ◌∷◌, Bool, true, false, not, cond, ◌&&◌, refl, sym, ap, ◌∙◌, true≢false, inl, inr}
+use Rattle.std.specs.List.{list_all, slice_split, onto_first}
 use Rattle.std.proofs.lemmas.Bool.Decides.{eqb_tells}
-use Rattle.avro_nodes.specs.Names.{is_dot, has_dot}
+use Rattle.avro_nodes.specs.Names.{is_dot}
 use Rattle.avro_schema.specs.Names.{is_name_start, is_name_part, is_simple, is_name_sequence}
 
 -- the remaining bytes of simple names separated by dots; `true` if a simple name begins here

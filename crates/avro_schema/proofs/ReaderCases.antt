@@ -18,6 +18,8 @@ use Rattle.avro_schema.specs.Inside.ValueReaders.{Part, PartReader, TypeReader, 
 use Rattle.avro_schema.specs.Inside.KindNumbers.{branch_number}
 use Rattle.avro_schema.specs.Inside.Types.{name_at, reference_to, member_name, container_node, container_at, branch_of, union_at, field_at, field_of, record_at, by_type_kind, object_at, form_at, type_at}
 use Rattle.avro_schema.specs.Inside.ReaderResults.{AddsPart}
+use Rattle.avro_schema.specs.Inside.Foreign.{unless_foreign}
+use Rattle.avro_schema.proofs.ForeignLemmas.{never, no_fields_begin, rejects}
 use Rattle.avro_schema.proofs.Sequence.{settled}
 
 abbrev pub made : {A : Type 0} → A → List NodeView → Known → Option (Part A)
@@ -194,9 +196,12 @@ module _ (types : TypeReader) (space : List ℕ) (ms : Members) (known : Known) 
     no_named none = rw (room, none) refl
 
     module _ (named : NamedView) (e : named_in space ms known ≡ Some named) where
-      pub no_fields : array_in (codes "fields") (without_all name_keys ms) ≡ None → record_at types space ms known first ≡ None
+      pub no_fields : unless_foreign (array_in (codes "fields") (without_all name_keys ms)) ≡ None → record_at types space ms known first ≡ None
       unfolding record_at
-      no_fields none = rw (room, e, none) refl
+      no_fields none =
+          let others = bounded (without_all (codes "fields" ∷ []) (without_all name_keys ms)) in
+          let begins = no_fields_begin (types (namespace_of named.name)) in
+          rw (room, e) (rejects _ (λ ds h. rw (begins ds (defined known named.name place) (first + 1) h) (never others)) (array_in (codes "fields") (without_all name_keys ms)) none)
 
       module _ (ds : Items) (f : array_in (codes "fields") (without_all name_keys ms) ≡ Some ds) where
         pub record_unbound : bounded (without_all (codes "fields" ∷ []) (without_all name_keys ms)) ≡ None → record_at types space ms known first ≡ None

@@ -7,6 +7,7 @@ ghost use Rattle.avro_schema.specs.Inside.Declarations.{rule_by};
 ghost use Rattle.avro_schema.specs.Attributes.{without, text_in, array_in, text_if_any, texts_in, texts_if_any, size_of};
 ghost use Rattle.avro_schema.specs.Inside.Reserved.{is_reserved_name};
 ghost use Rattle.avro_schema.specs.Inside.Borrowed.{value_data, items_data, members_data};
+ghost use Rattle.avro_schema.specs.Inside.Foreign.{unless_foreign};
 ghost use Rattle.avro_schema.specs.Inside.ReaderResults.{Gives};
 
 use crate::borrowed::{Attributes, Json, items_of, take, text_of, unsigned_of};
@@ -29,12 +30,12 @@ pub fn take_text<'a>(attributes: &mut Attributes<'a>, key: &str) -> Option<&'a s
     }
 }
 
-/// Removes an attribute, and returns its value if it is an array.
+/// Removes an attribute, and returns its items if it is an array whose first item isn't foreign.
 #[tactic(auto, unfolding(crate::specs::Attributes::array_in))]
 pub fn take_items<'a>(attributes: &mut Attributes<'a>, key: &str) -> Option<Vec<Json<'a>>>
     requires { IsTrue (is_reserved_name key.now) }
     ensures items { option_map (λ v. items_data v.items) result
-        ≡ array_in key.now (members_data attributes.old) }
+        ≡ unless_foreign (array_in key.now (members_data attributes.old)) }
     ensures rest { members_data attributes.new
         ≡ without key.now (members_data attributes.old) }
 {
@@ -126,7 +127,8 @@ pub fn names_of(
 ///
 /// # Errors
 ///
-/// `BadShape` if the attribute isn't an array, and the errors of `names_of`.
+/// `BadShape` if the attribute isn't an array or its first item is foreign, and the errors of
+/// `names_of`.
 pub fn names_if_any(
     alloc: Global,
     attribute: Option<Json<'_>>,

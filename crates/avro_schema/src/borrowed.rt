@@ -8,7 +8,10 @@ ghost use Rattle.serde_json.specs.Find.{get_member, as_str, as_array, as_object,
 ghost use Rattle.avro_schema.specs.Attributes.{without};
 ghost use Rattle.avro_schema.specs.Inside.Reserved.{is_reserved, is_reserved_name};
 ghost use Rattle.avro_schema.specs.Inside.Borrowed.{value_data, items_data, members_data};
+ghost use Rattle.avro_schema.specs.Inside.Foreign.{unless_foreign};
 
+use crate::foreign::begins_foreign;
+use crate::foreign_array::ForeignArray;
 use crate::others::OtherMembers;
 use serde_json::Number;
 use std::alloc::{AllocError, Global};
@@ -21,6 +24,7 @@ pub enum Json<'a> {
     Number(Number),
     Text(&'a str),
     Array(Vec<Json<'a>>),
+    Foreign(ForeignArray),
     Object(Object<(&'a str, Json<'a>)>),
 }
 
@@ -57,27 +61,53 @@ pub fn text_of<'a>(value: &Json<'a>) -> Option<&'a str>
 {
     match value {
         Json::Text(text) => Some(text),
-        Json::Null | Json::Bool(_) | Json::Number(_) | Json::Array(_) | Json::Object(_) => None,
+        Json::Null
+        | Json::Bool(_)
+        | Json::Number(_)
+        | Json::Array(_)
+        | Json::Foreign(_)
+        | Json::Object(_) => None,
     }
 }
 
-/// The items of an array, or `None` for another kind of value.
+/// The items of an array. `None` for another kind of value, or if the first item is foreign.
 pub fn items_of(value: Json<'_>) -> Option<Vec<Json<'_>>>
-    ensures { option_map (λ v. items_data v.items) result ≡ as_array (value_data value.entry) }
+    ensures { option_map (λ v. items_data v.items) result
+        ≡ unless_foreign (as_array (value_data value.entry)) }
 {
     match value {
-        Json::Array(items) => Some(items),
-        Json::Null | Json::Bool(_) | Json::Number(_) | Json::Text(_) | Json::Object(_) => None,
+        Json::Array(items) => if begins_foreign(&items) {
+            None
+        } else {
+            Some(items)
+        },
+        Json::Null
+        | Json::Bool(_)
+        | Json::Number(_)
+        | Json::Text(_)
+        | Json::Foreign(_)
+        | Json::Object(_) => None,
     }
 }
 
-/// The items of a borrowed array, or `None` for another kind of value.
+/// The items of a borrowed array. `None` for another kind of value, or if the first item is
+/// foreign.
 pub fn array_of<'t, 'a>(value: &'t Json<'a>) -> Option<&'t Vec<Json<'a>>>
-    ensures { option_map (λ v. items_data v.now.items) result ≡ as_array (value_data value.now) }
+    ensures { option_map (λ v. items_data v.now.items) result
+        ≡ unless_foreign (as_array (value_data value.now)) }
 {
     match value {
-        Json::Array(items) => Some(items),
-        Json::Null | Json::Bool(_) | Json::Number(_) | Json::Text(_) | Json::Object(_) => None,
+        Json::Array(items) => if begins_foreign(items) {
+            None
+        } else {
+            Some(items)
+        },
+        Json::Null
+        | Json::Bool(_)
+        | Json::Number(_)
+        | Json::Text(_)
+        | Json::Foreign(_)
+        | Json::Object(_) => None,
     }
 }
 
@@ -87,7 +117,12 @@ pub fn object_of<'t, 'a>(value: &'t Json<'a>) -> Option<&'t Attributes<'a>>
 {
     match value {
         Json::Object(members) => Some(members),
-        Json::Null | Json::Bool(_) | Json::Number(_) | Json::Text(_) | Json::Array(_) => None,
+        Json::Null
+        | Json::Bool(_)
+        | Json::Number(_)
+        | Json::Text(_)
+        | Json::Array(_)
+        | Json::Foreign(_) => None,
     }
 }
 
@@ -97,7 +132,12 @@ pub fn members_of(value: Json<'_>) -> Option<Attributes<'_>>
 {
     match value {
         Json::Object(members) => Some(members),
-        Json::Null | Json::Bool(_) | Json::Number(_) | Json::Text(_) | Json::Array(_) => None,
+        Json::Null
+        | Json::Bool(_)
+        | Json::Number(_)
+        | Json::Text(_)
+        | Json::Array(_)
+        | Json::Foreign(_) => None,
     }
 }
 
@@ -107,7 +147,12 @@ pub fn unsigned_of(value: &Json<'_>) -> Option<u64>
 {
     match value {
         Json::Number(number) => number.as_u64(),
-        Json::Null | Json::Bool(_) | Json::Text(_) | Json::Array(_) | Json::Object(_) => None,
+        Json::Null
+        | Json::Bool(_)
+        | Json::Text(_)
+        | Json::Array(_)
+        | Json::Foreign(_)
+        | Json::Object(_) => None,
     }
 }
 

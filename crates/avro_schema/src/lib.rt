@@ -10,6 +10,8 @@ mod definitions;
 mod distinct;
 mod error;
 mod field_attributes;
+mod foreign;
+mod foreign_array;
 mod index;
 mod indexing;
 mod keywords;

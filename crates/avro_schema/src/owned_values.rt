@@ -1,6 +1,6 @@
 //! Reads JSON values as `serde_json` values, which own their strings.
 
-ghost use Rattle.std.specs.Prelude.{◌≡◌, ◌==◌, ◌<◌, true, false, Some, None, Err, IfOk, OnOk, length, option_map, slice_index};
+ghost use Rattle.std.specs.Prelude.{◌≡◌, ◌==◌, ◌<◌, ◌≤◌, ℕ, true, false, Some, None, Err, IfOk, OnOk, length, option_map, slice_index};
 ghost use Rattle.json.specs.Json.{value, items, members};
 ghost use Rattle.serde_json.specs.Data.{no_members};
 ghost use Rattle.serde_json.specs.Read.{number_of, number_from, float_of, of_json, of_items, of_members, converted};
@@ -109,19 +109,24 @@ pub fn owned_value_at(
     }
 }
 
+/// Reads the items of an array, up to its end.
+///
+/// # Errors
+///
+/// `Invalid` if the reader isn't at the start of such items, and `OutOfMemory` if allocation fails.
 #[cycle(keep)]
 #[inline(never)]
-fn owned_items_at(
+pub fn owned_items_at(
     alloc: Global,
     reader: &mut Reader<'_>,
     depth: usize,
 ) -> Result<Vec<Value>, JsonError>
-    ensures ok { IfOk result
-        (λ v. converted of_items (items (value depth) (length reader.old) reader.old)
+    ensures ok { IfOk result (λ v. (n : ℕ) → length reader.old ≤ n
+        → converted of_items (items (value depth) n reader.old)
         ≡ Some (items_view v.items, reader.new)) }
     ensures shorter { OnOk result (length reader.new < length reader.old) }
-    ensures invalid { result ≡ Err JsonError.Invalid
-        → converted of_items (items (value depth) (length reader.old) reader.old) ≡ None }
+    ensures invalid { result ≡ Err JsonError.Invalid → (n : ℕ) → length reader.old ≤ n
+        → converted of_items (items (value depth) n reader.old) ≡ None }
 {
     let mut found = Vec::new(alloc);
     'items: while !reader.take_end_array() {

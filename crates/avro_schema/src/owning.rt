@@ -28,6 +28,7 @@ pub fn owned(alloc: Global, value: Json<'_>) -> Result<Value, AllocError>
         Json::Number(number) => Ok(Value::Number(number)),
         Json::Text(text) => Ok(Value::String(String::from_str(alloc, text)?)),
         Json::Array(items) => Ok(Value::Array(owned_items(alloc, items)?)),
+        Json::Foreign(array) => Ok(Value::Array(array.into_items())),
         Json::Object(attributes) => Ok(Value::Object(owned_members(alloc, attributes)?)),
     }
 }

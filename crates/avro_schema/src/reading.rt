@@ -61,6 +61,7 @@ pub fn type_at(
     match value {
         Json::Text(name) => name_at(alloc, name, space, nodes, known),
         Json::Array(items) => union_at(alloc, items, space, depth - 1, nodes, known),
+        Json::Foreign(_) => Err(SchemaError::BadUnion),
         Json::Object(attributes) => object_at(alloc, attributes, space, depth - 1, nodes, known),
         Json::Null => Err(SchemaError::BadShape),
         Json::Bool(_) => Err(SchemaError::BadShape),

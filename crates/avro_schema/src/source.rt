@@ -1,15 +1,18 @@
 //! Reads a schema text as JSON that borrows from it.
 
-ghost use Rattle.std.specs.Prelude.{◌≡◌, ◌<◌, Some, None, Err, IfOk, OnOk, length};
-ghost use Rattle.json.specs.Json.{value, items, members};
-ghost use Rattle.serde_json.specs.Data.{Data, no_members, put};
+ghost use Rattle.std.specs.Prelude.{◌≡◌, ◌<◌, ◌≤◌, ℕ, true, Some, None, Err, IfOk, OnOk, length};
+ghost use Rattle.json.specs.Json.{value, items, members, parse_map};
+ghost use Rattle.serde_json.specs.Data.{Data, array, item, no_members, put};
 ghost use Rattle.serde_json.specs.Read.{of_json, of_items, of_members, converted};
-ghost use Rattle.avro_schema.specs.Inside.Borrowed.{value_data, items_data, members_data};
+ghost use Rattle.avro_schema.specs.Inside.Borrowed.{value_data, members_data};
+ghost use Rattle.avro_schema.specs.Inside.Foreign.{is_foreign};
 
 use crate::borrowed::{Attributes, Json, is_reserved, make_room, no_attributes, put_reserved};
 use crate::error::JsonError;
-use crate::owned_values::{number_of, owned_value_at};
-use crate::owning::put_other;
+use crate::foreign::is_foreign;
+use crate::foreign_array::ForeignArray;
+use crate::owned_values::{number_of, owned_items_at, owned_value_at};
+use crate::owning::{owned, put_other};
 use json::{Reader, Token};
 use std::alloc::Global;
 
@@ -46,7 +49,7 @@ pub fn value_at<'a>(
             if depth == 0 {
                 return Err(JsonError::Invalid);
             }
-            Ok(Json::Array(items_at(alloc, reader, depth - 1)?))
+            Ok(array_at(alloc, reader, depth - 1)?)
         }
         Token::BeginObject => {
             if depth == 0 {
@@ -57,16 +60,35 @@ pub fn value_at<'a>(
     }
 }
 
-#[cycle(source)]
+/// Reads the rest of an array whose first item is foreign.
 #[inline(never)]
-fn items_at<'a>(
+fn foreign_array<'a>(
     alloc: Global,
+    first: Json<'_>,
     reader: &mut Reader<'a>,
     depth: usize,
-) -> Result<Vec<Json<'a>>, JsonError>
+) -> Result<Json<'a>, JsonError>
+    requires { is_foreign (value_data first) ≡ true }
+    ensures ok { IfOk result (λ v. (n : ℕ) → length reader.old ≤ n
+        → parse_map array (parse_map (item (value_data first.entry)) (converted of_items (items (value depth) n reader.old)))
+        ≡ Some (value_data v, reader.new)) }
+    ensures shorter { OnOk result (length reader.new < length reader.old) }
+    ensures invalid { result ≡ Err JsonError.Invalid → (n : ℕ) → length reader.old ≤ n
+        → converted of_items (items (value depth) n reader.old) ≡ None }
+{
+    let first = owned(alloc, first)?;
+    let mut items = owned_items_at(alloc, reader, depth)?;
+    items.insert(0, first)?;
+    Ok(Json::Foreign(ForeignArray::new(items)))
+}
+
+/// Reads the rest of an array. If its first item is foreign, nothing is borrowed from the text.
+#[cycle(source)]
+#[inline(never)]
+fn array_at<'a>(alloc: Global, reader: &mut Reader<'a>, depth: usize) -> Result<Json<'a>, JsonError>
     ensures ok { IfOk result
-        (λ v. converted of_items (items (value depth) (length reader.old) reader.old)
-        ≡ Some (items_data v.items, reader.new)) }
+        (λ v. parse_map array (converted of_items (items (value depth) (length reader.old) reader.old))
+        ≡ Some (value_data v, reader.new)) }
     ensures shorter { OnOk result (length reader.new < length reader.old) }
     ensures invalid { result ≡ Err JsonError.Invalid
         → converted of_items (items (value depth) (length reader.old) reader.old) ≡ None }
@@ -74,10 +96,13 @@ fn items_at<'a>(
     let mut found = Vec::new(alloc);
     'items: while !reader.take_end_array() {
         let item = value_at(alloc, reader, depth)?;
+        if found.is_empty() && is_foreign(&item) {
+            return foreign_array(alloc, item, reader, depth);
+        }
         make_room(&mut found)?;
         found.push(item)?;
     }
-    Ok(found)
+    Ok(Json::Array(found))
 }
 
 /// Reads the value of a member, and adds it to the attributes.

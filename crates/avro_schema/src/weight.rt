@@ -7,9 +7,11 @@ ghost use Rattle.avro_nodes.specs.Limits.{max_nesting, max_text};
 ghost use Rattle.avro_schema.specs.Attributes.{text_in, array_in};
 ghost use Rattle.avro_schema.specs.Inside.Reserved.{is_reserved_name};
 ghost use Rattle.avro_schema.specs.Inside.Borrowed.{value_data, items_data, members_data};
+ghost use Rattle.avro_schema.specs.Inside.Foreign.{unless_foreign};
 ghost use Rattle.avro_schema.specs.Inside.Weight.{map_or_zero, items_weight, full_name_in, alias_weight, namespace_in, names_weight, enum_or_fixed_weight, field_weight, record_weight, object_weight, weight};
 
 use crate::borrowed::{Attributes, Json, array_of, find, object_of, text_of};
+use crate::foreign::begins_foreign;
 use crate::keywords::{TypeKind, type_kind_of};
 use avro_nodes::{MAX_NESTING, MAX_TEXT, has_dot, namespace_of};
 
@@ -25,12 +27,12 @@ fn text_at<'a>(members: &'a Attributes<'_>, key: &str) -> Option<&'a str>
     }
 }
 
-/// The attribute with this name, if it is an array.
+/// The items of the attribute with this name, if it is an array whose first item isn't foreign.
 #[tactic(auto, unfolding(crate::specs::Attributes::array_in))]
 fn items_at<'t, 'a>(members: &'t Attributes<'a>, key: &str) -> Option<&'t Vec<Json<'a>>>
     requires { IsTrue (is_reserved_name key.now) }
     ensures { option_map (λ v. items_data v.now.items) result
-        ≡ array_in key.now (members_data members.now) }
+        ≡ unless_foreign (array_in key.now (members_data members.now)) }
 {
     match find(members, key) {
         Some(value) => array_of(value),
@@ -128,9 +130,13 @@ fn after_type(budget: usize, value: &Json<'_>, space: &str, depth: u32) -> usize
         return budget;
     }
     match value {
-        Json::Array(items) => after_branches(budget, items, space, depth - 1),
+        Json::Array(items) => if begins_foreign(items) {
+            budget
+        } else {
+            after_branches(budget, items, space, depth - 1)
+        },
         Json::Object(members) => after_object(budget, members, space, depth - 1),
-        Json::Null | Json::Bool(_) | Json::Number(_) | Json::Text(_) => budget,
+        Json::Null | Json::Bool(_) | Json::Number(_) | Json::Text(_) | Json::Foreign(_) => budget,
     }
 }
 

@@ -2,7 +2,7 @@
 use Rattle.std.specs.Prelude.{ℕ, List, [], ◌∷◌, map, cond}
 use Rattle.std.specs.Borrow.{Bor}
 use Rattle.serde_json.specs.Data.{Data, null, boolean, number, string, array, object, Items, no_items, item, Members, put}
-use Rattle.serde_json.specs.View.{number_view, members_view}
+use Rattle.serde_json.specs.View.{number_view, items_view, members_view}
 use Rattle.avro_schema.specs.Inside.Reserved.{is_reserved}
 use Rattle.avro_schema.specs.declared.borrowed.Json.{Json, fold-Json}
 use Rattle.avro_schema.specs.declared.borrowed.Json.TheOpen.{Json-F}
@@ -24,6 +24,7 @@ data_step (Json-F.Bool b) = boolean b
 data_step (Json-F.Number n) = number (number_view n)
 data_step (Json-F.Text s) = string s.now
 data_step (Json-F.Array v) = array (listed v.items)
+data_step (Json-F.Foreign a) = array (items_view a.items.items)
 data_step (Json-F.Object o) = object (put_all o.reserved.items (members_view o.others.members.entries))
 
 abbrev pub value_data : Json → Data

@@ -34,7 +34,7 @@ pub owned_value_at-returns-in_err-owned_items_at-in-BeginArray-clause-invalid : 
 owned_value_at-returns-in_err-owned_items_at-in-BeginArray-clause-invalid t c refused =
     let first : c.args.reader.now ≡ token_of c.in_ok-token.token ∷ c.next.new.self = grind arith in
     let opened = ap (converted of_json) (ap (value c.args.depth) (first ∙ ap (λ k. token_of k ∷ c.next.new.self) c.in-BeginArray.is) ∙ value-begin_array c.args.depth c.next.new.self (omega arith)) ∙ converted-array (items (value (c.args.depth - 1)) (length c.next.new.self) c.next.new.self) in
-    opened ∙ ap (parse_map array) (c.owned_items_at.ensures.invalid (grind arith))
+    opened ∙ ap (parse_map array) (c.owned_items_at.ensures.invalid (grind arith) (length c.next.new.self) (omega arith))
 
 pub owned_value_at-returns-in_err-owned_members_at-in-BeginObject-clause-invalid : goal.owned_value_at-returns-in_err-owned_members_at-in-BeginObject-clause-invalid
 owned_value_at-returns-in_err-owned_members_at-in-BeginObject-clause-invalid t c refused =
@@ -87,7 +87,7 @@ owned_value_at-returns-in_ok-owned_items_at-in-BeginArray-clause-ok t c =
     let first : c.args.reader.now ≡ token_of c.in_ok-token.token ∷ c.next.new.self = grind arith in
     let opened = ap (converted of_json) (ap (value c.args.depth) (first ∙ ap (λ k. token_of k ∷ c.next.new.self) c.in-BeginArray.is) ∙ value-begin_array c.args.depth c.next.new.self (omega arith)) ∙ converted-array (items (value (c.args.depth - 1)) (length c.next.new.self) c.next.new.self) in
     let found = c.in_ok-owned_items_at-in-BeginArray in
-    opened ∙ ap (parse_map array) found.ensures.ok ∙ ap (λ d. Some (d, c.owned_items_at.new.reader)) (sym (view-Array found.field-0))
+    opened ∙ ap (parse_map array) (found.ensures.ok (length c.next.new.self) (omega arith)) ∙ ap (λ d. Some (d, c.owned_items_at.new.reader)) (sym (view-Array found.field-0))
 
 pub owned_value_at-returns-in_ok-owned_members_at-in-BeginObject-clause-ok : goal.owned_value_at-returns-in_ok-owned_members_at-in-BeginObject-clause-ok
 owned_value_at-returns-in_ok-owned_members_at-in-BeginObject-clause-ok t c =
@@ -97,43 +97,49 @@ owned_value_at-returns-in_ok-owned_members_at-in-BeginObject-clause-ok t c =
     opened ∙ ap (parse_map object) found.ensures.ok ∙ ap (λ d. Some (d, c.owned_members_at.new.reader)) (sym (view-Object found.field-0))
 
 pub owned_items_at-items-init : goal.owned_items_at-items-init
-owned_items_at-items-init t c =
-    let all = converted of_items (items (value c.args.depth) (length c.args.reader.now) c.args.reader.now) in
-    (length c.args.reader.now, omega arith, none_before all ∙ ap (λ vs. parse_map (items_before vs) all) (sym c.new-found.ensures.items), omega arith)
+owned_items_at-items-init t c = (
+  λ m enough.
+      let all = converted of_items (items (value c.args.depth) m c.args.reader.now) in
+      (m, enough, none_before all ∙ ap (λ vs. parse_map (items_before vs) all) (sym c.new-found.ensures.items)),
+  omega arith,
+)
 
 pub owned_items_at-returns-in_err-item-clause-invalid : goal.owned_items_at-returns-in_err-item-clause-invalid
-owned_items_at-returns-in_err-item-clause-invalid t c refused =
+owned_items_at-returns-in_err-item-clause-invalid t c refused m enough =
     let p = value c.args.depth in
     let l = c.items in
-    let n = l.invariant.0 in
+    let was = l.invariant.0 m enough in
     let going : (after_end_array l.reader ≡ None) × (c.take_end_array.new.self ≡ l.reader) = grind arith in
-    l.invariant.2 ∙ ap (parse_map (items_before l.found.items)) (item_refused p n l.reader going.0 (rw (← going.1) (c.owned_value_at.ensures.invalid (grind arith))))
+    was.2 ∙ ap (parse_map (items_before l.found.items)) (item_refused p was.0 l.reader going.0 (rw (← going.1) (c.owned_value_at.ensures.invalid (grind arith))))
 
 pub owned_items_at-items-preserved : goal.owned_items_at-items-preserved
 owned_items_at-items-preserved t c =
     let p = value c.args.depth in
     let l = c.items in
-    let n = l.invariant.0 in
     let going : (after_end_array l.reader ≡ None) × (c.take_end_array.new.self ≡ l.reader) = grind arith in
     let done = c.in_ok-item.ensures in
     let v = c.in_ok-item.item in
     let r = c.owned_value_at.new.reader in
-    let less : length r < length l.reader = rw (← going.1) done.shorter in
-    let turn = item_read p n l.reader r (view v) (omega (arith, l.invariant.1)) going.0 (rw (← going.1) done.ok) in (
-      n - 1,
+    let less : length r < length l.reader = rw (← going.1) done.shorter in (
+      λ m enough.
+          let was = l.invariant.0 m enough in
+          let n = was.0 in
+          let turn = item_read p n l.reader r (view v) (omega (arith, was.1)) going.0 (rw (← going.1) done.ok) in (
+            n - 1,
+            omega (arith, was.1),
+            was.2 ∙ ap (parse_map (items_before l.found.items)) turn ∙ one_more_item l.found.items v _
+                ∙ ap (λ vs. parse_map (items_before vs) (converted of_items (items p (n - 1) r))) (sym c.in_ok-push.ensures.items),
+          ),
       omega (arith, l.invariant.1),
-      l.invariant.2 ∙ ap (parse_map (items_before l.found.items)) turn ∙ one_more_item l.found.items v _
-          ∙ ap (λ vs. parse_map (items_before vs) (converted of_items (items p (n - 1) r))) (sym c.in_ok-push.ensures.items),
-      omega (arith, l.invariant.3),
     )
 
 pub owned_items_at-returns-clause-ok : goal.owned_items_at-returns-clause-ok
-owned_items_at-returns-clause-ok t c =
+owned_items_at-returns-clause-ok t c m enough =
     let p = value c.args.depth in
     let l = c.items in
-    let n = l.invariant.0 in
+    let was = l.invariant.0 m enough in
     let r = c.take_end_array.new.self in
-    l.invariant.2 ∙ ap (parse_map (items_before l.found.items)) (items_over p n l.reader r l.invariant.1 (grind arith)) ∙ ap (λ ds. Some (ds, r)) (items_before-no_items l.found.items)
+    was.2 ∙ ap (parse_map (items_before l.found.items)) (items_over p was.0 l.reader r was.1 (grind arith)) ∙ ap (λ ds. Some (ds, r)) (items_before-no_items l.found.items)
 
 pub owned_members_at-members-init : goal.owned_members_at-members-init
 owned_members_at-members-init t c =

@@ -17,8 +17,8 @@ decreases-owned_members_at l = 2 * l.depth + 1
 
 abbrev pub invariant-owned_items_at-items : goal.invariant-owned_items_at-items
 invariant-owned_items_at-items l =
-    (n : ℕ) × (length l.reader ≤ n)
-    × (converted of_items (items (value l.depth) (length l.initial.reader) l.initial.reader) ≡ parse_map (items_before l.found.items) (converted of_items (items (value l.depth) n l.reader)))
+    ((m : ℕ) → length l.initial.reader ≤ m → (n : ℕ) × (length l.reader ≤ n)
+    × (converted of_items (items (value l.depth) m l.initial.reader) ≡ parse_map (items_before l.found.items) (converted of_items (items (value l.depth) n l.reader))))
     × (length l.reader ≤ length l.initial.reader)
 
 abbrev pub decreases-owned_items_at-items : goal.decreases-owned_items_at-items

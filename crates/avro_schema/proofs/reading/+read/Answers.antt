@@ -1,9 +1,9 @@
 use Rattle.std.proofs.Common.{◌≡◌, length, map, option_map, string_bytes, bytes_eq, sym, ap, ◌∙◌, arith, rules}
 use Rattle.std.proofs.lemmas.List.{map_push}
 use Rattle.serde_json.specs.Data.{null, boolean, number, string, array, object}
-use Rattle.serde_json.specs.View.{number_view}
+use Rattle.serde_json.specs.View.{number_view, items_view}
 use Rattle.avro_schema.specs.Inside.Borrowed.{value_data, items_data, members_data}
-use Rattle.avro_schema.proofs.BorrowedLemmas.{of_Null, of_Bool, of_Text, of_Array, of_Object, of_Number}
+use Rattle.avro_schema.proofs.BorrowedLemmas.{of_Null, of_Bool, of_Text, of_Array, of_Foreign, of_Object, of_Number}
 use Rattle.avro_nodes.specs.Nodes.{field_view}
 use Rattle.avro_nodes.specs.Names.{namespace_of}
 use Rattle.avro_schema.specs.Inside.KindNumbers.{branch_number}
@@ -11,6 +11,7 @@ use Rattle.avro_schema.specs.Inside.Distinct.{all_distinct}
 use Rattle.avro_schema.proofs.AttributeLemmas.{nothing_left}
 use Rattle.avro_schema.proofs.BorrowedMembers.{key_reserved}
 use Rattle.avro_schema.proofs.DistinctLemmas.{field_names}
+use Rattle.avro_schema.proofs.ForeignLemmas.{all_of_it, no_union}
 use Rattle.avro_schema.proofs.ReaderErrors.{fails_from, reads_exit, same_reads}
 use Rattle.avro_schema.proofs.NameTableLemmas.{all_kept, keeps_same, keeps_then, still_numbered}
 use Rattle.avro_schema.proofs.Sequence.{at_start, one_more, nodes_push, length-nodes, new_nodes, still_there, goes_on, fails_at, is_over}
@@ -40,6 +41,11 @@ type_at-returns-in-Object-clause-read t c =
     let seen : object (members_data c.in-Object.attributes) ≡ value_data c.args.value = rw c.in-Object.is (sym (of_Object c.in-Object.attributes)) in
     same_reads _ _ _ _ _ _ _ (type_object _ _ _ _ _ (omega arith) _ seen) c.object_at.ensures.read
 
+pub type_at-returns-in-Foreign-clause-read : goal.type_at-returns-in-Foreign-clause-read
+type_at-returns-in-Foreign-clause-read t c =
+    let seen : array (items_view c.in-Foreign.field-0.items.items) ≡ value_data c.args.value = rw c.in-Foreign.is (sym (of_Foreign c.in-Foreign.field-0)) in
+    type_array _ _ _ _ _ (omega arith) _ seen ∙ no_union _ _ _ _ _ c.in-Foreign.field-0.foreign
+
 pub type_at-returns-in-Null-clause-read : goal.type_at-returns-in-Null-clause-read
 type_at-returns-in-Null-clause-read t c =
     let seen : null ≡ value_data c.args.value = rw c.in-Null.is (sym of_Null) in
@@ -50,8 +56,8 @@ type_at-returns-in-Bool-clause-read t c =
     let seen : boolean c.in-Bool.field-0 ≡ value_data c.args.value = rw c.in-Bool.is (sym (of_Bool c.in-Bool.field-0)) in
     type_boolean _ _ _ _ _ (omega arith) _ seen
 
-pub type_at-returns-in-Number-clause-read : goal.type_at-returns-in-Number-clause-read
-type_at-returns-in-Number-clause-read t c =
+pub type_at-returns-clause-read : goal.type_at-returns-clause-read
+type_at-returns-clause-read t c =
     let seen : number (number_view c.in-Number.field-0) ≡ value_data c.args.value = rw c.in-Number.is (sym (of_Number c.in-Number.field-0)) in
     type_number _ _ _ _ _ (omega arith) _ seen
 
@@ -302,14 +308,14 @@ record_at-returns-in_default-clause-read t c =
 
 pub record_at-returns-in_err-extra-clause-read : goal.record_at-returns-in_err-extra-clause-read
 record_at-returns-in_err-extra-clause-read t c =
-    let listed = rw c.in_ok-named.ensures.rest at (sym c.in-Some.ensures.items) in
+    let listed = all_of_it _ _ (rw c.in_ok-named.ensures.rest at (sym c.in-Some.ensures.items)) in
     let rest = rw c.in_ok-named.ensures.rest at c.in-Some.ensures.rest in
     reads_exit _ _ _ _ _ _ _ c.from_residual-in_err-extra.ensures.1
     (fails_from _ _ _ (record_unbound _ _ _ _ _ _ c.in_ok-place.ensures.room _ c.in_ok-named.ensures.named _ listed) (rw rest at c.in_err-extra.ensures))
 
 pub record_at-returns-in_err-fields-clause-read : goal.record_at-returns-in_err-fields-clause-read
 record_at-returns-in_err-fields-clause-read t c =
-    let listed = rw c.in_ok-named.ensures.rest at (sym c.in-Some.ensures.items) in
+    let listed = all_of_it _ _ (rw c.in_ok-named.ensures.rest at (sym c.in-Some.ensures.items)) in
     let rest = rw c.in_ok-named.ensures.rest at c.in-Some.ensures.rest in
     let next = one_more _ _ _ c.in_ok-push.ensures.items in
     let inside : c.namespace_of.result.now ≡ namespace_of (string_bytes c.in_ok-named.named.name) = c.namespace_of.ensures ∙ ap namespace_of c.as_str-2.ensures.value in
@@ -319,7 +325,7 @@ record_at-returns-in_err-fields-clause-read t c =
 
 pub record_at-returns-then-not-branch-clause-read : goal.record_at-returns-then-not-branch-clause-read
 record_at-returns-then-not-branch-clause-read t c =
-    let listed = rw c.in_ok-named.ensures.rest at (sym c.in-Some.ensures.items) in
+    let listed = all_of_it _ _ (rw c.in_ok-named.ensures.rest at (sym c.in-Some.ensures.items)) in
     let rest = rw c.in_ok-named.ensures.rest at c.in-Some.ensures.rest in
     let next = one_more _ _ _ c.in_ok-push.ensures.items in
     let inside : c.namespace_of.result.now ≡ namespace_of (string_bytes c.in_ok-named.named.name) = c.namespace_of.ensures ∙ ap namespace_of c.as_str-2.ensures.value in
@@ -334,7 +340,7 @@ record_at-fill_blank-requires t c =
 
 pub record_at-returns-clause-read : goal.record_at-returns-clause-read
 record_at-returns-clause-read t c =
-    let listed = rw c.in_ok-named.ensures.rest at (sym c.in-Some.ensures.items) in
+    let listed = all_of_it _ _ (rw c.in_ok-named.ensures.rest at (sym c.in-Some.ensures.items)) in
     let rest = rw c.in_ok-named.ensures.rest at c.in-Some.ensures.rest in
     let next = one_more _ _ _ c.in_ok-push.ensures.items in
     let inside : c.namespace_of.result.now ≡ namespace_of (string_bytes c.in_ok-named.named.name) = c.namespace_of.ensures ∙ ap namespace_of c.as_str-2.ensures.value in

@@ -1,9 +1,11 @@
-use Rattle.std.proofs.Common.{◌≡◌, ◌-◌, ◌<◌, [], ◌∷◌, ◌++◌, length, Some, None, sym, ap, ap₂, ◌∙◌, arith}
+use Rattle.std.proofs.Common.{◌≡◌, ◌-◌, ◌<◌, true, [], ◌∷◌, ◌++◌, length, Some, None, Result, Ok, Err, sym, ap, ap₂, ◌∙◌, arith, rules, tests}
+use Rattle.std.specs.Prelude.{IfOk, ◌==◌}
+use Rattle.avro_schema.proofs.AttributeLemmas.{nothing_left}
 use Rattle.json.specs.Token.{Token}
 use Rattle.json.specs.Json.{parse_map, after_end_array, read_key, items, members, value}
 use Rattle.json.specs.Reads.{token_of}
 use Rattle.json.proofs.Grammar.{value_is, value-begin_array, value-begin_object, read_key-shorter}
-use Rattle.serde_json.specs.Data.{array, object}
+use Rattle.serde_json.specs.Data.{array, object, item}
 use Rattle.serde_json.specs.Read.{of_json, of_items, of_members, converted}
 use Rattle.avro_schema.specs.Inside.Borrowed.{value_data, members_data}
 use Rattle.avro_schema.proofs.BorrowedLemmas.{of_Null, of_Bool, of_Number, of_Text, of_Array, of_Object, items_before, items_before-no_items, one_more_item}
@@ -30,11 +32,11 @@ value_at-returns-then-depth-eq0-2-clause-invalid t c never =
     let none : c.args.depth ≡ 0 = omega arith in
     ap (converted of_json) (ap₂ value none (first ∙ ap (λ k. token_of k ∷ c.next.new.self) c.in-BeginObject.is))
 
-pub value_at-returns-in_err-items_at-in-BeginArray-clause-invalid : goal.value_at-returns-in_err-items_at-in-BeginArray-clause-invalid
-value_at-returns-in_err-items_at-in-BeginArray-clause-invalid t c refused =
+pub value_at-returns-in_err-array_at-in-BeginArray-clause-invalid : goal.value_at-returns-in_err-array_at-in-BeginArray-clause-invalid
+value_at-returns-in_err-array_at-in-BeginArray-clause-invalid t c refused =
     let first : c.args.reader.now ≡ token_of c.in_ok-token.token ∷ c.next.new.self = grind arith in
     let opened = ap (converted of_json) (ap (value c.args.depth) (first ∙ ap (λ k. token_of k ∷ c.next.new.self) c.in-BeginArray.is) ∙ value-begin_array c.args.depth c.next.new.self (omega arith)) ∙ converted-array (items (value (c.args.depth - 1)) (length c.next.new.self) c.next.new.self) in
-    opened ∙ ap (parse_map array) (c.items_at.ensures.invalid (grind arith))
+    opened ∙ ap (parse_map array) (c.array_at.ensures.invalid (grind arith))
 
 pub value_at-returns-in_err-members_at-in-BeginObject-clause-invalid : goal.value_at-returns-in_err-members_at-in-BeginObject-clause-invalid
 value_at-returns-in_err-members_at-in-BeginObject-clause-invalid t c refused =
@@ -82,12 +84,12 @@ value_at-returns-in-EndObject-clause-invalid t c refused =
     let none : value c.args.depth c.args.reader.now ≡ None = rw (value_is c.args.depth c.args.reader.now, first) (grind arith) in
     ap (converted of_json) none
 
-pub value_at-returns-in_ok-items_at-in-BeginArray-clause-ok : goal.value_at-returns-in_ok-items_at-in-BeginArray-clause-ok
-value_at-returns-in_ok-items_at-in-BeginArray-clause-ok t c =
+pub value_at-returns-in_ok-array_at-in-BeginArray-clause-ok : goal.value_at-returns-in_ok-array_at-in-BeginArray-clause-ok
+value_at-returns-in_ok-array_at-in-BeginArray-clause-ok t c =
     let first : c.args.reader.now ≡ token_of c.in_ok-token.token ∷ c.next.new.self = grind arith in
     let opened = ap (converted of_json) (ap (value c.args.depth) (first ∙ ap (λ k. token_of k ∷ c.next.new.self) c.in-BeginArray.is) ∙ value-begin_array c.args.depth c.next.new.self (omega arith)) ∙ converted-array (items (value (c.args.depth - 1)) (length c.next.new.self) c.next.new.self) in
-    let found = c.in_ok-items_at-in-BeginArray in
-    opened ∙ ap (parse_map array) found.ensures.ok ∙ ap (λ d. Some (d, c.items_at.new.reader)) (sym (of_Array found.field-0))
+    let found = c.in_ok-array_at-in-BeginArray in
+    opened ∙ found.ensures.ok
 
 pub value_at-returns-in_ok-members_at-in-BeginObject-clause-ok : goal.value_at-returns-in_ok-members_at-in-BeginObject-clause-ok
 value_at-returns-in_ok-members_at-in-BeginObject-clause-ok t c =
@@ -96,21 +98,21 @@ value_at-returns-in_ok-members_at-in-BeginObject-clause-ok t c =
     let found = c.in_ok-members_at-in-BeginObject in
     opened ∙ ap (parse_map object) found.ensures.ok ∙ ap (λ d. Some (d, c.members_at.new.reader)) (sym (of_Object found.field-0))
 
-pub items_at-items-init : goal.items_at-items-init
-items_at-items-init t c =
+pub array_at-items-init : goal.array_at-items-init
+array_at-items-init t c =
     let all = converted of_items (items (value c.args.depth) (length c.args.reader.now) c.args.reader.now) in
     (length c.args.reader.now, omega arith, none_before all ∙ ap (λ vs. parse_map (items_before vs) all) (sym c.new-found.ensures.items), omega arith)
 
-pub items_at-returns-in_err-item-clause-invalid : goal.items_at-returns-in_err-item-clause-invalid
-items_at-returns-in_err-item-clause-invalid t c refused =
+pub array_at-returns-in_err-item-clause-invalid : goal.array_at-returns-in_err-item-clause-invalid
+array_at-returns-in_err-item-clause-invalid t c refused =
     let p = value c.args.depth in
     let l = c.items in
     let n = l.invariant.0 in
     let going : (after_end_array l.reader ≡ None) × (c.take_end_array.new.self ≡ l.reader) = grind arith in
     l.invariant.2 ∙ ap (parse_map (items_before l.found.items)) (item_refused p n l.reader going.0 (rw (← going.1) (c.value_at.ensures.invalid (grind arith))))
 
-pub items_at-items-preserved : goal.items_at-items-preserved
-items_at-items-preserved t c =
+pub array_at-items-preserved : goal.array_at-items-preserved
+array_at-items-preserved t c =
     let p = value c.args.depth in
     let l = c.items in
     let n = l.invariant.0 in
@@ -127,13 +129,50 @@ items_at-items-preserved t c =
       omega (arith, l.invariant.3),
     )
 
-pub items_at-returns-clause-ok : goal.items_at-returns-clause-ok
-items_at-returns-clause-ok t c =
+if_ok : {T E : Type 0} {P Q : T → Type 0} (r : Result T E) → IfOk r P → ((x : T) → P x → Q x) → IfOk r Q
+if_ok (Ok x) h f = f x h
+if_ok (Err e) h f = tt
+
+pub array_at-returns-then-is_foreign-clause-ok : goal.array_at-returns-then-is_foreign-clause-ok
+array_at-returns-then-is_foreign-clause-ok t c =
+    let p = value c.args.depth in
+    let l = c.items in
+    let n = l.invariant.0 in
+    let going : (after_end_array l.reader ≡ None) × (c.take_end_array.new.self ≡ l.reader) = grind arith in
+    let done = c.in_ok-item.ensures in
+    let v = c.in_ok-item.item in
+    let r = c.value_at.new.reader in
+    let less : length r < length l.reader = rw (← going.1) done.shorter in
+    let turn = item_read p n l.reader r (value_data v) (omega (arith, l.invariant.1)) going.0 (rw (← going.1) done.ok) in
+    let nothing : (l.found.len == 0) ≡ true = sym c.is_empty.ensures ∙ c.if-is_empty.true in
+    let unread : l.found.len ≡ 0 = search (rules, tests) in
+    let first : l.found.items ≡ [] = nothing_left l.found.items (sym unread ∙ l.found.ok.0) in
+    let rest = parse_map (item (value_data v)) (converted of_items (items p (n - 1) r)) in
+    let all = l.invariant.2 ∙ ap (parse_map (items_before l.found.items)) turn ∙ ap (λ vs. parse_map (items_before vs) rest) first ∙ sym (none_before rest) in
+    if_ok c.foreign_array.result c.foreign_array.ensures.ok (λ x h. ap (parse_map array) all ∙ h (n - 1) (omega (arith, l.invariant.1)))
+
+pub array_at-returns-then-is_foreign-clause-invalid : goal.array_at-returns-then-is_foreign-clause-invalid
+array_at-returns-then-is_foreign-clause-invalid t c refused =
+    let p = value c.args.depth in
+    let l = c.items in
+    let n = l.invariant.0 in
+    let going : (after_end_array l.reader ≡ None) × (c.take_end_array.new.self ≡ l.reader) = grind arith in
+    let done = c.in_ok-item.ensures in
+    let v = c.in_ok-item.item in
+    let r = c.value_at.new.reader in
+    let less : length r < length l.reader = rw (← going.1) done.shorter in
+    let turn = item_read p n l.reader r (value_data v) (omega (arith, l.invariant.1)) going.0 (rw (← going.1) done.ok) in
+    let none = c.foreign_array.ensures.invalid refused (n - 1) (omega (arith, l.invariant.1)) in
+    l.invariant.2 ∙ ap (parse_map (items_before l.found.items)) (turn ∙ ap (parse_map (item (value_data v))) none)
+
+pub array_at-returns-clause-ok : goal.array_at-returns-clause-ok
+array_at-returns-clause-ok t c =
     let p = value c.args.depth in
     let l = c.items in
     let n = l.invariant.0 in
     let r = c.take_end_array.new.self in
-    l.invariant.2 ∙ ap (parse_map (items_before l.found.items)) (items_over p n l.reader r l.invariant.1 (grind arith)) ∙ ap (λ ds. Some (ds, r)) (items_before-no_items l.found.items)
+    let over = l.invariant.2 ∙ ap (parse_map (items_before l.found.items)) (items_over p n l.reader r l.invariant.1 (grind arith)) ∙ ap (λ ds. Some (ds, r)) (items_before-no_items l.found.items) in
+    ap (parse_map array) over ∙ ap (λ d. Some (d, r)) (sym (of_Array l.found))
 
 pub members_at-members-init : goal.members_at-members-init
 members_at-members-init t c =

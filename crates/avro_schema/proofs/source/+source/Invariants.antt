@@ -12,20 +12,20 @@ decreases-value_at l = 3 * l.depth
 abbrev pub decreases-member_at : goal.decreases-member_at
 decreases-member_at l = 3 * l.depth + 1
 
-abbrev pub decreases-items_at : goal.decreases-items_at
-decreases-items_at l = 3 * l.depth + 2
+abbrev pub decreases-array_at : goal.decreases-array_at
+decreases-array_at l = 3 * l.depth + 2
 
 abbrev pub decreases-members_at : goal.decreases-members_at
 decreases-members_at l = 3 * l.depth + 2
 
-abbrev pub invariant-items_at-items : goal.invariant-items_at-items
-invariant-items_at-items l =
+abbrev pub invariant-array_at-items : goal.invariant-array_at-items
+invariant-array_at-items l =
     (n : ℕ) × (length l.reader ≤ n)
     × (converted of_items (items (value l.depth) (length l.initial.reader) l.initial.reader) ≡ parse_map (items_before l.found.items) (converted of_items (items (value l.depth) n l.reader)))
     × (length l.reader ≤ length l.initial.reader)
 
-abbrev pub decreases-items_at-items : goal.decreases-items_at-items
-decreases-items_at-items l = length l.reader
+abbrev pub decreases-array_at-items : goal.decreases-array_at-items
+decreases-array_at-items l = length l.reader
 
 abbrev pub invariant-members_at-members : goal.invariant-members_at-members
 invariant-members_at-members l =
