@@ -5,3 +5,4 @@ pub mod Identity
 pub mod Inside
 pub mod Plain
 pub mod Whole
+pub mod Respelling

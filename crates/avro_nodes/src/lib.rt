@@ -10,6 +10,7 @@ mod limits;
 mod names;
 mod node;
 mod plain;
+mod respelling;
 mod value;
 
 pub use error::OutOfMemory;
@@ -17,4 +18,5 @@ pub use identity::identity_of;
 pub use limits::{MAX_NESTING, MAX_PLACES, MAX_TEXT};
 pub use names::{has_dot, last_part, namespace_of};
 pub use node::{Field, Members, Named, Node, Order, PrimitiveKind};
-pub use plain::plain_of;
+pub use plain::{plain_of, respelling_of};
+pub use respelling::Respelling;

@@ -8,8 +8,10 @@ ghost use Rattle.std.specs.List.{prefix_len, list_all};
 ghost use Rattle.std.specs.Str.{IsCharBoundary};
 ghost use Rattle.std.specs.Str.Parse.{digits_value};
 ghost use Rattle.avro_nodes.specs.Plain.{Inside, Outside, is_number_char as is_number_char_of, pieces, joined, before, is_whole, whole_part, are_digits as are_digits_of, are_zeros as are_zeros_of, respelt_whole, begins_number as begins_number_of, piece_text, run as run_of, plain};
+ghost use Rattle.avro_nodes.specs.Respelling.{respelt_text};
 
 use crate::error::OutOfMemory;
+use crate::respelling::Respelling;
 use memchr::memchr2;
 use std::alloc::Global;
 
@@ -229,6 +231,35 @@ fn unchanged_len(text: &str) -> usize
     at
 }
 
+/// Rewrites each number of a text in plain decimal digits, by the rule of `plain_of`. Copies only a
+/// text that changes.
+///
+/// # Errors
+///
+/// `OutOfMemory` if an allocation for the text fails.
+pub fn respelling_of(alloc: Global, text: &str) -> Result<Respelling, OutOfMemory>
+    ensures { IfOk result (λ r. respelt_text text.now r ≡ plain text.now) }
+{
+    let bytes = text.as_bytes();
+    let mut at = unchanged_len(text);
+    if at == bytes.len() {
+        return Ok(Respelling::Unchanged);
+    }
+    let mut out = String::with_capacity(alloc, text.len())?;
+    out.push_str(&text[..at])?;
+    while at < bytes.len() {
+        let start = run_start(bytes, at);
+        let end = run_end(bytes, start);
+        let Some(number) = respell_run(&text[start..end]) else {
+            return Ok(Respelling::Invalid);
+        };
+        out.push_str(&text[at..start])?;
+        out.push_str(number)?;
+        at = end;
+    }
+    Ok(Respelling::Changed(out))
+}
+
 /// Returns the text with each number rewritten in plain decimal digits, or `None` if a number isn't
 /// an integer from -2^63 to 2^64 - 1 (this project's choice). A number is a maximal run of the
 /// characters `0` to `9`, `+`, `-`, `.`, `e`, `E` outside the strings that begins with a digit or
@@ -241,19 +272,9 @@ fn unchanged_len(text: &str) -> usize
 pub fn plain_of(alloc: Global, text: &str) -> Result<Option<String>, OutOfMemory>
     ensures { IfOk result (λ o. option_map string_bytes o ≡ plain text.now) }
 {
-    let bytes = text.as_bytes();
-    let mut out = String::with_capacity(alloc, text.len())?;
-    let mut at = unchanged_len(text);
-    out.push_str(&text[..at])?;
-    while at < bytes.len() {
-        let start = run_start(bytes, at);
-        let end = run_end(bytes, start);
-        let Some(number) = respell_run(&text[start..end]) else {
-            return Ok(None);
-        };
-        out.push_str(&text[at..start])?;
-        out.push_str(number)?;
-        at = end;
+    match respelling_of(alloc, text)? {
+        Respelling::Unchanged => Ok(Some(String::from_str(alloc, text)?)),
+        Respelling::Changed(respelt) => Ok(Some(respelt)),
+        Respelling::Invalid => Ok(None),
     }
-    Ok(Some(out))
 }

@@ -22,7 +22,7 @@ use crate::name_table::{NameTable, Namespace};
 use crate::reading::type_at;
 use crate::source::value_at;
 use crate::weight::names_fit;
-use avro_nodes::{MAX_NESTING, MAX_TEXT, Node, OutOfMemory, identity_of, plain_of};
+use avro_nodes::{MAX_NESTING, MAX_TEXT, Node, OutOfMemory, identity_of, respelling_of};
 use json::{Reader, Scratch};
 use std::alloc::Global;
 use std::marker::Model;
@@ -59,7 +59,7 @@ impl Model for Schema {
         × IsIndex (nodes_view s.nodes.items) s.index };
 }
 
-/// The JSON value of a text whose numbers `plain_of` has rewritten.
+/// The JSON value of a text whose numbers are rewritten.
 fn value_of<'a>(
     alloc: Global,
     respelt: &'a str,
@@ -102,11 +102,12 @@ fn nodes_of(alloc: Global, text: &str) -> Result<Vec<Node>, SchemaError>
     if text.len() > MAX_TEXT {
         return Err(SchemaError::TooLarge);
     }
-    let Some(respelt) = plain_of(alloc, text)? else {
+    let respelling = respelling_of(alloc, text)?;
+    let Some(respelt) = respelling.text(text) else {
         return Err(SchemaError::BadNumber);
     };
     let mut scratch = Scratch::new(alloc);
-    let value = value_of(alloc, respelt.as_str(), &mut scratch)?;
+    let value = value_of(alloc, respelt, &mut scratch)?;
     nodes_of_value(alloc, value)
 }
 

@@ -1,8 +1,8 @@
-use Rattle.std.proofs.Common.{◌∙◌, ℕ, List, Some, string_bytes, sym, ap}
-use Rattle.std.proofs.lemmas.List.{append-nil}
+use Rattle.std.proofs.Common.{◌≡◌, ◌∙◌, ℕ, List, length, take, Some, string_bytes, sym, ap, arith}
+use Rattle.std.proofs.lemmas.List.{append-nil, take_all}
 use Rattle.avro_nodes.specs.Plain.{Outside, before, plain}
 use Rattle.avro_nodes.proofs.Runs.{front_range, nothing_left, turn_done, turn_fails, run_cut}
-use Rattle.avro_nodes.proofs.plain.plain_of.Goals as goal
+use Rattle.avro_nodes.proofs.plain.respelling_of.Goals as goal
 
 pub loop-at-init : goal.loop-at-init
 loop-at-init c = record {
@@ -15,6 +15,15 @@ pub range-requires-in-loop-at-clause-end_boundary : goal.range-requires-in-loop-
 range-requires-in-loop-at-clause-end_boundary c =
     let same = c.as_bytes-bytes.ensures.value in
     run_cut c.args.text.now c.run_start-start.result c.run_end-end.result c.utf8.text (rw same at c.run_start-start.ensures.bounds.1) (rw same at c.run_start-start.ensures.found) (rw same at c.run_end-end.ensures)
+
+pub returns-then-at-bytes : goal.returns-then-at-bytes
+returns-then-at-bytes c =
+    let text = c.args.text.now in
+    let at = c.unchanged_len-at.result in
+    let same : c.as_bytes-bytes.result.now ≡ text = c.as_bytes-bytes.ensures.value in
+    let whole : at ≡ length text = rw same at c.if-at-bytes.true in
+    let over = nothing_left Outside text at (omega (arith, whole)) in
+    ap (λ (s : List ℕ). Some s) (sym (take_all at text (omega (arith, whole))) ∙ sym (append-nil (take at text))) ∙ ap (before (take at text)) (sym over) ∙ c.unchanged_len-at.ensures.kept
 
 pub returns-in_default : goal.returns-in_default
 returns-in_default c =

@@ -1,7 +1,7 @@
 use Rattle.std.proofs.Common.{◌≡◌, ◌-◌, ◌≤◌, drop, length, string_bytes}
 use Rattle.std.specs.Str.{IsCharBoundary}
 use Rattle.avro_nodes.specs.Plain.{Outside, before, joined, pieces, plain}
-use Rattle.avro_nodes.proofs.plain.plain_of.Given as goal
+use Rattle.avro_nodes.proofs.plain.respelling_of.Given as goal
 
 abbrev pub invariant-loop-at : goal.invariant-loop-at
 invariant-loop-at l =
