@@ -193,7 +193,7 @@ digits_respelt n h =
     let bare : is_minus (slice_index ds 0) ≡ false = ne_eqb (get_or ds 0 0) 45 (λ e. omega (arith, e, first_is n h)) in
     whole_alone ds (no_point ds (all_digits n h)) ∙ rw (bare, digits_are n h, value_is n h, lt-ltb n (2 ^ 64) h) refl
 
--- a number of at most 19 digits stays as it is
+-- a number of at most 19 digits without a leading zero stays as it is
 pub short_number_stays : (s : List ℕ) → are_digits s ≡ true → length s < 20 → piece_text (run s) ≡ Some s
 short_number_stays s e short =
     let small : digits_value 10 s < 2 ^ 64 = omega (arith, digits_value_short own s 19 (digits_of_digits s e) (omega arith)) in

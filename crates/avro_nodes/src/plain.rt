@@ -197,7 +197,8 @@ fn respell_run(run: &str) -> Option<&str>
     }
 }
 
-/// Whether a run stays as it is. Most numbers have at most 19 digits, so they are below 2^64.
+/// Whether a run stays as it is. Digits aren't parsed if there are at most 19 of them, since their
+/// value is below 2^64.
 fn is_unchanged(run: &str) -> bool
     ensures { IsTrue result → piece_text (run_of run.now) ≡ Some run.now }
 {
@@ -231,8 +232,8 @@ fn unchanged_len(text: &str) -> usize
     at
 }
 
-/// Rewrites each number of a text in plain decimal digits, by the rule of `plain_of`. Copies only a
-/// text that changes.
+/// Rewrites each number of a text in plain decimal digits, by the rule of `plain_of`. A text that
+/// stays as it is isn't copied.
 ///
 /// # Errors
 ///

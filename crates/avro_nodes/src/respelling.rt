@@ -8,19 +8,19 @@ ghost use Rattle.avro_nodes.specs.Respelling.{respelt_text};
 pub enum Respelling {
     /// Each number is written in plain decimal digits already.
     Unchanged,
-    /// the text with its numbers rewritten
+    /// The text with its numbers rewritten.
     Changed(String),
-    /// A number isn't an integer from -2^63 to 2^64 - 1.
+    /// A number breaks the rule of `plain_of`.
     Invalid,
 }
 
 impl Respelling {
-    /// The rewritten text, where `text` is the original one. `None` if a number is invalid.
-    pub fn text<'a>(&'a self, text: &'a str) -> Option<&'a str>
-        ensures { option_map (λ s. s.now) result ≡ respelt_text text.now self.now }
+    /// The rewritten text of `original`, or `None` if a number is invalid.
+    pub fn text<'a>(&'a self, original: &'a str) -> Option<&'a str>
+        ensures { option_map (λ s. s.now) result ≡ respelt_text original.now self.now }
     {
         match self {
-            Respelling::Unchanged => Some(text),
+            Respelling::Unchanged => Some(original),
             Respelling::Changed(respelt) => Some(respelt.as_str()),
             Respelling::Invalid => None,
         }

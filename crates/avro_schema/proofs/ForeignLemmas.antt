@@ -31,9 +31,9 @@ meant_at : (b : Bool) (ds es : Items) → cond b None (Some ds) ≡ Some es → 
 meant_at true ds es e = absurd cc
 meant_at false ds es e = same_Some _ _ e
 
-pub all_of_it : (o : Option Items) (ds : Items) → unless_foreign o ≡ Some ds → o ≡ Some ds
-all_of_it None ds e = absurd cc
-all_of_it (Some es) ds e = ap (λ (x : Items). Some x) (meant_at (begins_foreign es) es ds e)
+pub items_unless_foreign : (o : Option Items) (ds : Items) → unless_foreign o ≡ Some ds → o ≡ Some ds
+items_unless_foreign None ds e = absurd cc
+items_unless_foreign (Some es) ds e = ap (λ (x : Items). Some x) (meant_at (begins_foreign es) es ds e)
 
 foreign_at : (b : Bool) (ds : Items) → cond b None (Some ds) ≡ None → b ≡ true
 foreign_at true ds e = refl

@@ -1,4 +1,5 @@
-//! The JSON value of a schema text. Reserved members borrow from the text; other members are owned.
+//! The JSON value of a schema text. Reserved members borrow from the text, except foreign arrays;
+//! other members are owned.
 
 ghost use Rattle.std.specs.Prelude.{◌≡◌, ◌<◌, None, Some, IsTrue, MatchOption, length, option_map, option_and_then, slice_get, OnOk, not, filter};
 ghost use Rattle.std.specs.List.{list_any};
@@ -16,7 +17,7 @@ use crate::others::OtherMembers;
 use serde_json::Number;
 use std::alloc::{AllocError, Global};
 
-/// A JSON value whose strings borrow from the text.
+/// A JSON value whose strings borrow from the text, except those in a foreign array.
 #[derive(Drop)]
 pub enum Json<'a> {
     Null,
@@ -39,7 +40,7 @@ pub struct Object<M> {
 /// The attributes of a declaration.
 pub type Attributes<'a> = Object<(&'a str, Json<'a>)>;
 
-/// Whether an attribute with this name is borrowed: it has a meaning in some declaration. `default`
+/// Whether this name is reserved: an attribute with it has a meaning in some declaration. `default`
 /// has a meaning, too, but is owned like the attributes without one.
 #[tactic(auto, unfolding(crate::specs::Inside::Reserved::is_reserved))]
 pub fn is_reserved(key: &str) -> bool
@@ -90,7 +91,7 @@ pub fn items_of(value: Json<'_>) -> Option<Vec<Json<'_>>>
     }
 }
 
-/// The items of a borrowed array. `None` for another kind of value, or if the first item is
+/// A reference to the items of an array. `None` for another kind of value, or if the first item is
 /// foreign.
 pub fn array_of<'t, 'a>(value: &'t Json<'a>) -> Option<&'t Vec<Json<'a>>>
     ensures { option_map (λ v. items_data v.now.items) result

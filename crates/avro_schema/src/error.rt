@@ -31,8 +31,8 @@ pub enum SchemaError {
     /// size out of range, an unknown order, and an enum's default that isn't one of its symbols.
     #[error("an attribute is missing or of the wrong type")]
     BadShape,
-    /// A branch of a union is a union, or two branches have the same kind.
-    #[error("a union holds a union, or two types of one kind")]
+    /// A union's first branch isn't a type, a branch is a union, or two branches have the same kind.
+    #[error("a union has a branch that is not allowed, or two of one kind")]
     BadUnion,
     /// A default doesn't fit its field's type.
     #[error("a default does not fit its field")]

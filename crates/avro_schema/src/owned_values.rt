@@ -109,7 +109,7 @@ pub fn owned_value_at(
     }
 }
 
-/// Reads the items of an array, up to its end.
+/// Reads the remaining items of an array. Each nests at most `depth` levels deep.
 ///
 /// # Errors
 ///

@@ -60,9 +60,9 @@ pub fn value_at<'a>(
     }
 }
 
-/// Reads the rest of an array whose first item is foreign.
+/// Reads the rest of an array after its first item `first`, which is foreign.
 #[inline(never)]
-fn foreign_array<'a>(
+fn foreign_array_at<'a>(
     alloc: Global,
     first: Json<'_>,
     reader: &mut Reader<'a>,
@@ -82,7 +82,8 @@ fn foreign_array<'a>(
     Ok(Json::Foreign(ForeignArray::new(items)))
 }
 
-/// Reads the rest of an array. If its first item is foreign, nothing is borrowed from the text.
+/// Reads the rest of an array. If its first item is foreign, the result borrows nothing from the
+/// text.
 #[cycle(source)]
 #[inline(never)]
 fn array_at<'a>(alloc: Global, reader: &mut Reader<'a>, depth: usize) -> Result<Json<'a>, JsonError>
@@ -97,7 +98,7 @@ fn array_at<'a>(alloc: Global, reader: &mut Reader<'a>, depth: usize) -> Result<
     'items: while !reader.take_end_array() {
         let item = value_at(alloc, reader, depth)?;
         if found.is_empty() && is_foreign(&item) {
-            return foreign_array(alloc, item, reader, depth);
+            return foreign_array_at(alloc, item, reader, depth);
         }
         make_room(&mut found)?;
         found.push(item)?;

@@ -1,5 +1,5 @@
--- Arrays that have no meaning in any declaration. Which ones are recognized is this project's choice: the reader then copies the array at
--- once, and borrows nothing from the text.
+-- Items that no array with a meaning has. If an array begins with one, the reader reads all its items as `serde_json` values (this
+-- project's choice).
 use Rattle.std.specs.Prelude.{Bool, true, false, not, if◌then◌else◌, Option, Some, None, is_some, option_and_then, codes}
 use Rattle.serde_json.specs.Data.{Data, null, boolean, number, string, array, object, Items, no_items, item}
 use Rattle.serde_json.specs.Find.{get_member}

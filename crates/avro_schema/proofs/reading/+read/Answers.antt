@@ -11,7 +11,7 @@ use Rattle.avro_schema.specs.Inside.Distinct.{all_distinct}
 use Rattle.avro_schema.proofs.AttributeLemmas.{nothing_left}
 use Rattle.avro_schema.proofs.BorrowedMembers.{key_reserved}
 use Rattle.avro_schema.proofs.DistinctLemmas.{field_names}
-use Rattle.avro_schema.proofs.ForeignLemmas.{all_of_it, no_union}
+use Rattle.avro_schema.proofs.ForeignLemmas.{items_unless_foreign, no_union}
 use Rattle.avro_schema.proofs.ReaderErrors.{fails_from, reads_exit, same_reads}
 use Rattle.avro_schema.proofs.NameTableLemmas.{all_kept, keeps_same, keeps_then, still_numbered}
 use Rattle.avro_schema.proofs.Sequence.{at_start, one_more, nodes_push, length-nodes, new_nodes, still_there, goes_on, fails_at, is_over}
@@ -308,14 +308,14 @@ record_at-returns-in_default-clause-read t c =
 
 pub record_at-returns-in_err-extra-clause-read : goal.record_at-returns-in_err-extra-clause-read
 record_at-returns-in_err-extra-clause-read t c =
-    let listed = all_of_it _ _ (rw c.in_ok-named.ensures.rest at (sym c.in-Some.ensures.items)) in
+    let listed = items_unless_foreign _ _ (rw c.in_ok-named.ensures.rest at (sym c.in-Some.ensures.items)) in
     let rest = rw c.in_ok-named.ensures.rest at c.in-Some.ensures.rest in
     reads_exit _ _ _ _ _ _ _ c.from_residual-in_err-extra.ensures.1
     (fails_from _ _ _ (record_unbound _ _ _ _ _ _ c.in_ok-place.ensures.room _ c.in_ok-named.ensures.named _ listed) (rw rest at c.in_err-extra.ensures))
 
 pub record_at-returns-in_err-fields-clause-read : goal.record_at-returns-in_err-fields-clause-read
 record_at-returns-in_err-fields-clause-read t c =
-    let listed = all_of_it _ _ (rw c.in_ok-named.ensures.rest at (sym c.in-Some.ensures.items)) in
+    let listed = items_unless_foreign _ _ (rw c.in_ok-named.ensures.rest at (sym c.in-Some.ensures.items)) in
     let rest = rw c.in_ok-named.ensures.rest at c.in-Some.ensures.rest in
     let next = one_more _ _ _ c.in_ok-push.ensures.items in
     let inside : c.namespace_of.result.now ≡ namespace_of (string_bytes c.in_ok-named.named.name) = c.namespace_of.ensures ∙ ap namespace_of c.as_str-2.ensures.value in
@@ -325,7 +325,7 @@ record_at-returns-in_err-fields-clause-read t c =
 
 pub record_at-returns-then-not-branch-clause-read : goal.record_at-returns-then-not-branch-clause-read
 record_at-returns-then-not-branch-clause-read t c =
-    let listed = all_of_it _ _ (rw c.in_ok-named.ensures.rest at (sym c.in-Some.ensures.items)) in
+    let listed = items_unless_foreign _ _ (rw c.in_ok-named.ensures.rest at (sym c.in-Some.ensures.items)) in
     let rest = rw c.in_ok-named.ensures.rest at c.in-Some.ensures.rest in
     let next = one_more _ _ _ c.in_ok-push.ensures.items in
     let inside : c.namespace_of.result.now ≡ namespace_of (string_bytes c.in_ok-named.named.name) = c.namespace_of.ensures ∙ ap namespace_of c.as_str-2.ensures.value in
@@ -340,7 +340,7 @@ record_at-fill_blank-requires t c =
 
 pub record_at-returns-clause-read : goal.record_at-returns-clause-read
 record_at-returns-clause-read t c =
-    let listed = all_of_it _ _ (rw c.in_ok-named.ensures.rest at (sym c.in-Some.ensures.items)) in
+    let listed = items_unless_foreign _ _ (rw c.in_ok-named.ensures.rest at (sym c.in-Some.ensures.items)) in
     let rest = rw c.in_ok-named.ensures.rest at c.in-Some.ensures.rest in
     let next = one_more _ _ _ c.in_ok-push.ensures.items in
     let inside : c.namespace_of.result.now ≡ namespace_of (string_bytes c.in_ok-named.named.name) = c.namespace_of.ensures ∙ ap namespace_of c.as_str-2.ensures.value in

@@ -149,7 +149,7 @@ array_at-returns-then-is_foreign-clause-ok t c =
     let first : l.found.items ≡ [] = nothing_left l.found.items (sym unread ∙ l.found.ok.0) in
     let rest = parse_map (item (value_data v)) (converted of_items (items p (n - 1) r)) in
     let all = l.invariant.2 ∙ ap (parse_map (items_before l.found.items)) turn ∙ ap (λ vs. parse_map (items_before vs) rest) first ∙ sym (none_before rest) in
-    if_ok c.foreign_array.result c.foreign_array.ensures.ok (λ x h. ap (parse_map array) all ∙ h (n - 1) (omega (arith, l.invariant.1)))
+    if_ok c.foreign_array_at.result c.foreign_array_at.ensures.ok (λ x h. ap (parse_map array) all ∙ h (n - 1) (omega (arith, l.invariant.1)))
 
 pub array_at-returns-then-is_foreign-clause-invalid : goal.array_at-returns-then-is_foreign-clause-invalid
 array_at-returns-then-is_foreign-clause-invalid t c refused =
@@ -162,7 +162,7 @@ array_at-returns-then-is_foreign-clause-invalid t c refused =
     let r = c.value_at.new.reader in
     let less : length r < length l.reader = rw (← going.1) done.shorter in
     let turn = item_read p n l.reader r (value_data v) (omega (arith, l.invariant.1)) going.0 (rw (← going.1) done.ok) in
-    let none = c.foreign_array.ensures.invalid refused (n - 1) (omega (arith, l.invariant.1)) in
+    let none = c.foreign_array_at.ensures.invalid refused (n - 1) (omega (arith, l.invariant.1)) in
     l.invariant.2 ∙ ap (parse_map (items_before l.found.items)) (turn ∙ ap (parse_map (item (value_data v))) none)
 
 pub array_at-returns-clause-ok : goal.array_at-returns-clause-ok
