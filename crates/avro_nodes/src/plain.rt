@@ -18,7 +18,7 @@ use std::alloc::Global;
 fn is_number_char(c: u8) -> bool
     ensures { result ≡ is_number_char_of c }
 {
-    matches!(c, b'0'..=b'9' | b'+' | b'-' | b'.' | b'e' | b'E')
+    c.is_ascii_digit() || matches!(c, b'+' | b'-' | b'.' | b'e' | b'E')
 }
 
 /// The index after a backslash inside a string and the byte that it escapes.
