@@ -1,4 +1,4 @@
--- The members of a borrowed object by name: the last member of a name counts, and removing the name removes all of them.
+-- The members of an object of the tree by name: the last member of a name counts, and removing the name removes all of them.
 use Rattle.std.proofs.Common.{◌≡◌, ℕ, zero, suc, List, [], ◌∷◌, ◌++◌, map, Bool, true, false, not, cond, Option, Some, None, Bor, bytes_eq, ◌||◌, true≢false, refl, sym, ap, subst, ◌∙◌}
 use Rattle.std.specs.Prelude.{slice_get, IsTrue}
 use Rattle.std.specs.List.{remove, filter, list_any}

@@ -1,4 +1,4 @@
--- The borrowed value that is read from a text whose numbers are rewritten.
+-- The value that is read from a text whose numbers are rewritten.
 use Rattle.std.proofs.Common.{◌≡◌, ℕ, ◌≤◌, List, [], ◌∷◌, length, true, false, Option, Some, None, option_and_then, refl, sym, subst, true≢false}
 use Rattle.std.specs.Prelude.{nat_le, is_some, MatchOption}
 use Rattle.std.proofs.lemmas.Bool.{le-leb}

@@ -6,7 +6,6 @@ pub mod NestingLemmas
 pub mod ReaderErrors
 pub mod Conversions
 pub mod BorrowedLemmas
-pub mod ForeignLemmas
 pub mod Sequence
 pub mod ReaderCases
 pub mod KindLemmas

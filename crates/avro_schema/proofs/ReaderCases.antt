@@ -1,5 +1,5 @@
 -- The results of the definitions in each case of the reader.
-use Rattle.std.proofs.Common.{◌≡◌, ℕ, zero, suc, ◌+◌, ◌-◌, ◌<◌, List, [], ◌∷◌, ◌++◌, length, map, set, Bool, true, false, Option, Some, None, codes, bytes_eq, refl, ap, ◌∙◌, arith}
+use Rattle.std.proofs.Common.{◌≡◌, ℕ, zero, suc, ◌+◌, ◌-◌, ◌<◌, List, [], ◌∷◌, ◌++◌, length, map, set, Bool, true, false, Option, Some, None, codes, bytes_eq, refl, ap, ◌∙◌, arith, sym}
 use Rattle.std.specs.Prelude.{◌==◌}
 use Rattle.serde_json.specs.Data.{Data, string, Items, Members}
 use Rattle.serde_json.specs.Data as json
@@ -18,8 +18,6 @@ use Rattle.avro_schema.specs.Inside.ValueReaders.{Part, PartReader, TypeReader, 
 use Rattle.avro_schema.specs.Inside.KindNumbers.{branch_number}
 use Rattle.avro_schema.specs.Inside.Types.{name_at, reference_to, member_name, container_node, container_at, branch_of, union_at, field_at, field_of, record_at, by_type_kind, object_at, form_at, type_at}
 use Rattle.avro_schema.specs.Inside.ReaderResults.{AddsPart}
-use Rattle.avro_schema.specs.Inside.Foreign.{unless_foreign}
-use Rattle.avro_schema.proofs.ForeignLemmas.{never, no_fields_begin, rejects}
 use Rattle.avro_schema.proofs.Sequence.{settled}
 
 abbrev pub made : {A : Type 0} → A → List NodeView → Known → Option (Part A)
@@ -33,6 +31,9 @@ type_is zero space d known first h = absurd (omega arith)
 type_is (suc n) space d known first h = let e : n ≡ suc n - 1 = omega arith in ap (λ m. form_at (type_at m) space d known first) e
 
 module _ (n : ℕ) (space : List ℕ) (d : Data) (known : Known) (first : ℕ) (some : 0 < n) where
+  pub type_form : (e : Data) → e ≡ d → type_at n space d known first ≡ form_at (type_at (n - 1)) space e known first
+  type_form e is = type_is n space d known first some ∙ ap (λ x. form_at (type_at (n - 1)) space x known first) (sym is)
+
   pub type_string : (s : List ℕ) → string s ≡ d → type_at n space d known first ≡ name_at space s known first
   type_string s e = type_is n space d known first some ∙ rw (← e) refl
 
@@ -196,12 +197,9 @@ module _ (types : TypeReader) (space : List ℕ) (ms : Members) (known : Known) 
     no_named none = rw (room, none) refl
 
     module _ (named : NamedView) (e : named_in space ms known ≡ Some named) where
-      pub no_fields : unless_foreign (array_in (codes "fields") (without_all name_keys ms)) ≡ None → record_at types space ms known first ≡ None
+      pub no_fields : array_in (codes "fields") (without_all name_keys ms) ≡ None → record_at types space ms known first ≡ None
       unfolding record_at
-      no_fields none =
-          let others = bounded (without_all (codes "fields" ∷ []) (without_all name_keys ms)) in
-          let begins = no_fields_begin (types (namespace_of named.name)) in
-          rw (room, e) (rejects _ (λ ds h. rw (begins ds (defined known named.name place) (first + 1) h) (never others)) (array_in (codes "fields") (without_all name_keys ms)) none)
+      no_fields none = rw (room, e, none) refl
 
       module _ (ds : Items) (f : array_in (codes "fields") (without_all name_keys ms) ≡ Some ds) where
         pub record_unbound : bounded (without_all (codes "fields" ∷ []) (without_all name_keys ms)) ≡ None → record_at types space ms known first ≡ None

@@ -2,17 +2,15 @@
 use Rattle.std.proofs.Common.{◌≡◌, ℕ, List, ◌∷◌, length, Bool, true, false, cond, Option, Some, None, codes, refl, sym, ap, ◌∙◌, arith}
 use Rattle.std.specs.Prelude.{option_and_then, unwrap_or}
 use Rattle.std.proofs.lemmas.Option.{same_Some}
-use Rattle.serde_json.specs.Data.{Data, null, boolean, number, string, array, object, Items, no_items, item, Members}
+use Rattle.serde_json.specs.Data.{Data, Items, no_items, item, Members}
 use Rattle.serde_json.specs.Find.{get_member, as_str, as_array}
 use Rattle.avro_nodes.specs.Names.{has_dot, namespace_of}
 use Rattle.avro_nodes.specs.Nodes.{NamedView, FieldView, NodeView}
 use Rattle.avro_schema.specs.Names.{Known, is_name_sequence, is_namespace, qualified, name_in, full_name, alias_in}
 use Rattle.avro_schema.specs.Attributes.{text_in, array_in, text_of_any, text_if_any, texts_in, texts_if_any}
-use Rattle.avro_schema.specs.Kinds.{BranchKind, branch_kind}
+use Rattle.avro_schema.specs.Kinds.{BranchKind}
 use Rattle.avro_schema.specs.Denotes.{IsNamed, Denotes, a_primitive, a_reference, primitive_type, reference_type, array_type, map_type, fixed_type, enum_type, record_type, union_type, Branches, no_branch, branch, Fields, no_field, field}
 use Rattle.avro_schema.specs.Inside.Weight.{texts_size, named_size, names_size, map_or_zero, items_weight, full_name_in, alias_weight, namespace_in, names_weight, enum_or_fixed_weight, field_weight, record_weight, object_weight, weight}
-use Rattle.avro_schema.specs.Inside.Foreign.{is_foreign, begins_foreign, unless_foreign}
-use Rattle.avro_schema.proofs.ForeignLemmas.{has_type}
 use Rattle.avro_schema.proofs.Inversion.{bind_some, bind3, guard_some, map_some}
 use Rattle.avro_schema.proofs.FullNames.{joined_space}
 use Rattle.avro_schema.proofs.Sizes.{names_append}
@@ -78,24 +76,9 @@ texts_same space (item d ds) ts e =
     let here : alias_weight space d ≡ length p.1 = ap (map_or_zero (λ alias. length (full_name_in space alias))) p.3 ∙ ap length (alias_full space p.0 p.1 p.4) in
     omega (arith, here, texts_same space ds p.2 p.5, ap texts_size (same_Some _ _ p.6))
 
-text_not_foreign : (d : Data) (s : List ℕ) → as_str d ≡ Some s → is_foreign d ≡ false
-text_not_foreign null s e = absurd cc
-text_not_foreign (boolean b) s e = absurd cc
-text_not_foreign (number n) s e = absurd cc
-text_not_foreign (string t) s e = refl
-text_not_foreign (array ds) s e = absurd cc
-text_not_foreign (object ms) s e = absurd cc
-
-texts_not_foreign : (space : List ℕ) (ds : Items) (ts : List (List ℕ)) → texts_in (alias_in space) ds ≡ Some ts → begins_foreign ds ≡ false
-unfolding texts_in
-texts_not_foreign space no_items ts e = refl
-texts_not_foreign space (item d ds) ts e =
-    let p = bind3 (as_str d) (λ text. alias_in space text) (λ _ _. texts_in (alias_in space) ds) (λ _ name more. Some (name ∷ more)) ts e in
-    text_not_foreign d p.0 p.3
-
-aliases_same : (space : List ℕ) (o : Option Data) (ts : List (List ℕ)) → texts_if_any (alias_in space) o ≡ Some ts → map_or_zero (items_weight (alias_weight space)) (unless_foreign (option_and_then as_array o)) ≡ texts_size ts
+aliases_same : (space : List ℕ) (o : Option Data) (ts : List (List ℕ)) → texts_if_any (alias_in space) o ≡ Some ts → map_or_zero (items_weight (alias_weight space)) (option_and_then as_array o) ≡ texts_size ts
 aliases_same space None ts e = ap texts_size (same_Some _ _ e)
-aliases_same space (Some d) ts e = let p = bind_some (as_array d) (λ ds. texts_in (alias_in space) ds) ts e in rw (p.1, texts_not_foreign space p.0 ts p.2) (texts_same space p.0 ts p.2)
+aliases_same space (Some d) ts e = let p = bind_some (as_array d) (λ ds. texts_in (alias_in space) ds) ts e in ap (map_or_zero (items_weight (alias_weight space))) p.1 ∙ texts_same space p.0 ts p.2
 
 names_same : (space : List ℕ) (ms : Members) (known : Known) (named : NamedView) (n : IsNamed space ms known named) → names_weight (namespace_in space n.text ms) n.text ms ≡ named_size named
 unfolding names_weight array_in
@@ -104,27 +87,6 @@ names_same space ms known named n =
     rw p.0 (omega (arith, ap length p.1, aliases_same (namespace_of named.name) (get_member (codes "aliases") ms) named.aliases n.aliases))
 
 -- ---- types
-
-branch_not_foreign : {n : ℕ} {space : List ℕ} {d : Data} {known : Known} {first : ℕ} {known2 : Known} {place : ℕ} {kind : BranchKind} {nodes : List NodeView} → Denotes n space d known first place nodes known2 → branch_kind place nodes ≡ Some kind → is_foreign d ≡ false
-unfolding branch_kind
-branch_not_foreign (a_primitive e h) k = refl
-branch_not_foreign (a_reference e f) k = refl
-branch_not_foreign (primitive_type {ms = ms} s o h) k = has_type ms s.0 s.1
-branch_not_foreign (reference_type {name = name} {ms = ms} e w o f) k = has_type ms name e
-branch_not_foreign (array_type {ms = ms} s i o h inner) k = has_type ms s.0 s.1
-branch_not_foreign (map_type {ms = ms} s i o h inner) k = has_type ms s.0 s.1
-branch_not_foreign (fixed_type {ms = ms} s n z o h) k = has_type ms s.0 s.1
-branch_not_foreign (enum_type {ms = ms} s n e o h) k = has_type ms s.0 s.1
-branch_not_foreign (record_type {ms = ms} s n i o h fs d) k = has_type ms s.0 s.1
-branch_not_foreign (union_type h bs d) k = absurd cc
-
-branches_not_foreign : {n : ℕ} {space : List ℕ} {ds : Items} {known known2 : Known} {first : ℕ} {branches : List (ℕ × BranchKind)} {nodes : List NodeView} → Branches n space ds known first branches nodes known2 → begins_foreign ds ≡ false
-branches_not_foreign no_branch = refl
-branches_not_foreign (branch d k rest) = branch_not_foreign d k
-
-fields_not_foreign : {n : ℕ} {space : List ℕ} {ds : Items} {known known2 : Known} {first : ℕ} {fields : List FieldView} {nodes : List NodeView} → Fields n space ds known first fields nodes known2 → begins_foreign ds ≡ false
-fields_not_foreign no_field = refl
-fields_not_foreign (field i t d rest) = rw t refl
 
 mutual
   unfolding weight object_weight enum_or_fixed_weight record_weight
@@ -140,8 +102,8 @@ mutual
   weighs (enum_type {space = space} {ms = ms} {known = known} {named = named} s n e o h) = rw (s.1, s.2, n.text_is) (omega (arith, names_same space ms known named n))
   weighs (record_type {n = m} {space = space} {ms = ms} {items = items} {known = known} {named = named} s n i o h fs d) =
       let within = ap (λ (x : List ℕ). items_weight (field_weight (weight m x)) items) (placed space ms known named n).0 in
-      rw (s.1, s.2, n.text_is, i, fields_not_foreign fs) (omega (arith, names_same space ms known named n, within, fields_weigh fs))
-  weighs (union_type h bs d) = rw (branches_not_foreign bs) (omega (arith, branches_weigh bs))
+      rw (s.1, s.2, n.text_is, i) (omega (arith, names_same space ms known named n, within, fields_weigh fs))
+  weighs (union_type h bs d) = omega (arith, branches_weigh bs)
 
   branches_weigh : {n : ℕ} {space : List ℕ} {ds : Items} {known known2 : Known} {first : ℕ} {branches : List (ℕ × BranchKind)} {nodes : List NodeView} → Branches n space ds known first branches nodes known2
       → items_weight (weight n space) ds ≡ names_size nodes

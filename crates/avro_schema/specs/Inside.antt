@@ -13,4 +13,4 @@ pub mod Mentions
 pub mod NameTables
 pub mod ReaderResults
 pub mod NodeTexts
-pub mod Foreign
+pub mod References

@@ -1,71 +1,124 @@
-//! Removes the attributes of a declaration from its JSON object, one at a time.
+//! The values of a declaration's attributes.
 
-ghost use Rattle.std.specs.Prelude.{IsTrue, ◌≡◌, Some, None, option_map, option_and_then, string_bytes};
-ghost use Rattle.serde_json.specs.Find.{get_member};
+ghost use Rattle.std.specs.Prelude.{IsTrue, ◌≡◌, option_map, string_bytes};
+ghost use Rattle.serde_json.specs.Find.{as_str, as_array};
+ghost use Rattle.serde_json.specs.View.{items_view};
 ghost use Rattle.avro_nodes.specs.Nodes.{texts_view};
 ghost use Rattle.avro_schema.specs.Inside.Declarations.{rule_by};
 ghost use Rattle.avro_schema.specs.Attributes.{without, text_in, array_in, text_if_any, texts_in, texts_if_any, size_of};
 ghost use Rattle.avro_schema.specs.Inside.Reserved.{is_reserved_name};
-ghost use Rattle.avro_schema.specs.Inside.Borrowed.{value_data, items_data, members_data};
-ghost use Rattle.avro_schema.specs.Inside.Foreign.{unless_foreign};
+ghost use Rattle.avro_schema.specs.Inside.Borrowed.{value_data, items_data, list_data, members_data};
 ghost use Rattle.avro_schema.specs.Inside.ReaderResults.{Gives};
 
-use crate::borrowed::{Attributes, Json, items_of, take, text_of, unsigned_of};
+use crate::attribute_map::{Attributes, Items, take};
+use crate::borrowed::{Json, unsigned_of};
 use crate::error::SchemaError;
-use crate::names;
+use crate::{names, owning};
+use serde_json::Value;
 use std::alloc::Global;
 
-/// Removes an attribute, and returns its value if it is a string.
+/// The text of a string.
+///
+/// # Errors
+///
+/// `BadShape` if the value isn't a string, and `OutOfMemory` if allocation fails.
+fn string_of(alloc: Global, value: Json<'_>) -> Result<String, SchemaError>
+    ensures { Gives string_bytes result (as_str (value_data value.entry)) }
+{
+    match value {
+        Json::Text(text) => Ok(String::from_str(alloc, text)?),
+        Json::Owned(value) => match owning::text_of(value) {
+            Some(text) => Ok(text),
+            None => Err(SchemaError::BadShape),
+        },
+        Json::Null | Json::Bool(_) | Json::Number(_) | Json::Array(_) | Json::Object(_) => {
+            Err(SchemaError::BadShape)
+        }
+    }
+}
+
+/// Removes an attribute that must be a string, and returns its text.
+///
+/// # Errors
+///
+/// `BadShape` if the attribute is missing or isn't a string, and `OutOfMemory` if allocation fails.
+/// The attribute is removed even then.
 #[tactic(auto, unfolding(crate::specs::Attributes::text_in))]
-pub fn take_text<'a>(attributes: &mut Attributes<'a>, key: &str) -> Option<&'a str>
+pub fn take_text(
+    alloc: Global,
+    attributes: &mut Attributes<'_>,
+    key: &str,
+) -> Result<String, SchemaError>
     requires { IsTrue (is_reserved_name key.now) }
-    ensures text { option_map (λ s. s.now) result
-        ≡ text_in key.now (members_data attributes.old) }
+    ensures text { Gives string_bytes result (text_in key.now (members_data attributes.old)) }
     ensures rest { members_data attributes.new
         ≡ without key.now (members_data attributes.old) }
 {
     match take(attributes, key) {
-        Some(value) => text_of(&value),
-        None => None,
+        Some(value) => string_of(alloc, value),
+        None => Err(SchemaError::BadShape),
     }
 }
 
-/// Removes an attribute, and returns its items if it is an array whose first item isn't foreign.
-#[tactic(auto, unfolding(crate::specs::Attributes::array_in))]
-pub fn take_items<'a>(attributes: &mut Attributes<'a>, key: &str) -> Option<Vec<Json<'a>>>
+/// Removes an optional attribute that must be a string, and returns its text.
+///
+/// # Errors
+///
+/// `BadShape` if the attribute isn't a string, and `OutOfMemory` if allocation fails. The attribute
+/// is removed even then.
+#[tactic(auto, unfolding(crate::specs::Attributes::text_if_any))]
+pub fn take_text_if_any(
+    alloc: Global,
+    attributes: &mut Attributes<'_>,
+    key: &str,
+) -> Result<Option<String>, SchemaError>
     requires { IsTrue (is_reserved_name key.now) }
-    ensures items { option_map (λ v. items_data v.items) result
-        ≡ unless_foreign (array_in key.now (members_data attributes.old)) }
+    ensures text { Gives (option_map string_bytes) result
+        (text_if_any key.now (members_data attributes.old)) }
+    ensures rest { members_data attributes.new
+        ≡ without key.now (members_data attributes.old) }
+{
+    match take(attributes, key) {
+        Some(value) => Ok(Some(string_of(alloc, value)?)),
+        None => Ok(None),
+    }
+}
+
+/// The items of an array.
+///
+/// # Errors
+///
+/// `BadShape` if the value isn't an array.
+pub fn items_of(value: Json<'_>) -> Result<Items<'_>, SchemaError>
+    ensures { Gives list_data result (as_array (value_data value.entry)) }
+{
+    match value {
+        Json::Array(items) => Ok(Items::Tree(items)),
+        Json::Owned(value) => match value {
+            Value::Array(values) => Ok(Items::Owned(values)),
+            Value::Null | Value::Bool(_) | Value::Number(_) | Value::String(_) | Value::Object(_) =>
+                Err(SchemaError::BadShape),
+        },
+        Json::Null | Json::Bool(_) | Json::Number(_) | Json::Text(_) | Json::Object(_) => {
+            Err(SchemaError::BadShape)
+        }
+    }
+}
+
+/// Removes an attribute that must be an array, and returns its items.
+///
+/// # Errors
+///
+/// `BadShape` if the attribute is missing or isn't an array. The attribute is removed even then.
+#[tactic(auto, unfolding(crate::specs::Attributes::array_in))]
+pub fn take_items<'a>(attributes: &mut Attributes<'a>, key: &str) -> Result<Items<'a>, SchemaError>
+    requires { IsTrue (is_reserved_name key.now) }
+    ensures items { Gives list_data result (array_in key.now (members_data attributes.old)) }
     ensures rest { members_data attributes.new
         ≡ without key.now (members_data attributes.old) }
 {
     match take(attributes, key) {
         Some(value) => items_of(value),
-        None => None,
-    }
-}
-
-/// Removes an optional attribute that must be a string, and returns it.
-///
-/// # Errors
-///
-/// `BadShape` if it isn't a string. The attribute is removed even then.
-#[tactic(auto, unfolding(crate::specs::Attributes::text_if_any))]
-pub fn take_text_if_any<'a>(
-    attributes: &mut Attributes<'a>,
-    key: &str,
-) -> Result<Option<&'a str>, SchemaError>
-    requires { IsTrue (is_reserved_name key.now) }
-    ensures text { Gives (option_map (λ s. s.now)) result
-        (text_if_any key.now (members_data attributes.old)) }
-    ensures rest { members_data attributes.new
-        ≡ without key.now (members_data attributes.old) }
-{
-    let Some(value) = take(attributes, key) else {
-        return Ok(None);
-    };
-    match text_of(&value) {
-        Some(text) => Ok(Some(text)),
         None => Err(SchemaError::BadShape),
     }
 }
@@ -79,15 +132,15 @@ pub fn take_text_if_any<'a>(
 #[tactic(auto, unfolding(crate::specs::Inside::Declarations::rule_by))]
 fn listed_name(
     alloc: Global,
-    text: &str,
+    text: String,
     alias_namespace: Option<&str>,
 ) -> Result<String, SchemaError>
     ensures { Gives string_bytes result
-        (rule_by (option_map (λ s. s.now) alias_namespace.entry) text.now) }
+        (rule_by (option_map (λ s. s.now) alias_namespace.entry) (string_bytes text)) }
 {
     let Some(namespace) = alias_namespace else {
-        return if names::is_simple(text) {
-            Ok(String::from_str(alloc, text)?)
+        return if names::is_simple(text.as_str()) {
+            Ok(text)
         } else {
             Err(SchemaError::BadName)
         };
@@ -105,7 +158,7 @@ fn listed_name(
 ///
 /// `BadShape` if an item isn't a string, `BadName` if it isn't such a name, and `OutOfMemory` if
 /// allocation fails.
-pub fn names_of(
+fn names_of(
     alloc: Global,
     items: Vec<Json<'_>>,
     space: Option<&str>,
@@ -115,7 +168,24 @@ pub fn names_of(
 {
     let mut names = Vec::with_capacity(alloc, items.len())?;
     for item in items {
-        let Some(text) = text_of(&item) else {
+        let text = string_of(alloc, item)?;
+        names.push(listed_name(alloc, text, space)?)?;
+    }
+    Ok(names)
+}
+
+/// The same for owned values.
+fn names_of_values(
+    alloc: Global,
+    values: Vec<Value>,
+    space: Option<&str>,
+) -> Result<Vec<String>, SchemaError>
+    ensures { Gives (λ v. texts_view v.items) result
+        (texts_in (rule_by (option_map (λ s. s.now) space.entry)) (items_view values.items)) }
+{
+    let mut names = Vec::with_capacity(alloc, values.len())?;
+    for value in values {
+        let Some(text) = owning::text_of(value) else {
             return Err(SchemaError::BadShape);
         };
         names.push(listed_name(alloc, text, space)?)?;
@@ -123,12 +193,30 @@ pub fn names_of(
     Ok(names)
 }
 
-/// The same for an optional attribute. If it is missing, there are no names.
+/// The names that the items of an array give.
 ///
 /// # Errors
 ///
-/// `BadShape` if the attribute isn't an array or its first item is foreign, and the errors of
-/// `names_of`.
+/// The errors of `names_of`.
+pub fn names_in(
+    alloc: Global,
+    items: Items<'_>,
+    space: Option<&str>,
+) -> Result<Vec<String>, SchemaError>
+    ensures { Gives (λ v. texts_view v.items) result
+        (texts_in (rule_by (option_map (λ s. s.now) space.entry)) (list_data items.entry)) }
+{
+    match items {
+        Items::Tree(items) => names_of(alloc, items, space),
+        Items::Owned(values) => names_of_values(alloc, values, space),
+    }
+}
+
+/// The names that an optional attribute gives. If it is missing, there are none.
+///
+/// # Errors
+///
+/// `BadShape` if the attribute isn't an array, and the errors of `names_of`.
 pub fn names_if_any(
     alloc: Global,
     attribute: Option<Json<'_>>,
@@ -137,12 +225,9 @@ pub fn names_if_any(
     ensures { Gives (λ v. texts_view v.items) result
         (texts_if_any (rule_by (option_map (λ s. s.now) space.entry)) (option_map value_data attribute.entry)) }
 {
-    let Some(value) = attribute else {
-        return Ok(Vec::new(alloc));
-    };
-    match items_of(value) {
-        Some(items) => names_of(alloc, items, space),
-        None => Err(SchemaError::BadShape),
+    match attribute {
+        Some(value) => names_in(alloc, items_of(value)?, space),
+        None => Ok(Vec::new(alloc)),
     }
 }
 

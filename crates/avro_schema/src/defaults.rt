@@ -11,6 +11,7 @@ ghost use Rattle.avro_schema.specs.Inside.FieldTables.{IsFieldTable, IsFieldTabl
 use crate::defaults::fields::node_default_fits;
 use crate::defaults::lookups::{default_type, table_at};
 use crate::defaults::primitives::{is_bytes_of, primitive_fits};
+use crate::references::member_of;
 use crate::tables::{FieldTable, tables_of};
 use avro_nodes::{Field, Members, Node};
 use serde_json::Value;
@@ -19,14 +20,6 @@ use std::alloc::{AllocError, Global};
 mod fields;
 mod lookups;
 mod primitives;
-
-/// The member with this name.
-fn member_of<'a>(members: &'a Members, key: &str) -> Option<&'a Value>
-    ensures { option_map (λ v. view v.now) result
-        ≡ get_member key.now (members_view members.now.entries) }
-{
-    members.get(key)
-}
 
 /// Whether the value fits the type at the place. Nothing fits at depth 0, so `depth` must be
 /// greater than the nesting depth of the value.

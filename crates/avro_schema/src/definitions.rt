@@ -4,7 +4,7 @@
 ghost use Rattle.std.specs.Prelude.{◌≡◌, length, Some, None, IfOk, OnOk, option_map, string_bytes, codes, ◌∷◌, []};
 ghost use Rattle.std.specs.Str.{bytes_eq};
 ghost use Rattle.std.specs.List.{list_any};
-ghost use Rattle.serde_json.specs.Find.{get_member, as_str};
+ghost use Rattle.serde_json.specs.Find.{get_member};
 ghost use Rattle.serde_json.specs.View.{view, members_view};
 ghost use Rattle.avro_nodes.specs.Nodes.{texts_view, named_view, nodes_view};
 ghost use Rattle.avro_schema.specs.Attributes.{without_all, fallback_in};
@@ -14,15 +14,15 @@ ghost use Rattle.avro_schema.specs.Inside.ValueReaders.{room_at};
 ghost use Rattle.avro_schema.specs.Inside.ReaderResults.{Gives, ReadsPart};
 ghost use Rattle.avro_schema.specs.Inside.NameTables.{known_in, KeepsNumbers};
 
-use crate::attributes::{names_if_any, names_of, size_of, take_items, take_text, take_text_if_any};
-use crate::borrowed::{Attributes, take};
+use crate::attribute_map::{Attributes, owned_map, take, take_default};
+use crate::attributes::{names_if_any, names_in, size_of, take_items, take_text, take_text_if_any};
 use crate::distinct::are_names_distinct;
 use crate::error::SchemaError;
 use crate::keywords::kind_of;
 use crate::name_table::NameTable;
 use crate::names::full_name;
 use crate::nesting::members_within;
-use crate::owning::{owned_members, take_default};
+use crate::owning::text_of;
 use avro_nodes::{MAX_NESTING, MAX_PLACES, Members, Named, Node, last_part, namespace_of};
 use serde_json::Value;
 use std::alloc::Global;
@@ -54,7 +54,7 @@ pub fn other_attributes(alloc: Global, attributes: Attributes<'_>) -> Result<Mem
     ensures { Gives (λ m. members_view m.entries) result
         (bounded (members_data attributes.entry)) }
 {
-    let extra = owned_members(alloc, attributes)?;
+    let extra = owned_map(alloc, attributes)?;
     if members_within(&extra, MAX_NESTING) {
         Ok(extra)
     } else {
@@ -90,11 +90,9 @@ fn new_name(
     ensures rest { OnOk result (members_data attributes.new
         ≡ without_all (codes "name" ∷ codes "namespace" ∷ []) (members_data attributes.old)) }
 {
-    let Some(name) = take_text(attributes, "name") else {
-        return Err(SchemaError::BadShape);
-    };
-    let attribute = take_text_if_any(attributes, "namespace")?;
-    let Some(full) = full_name(alloc, name, attribute, space)? else {
+    let name = take_text(alloc, attributes, "name")?;
+    let namespace = take_text_if_any(alloc, attributes, "namespace")?;
+    let Some(full) = full_name(alloc, name.as_str(), namespace.as_deref(), space)? else {
         return Err(SchemaError::BadName);
     };
     if_free(full, known)
@@ -134,10 +132,8 @@ fn symbols_of(alloc: Global, attributes: &mut Attributes<'_>) -> Result<Vec<Stri
     ensures rest { members_data attributes.new
         ≡ without_all (codes "symbols" ∷ []) (members_data attributes.old) }
 {
-    let Some(items) = take_items(attributes, "symbols") else {
-        return Err(SchemaError::BadShape);
-    };
-    let symbols = names_of(alloc, items, None)?;
+    let items = take_items(attributes, "symbols")?;
+    let symbols = names_in(alloc, items, None)?;
     if are_names_distinct(alloc, &symbols)? {
         Ok(symbols)
     } else {
@@ -149,17 +145,6 @@ fn has_symbol(symbols: &[String], name: &str) -> bool
     ensures { result ≡ list_any (λ t. bytes_eq (string_bytes t) name.now) symbols.now }
 {
     symbols.iter().any(|symbol| symbol.as_str() == name)
-}
-
-/// The string, or `None` for another kind of value.
-fn text_of(value: Value) -> Option<String>
-    ensures { option_map string_bytes result ≡ as_str (view value) }
-{
-    match value {
-        Value::String(text) => Some(text),
-        Value::Null | Value::Bool(_) | Value::Number(_) | Value::Array(_) | Value::Object(_) =>
-            None,
-    }
 }
 
 /// The default of an enum, which may be missing.

@@ -31,8 +31,8 @@ pub enum SchemaError {
     /// size out of range, an unknown order, and an enum's default that isn't one of its symbols.
     #[error("an attribute is missing or of the wrong type")]
     BadShape,
-    /// A union's first branch isn't a type, a branch is a union, or two branches have the same kind.
-    #[error("a union has a branch that is not allowed, or two of one kind")]
+    /// A branch of a union is a union, or two branches have the same kind.
+    #[error("a union has a union as a branch, or two branches of one kind")]
     BadUnion,
     /// A default doesn't fit its field's type.
     #[error("a default does not fit its field")]

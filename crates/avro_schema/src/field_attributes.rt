@@ -7,13 +7,13 @@ ghost use Rattle.avro_schema.specs.Inside.Borrowed.{value_data, members_data};
 ghost use Rattle.avro_schema.specs.Inside.Declarations.{field_attribute_keys, field_attributes_in, field_attributes_view, bounded_value};
 ghost use Rattle.avro_schema.specs.Inside.ReaderResults.{Gives};
 
+use crate::attribute_map::{Attributes, take, take_default};
 use crate::attributes::{names_if_any, take_text};
-use crate::borrowed::{Attributes, Json, take, text_of};
+use crate::borrowed::{Json, text_of};
 use crate::error::SchemaError;
 use crate::keywords::order_of;
 use crate::names::is_simple;
 use crate::nesting::nests_within;
-use crate::owning::take_default;
 use avro_nodes::{MAX_NESTING, Order};
 use serde_json::Value;
 use std::alloc::Global;
@@ -73,13 +73,10 @@ pub fn field_attributes_of(
     ensures rest { OnOk result (members_data attributes.new
         ≡ without_all field_attribute_keys (members_data attributes.old)) }
 {
-    let Some(name) = take_text(attributes, "name") else {
-        return Err(SchemaError::BadShape);
-    };
-    if !is_simple(name) {
+    let name = take_text(alloc, attributes, "name")?;
+    if !is_simple(name.as_str()) {
         return Err(SchemaError::BadName);
     }
-    let name = String::from_str(alloc, name)?;
     let aliases = names_if_any(alloc, take(attributes, "aliases"), None)?;
     let order = order_if_any(take(attributes, "order"))?;
     let value = value_if_any(take_default(attributes))?;

@@ -3,6 +3,7 @@
 
 #![tactic(auto)]
 
+mod attribute_map;
 mod attributes;
 mod borrowed;
 mod defaults;
@@ -10,8 +11,6 @@ mod definitions;
 mod distinct;
 mod error;
 mod field_attributes;
-mod foreign;
-mod foreign_array;
 mod index;
 mod indexing;
 mod keywords;
@@ -24,6 +23,7 @@ mod owned_values;
 mod owning;
 mod ranking;
 mod reading;
+mod references;
 mod schema;
 mod source;
 mod tables;

@@ -139,15 +139,15 @@ pub fn full_name(
 /// # Errors
 ///
 /// `AllocError` if allocation fails.
-#[tactic(auto, unfolding(crate::specs::Names::alias_in))]
-pub fn alias_in(alloc: Global, space: &str, name: &str) -> Result<Option<String>, AllocError>
-    ensures { IfOk result (λ o. option_map string_bytes o ≡ alias_in space.now name.now) }
+#[tactic(auto, unfolding(crate::specs::Names::alias_in, crate::specs::Names::qualified))]
+pub fn alias_in(alloc: Global, space: &str, alias: String) -> Result<Option<String>, AllocError>
+    ensures { IfOk result (λ o. option_map string_bytes o ≡ alias_in space.now (string_bytes alias)) }
 {
-    if !is_name_sequence(name) {
+    if !is_name_sequence(alias.as_str()) {
         return Ok(None);
     }
-    if has_dot(name) {
-        return Ok(Some(String::from_str(alloc, name)?));
+    if has_dot(alias.as_str()) || space.is_empty() {
+        return Ok(Some(alias));
     }
-    Ok(Some(qualified(alloc, space, name)?))
+    Ok(Some(dotted(alloc, space, alias.as_str())?))
 }

@@ -1,10 +1,11 @@
 //! Reads JSON values as `serde_json` values, which own their strings.
 
 ghost use Rattle.std.specs.Prelude.{◌≡◌, ◌==◌, ◌<◌, ◌≤◌, ℕ, true, false, Some, None, Err, IfOk, OnOk, length, option_map, slice_index};
-ghost use Rattle.json.specs.Json.{value, items, members};
+ghost use Rattle.json.specs.Json.{value, items, members, parse_map};
 ghost use Rattle.serde_json.specs.Data.{no_members};
 ghost use Rattle.serde_json.specs.Read.{number_of, number_from, float_of, of_json, of_items, of_members, converted};
 ghost use Rattle.serde_json.specs.View.{view, number_view, items_view, members_view};
+ghost use Rattle.avro_schema.specs.Inside.Borrowed.{items_on};
 
 use crate::error::JsonError;
 use avro_nodes::Members;
@@ -98,7 +99,7 @@ pub fn owned_value_at(
             if depth == 0 {
                 return Err(JsonError::Invalid);
             }
-            Ok(Value::Array(owned_items_at(alloc, reader, depth - 1)?))
+            Ok(Value::Array(owned_items_at(alloc, Vec::new(alloc), reader, depth - 1)?))
         }
         Token::BeginObject => {
             if depth == 0 {
@@ -109,7 +110,8 @@ pub fn owned_value_at(
     }
 }
 
-/// Reads the remaining items of an array. Each nests at most `depth` levels deep.
+/// Reads the rest of an array after the items `before`, and returns all items. Each nests at most
+/// `depth` levels deep.
 ///
 /// # Errors
 ///
@@ -118,17 +120,18 @@ pub fn owned_value_at(
 #[inline(never)]
 pub fn owned_items_at(
     alloc: Global,
+    before: Vec<Value>,
     reader: &mut Reader<'_>,
     depth: usize,
 ) -> Result<Vec<Value>, JsonError>
     ensures ok { IfOk result (λ v. (n : ℕ) → length reader.old ≤ n
-        → converted of_items (items (value depth) n reader.old)
+        → parse_map (items_on (items_view before.items)) (converted of_items (items (value depth) n reader.old))
         ≡ Some (items_view v.items, reader.new)) }
     ensures shorter { OnOk result (length reader.new < length reader.old) }
     ensures invalid { result ≡ Err JsonError.Invalid → (n : ℕ) → length reader.old ≤ n
         → converted of_items (items (value depth) n reader.old) ≡ None }
 {
-    let mut found = Vec::new(alloc);
+    let mut found = before;
     'items: while !reader.take_end_array() {
         let item = owned_value_at(alloc, reader, depth)?;
         found.push(item)?;

@@ -1,15 +1,17 @@
 //! Makes the nodes of a type from a JSON value.
 
 ghost use Rattle.std.specs.Prelude.{length, map, OnOk};
+ghost use Rattle.serde_json.specs.View.{view, items_view};
 ghost use Rattle.avro_nodes.specs.Nodes.{field_view, nodes_view};
-ghost use Rattle.avro_schema.specs.Inside.Borrowed.{value_data, items_data, members_data};
+ghost use Rattle.avro_schema.specs.Inside.Borrowed.{value_data, items_data, members_data, list_data};
 ghost use Rattle.avro_schema.specs.Inside.ValueReaders.{parts_of};
-ghost use Rattle.avro_schema.specs.Inside.Types.{container_at, branch_of, union_at, field_of, record_at, object_at, type_at};
+ghost use Rattle.avro_schema.specs.Inside.Types.{container_at, branch_of, union_at, field_of, record_at, object_at, form_at, type_at};
 ghost use Rattle.avro_schema.specs.Inside.ReaderResults.{ReadsPart};
 ghost use Rattle.avro_schema.specs.Inside.NameTables.{known_in, HasNumber, KeepsNumbers};
 
+use crate::attribute_map::{Attributes, Items, attributes_of, take};
 use crate::attributes::{take_items, take_text};
-use crate::borrowed::{Attributes, Json, members_of, take};
+use crate::borrowed::Json;
 use crate::definitions::{enum_at, fixed_at, named_of, next_place, other_attributes};
 use crate::distinct::{are_kinds_distinct, are_names_distinct};
 use crate::error::SchemaError;
@@ -20,6 +22,7 @@ use crate::reading::kinds::{branch_number, member_name};
 use crate::reading::names::{name_at, primitive_at, reference_to};
 use crate::reading::nodes::{blank, container_node, field_from, fill_blank};
 use avro_nodes::{Field, Node, namespace_of};
+use serde_json::Value;
 use std::alloc::Global;
 
 mod kinds;
@@ -60,12 +63,47 @@ pub fn type_at(
     }
     match value {
         Json::Text(name) => name_at(alloc, name, space, nodes, known),
-        Json::Array(items) => union_at(alloc, items, space, depth - 1, nodes, known),
-        Json::Foreign(_) => Err(SchemaError::BadUnion),
-        Json::Object(attributes) => object_at(alloc, attributes, space, depth - 1, nodes, known),
+        Json::Array(items) => {
+            union_at(alloc, Items::Tree(items), space, depth - 1, nodes, known)
+        }
+        Json::Object(object) => {
+            let attributes = Attributes::Tree(object);
+            object_at(alloc, attributes, space, depth - 1, nodes, known)
+        }
+        Json::Owned(value) => owned_type_at(alloc, value, space, depth - 1, nodes, known),
         Json::Null => Err(SchemaError::BadShape),
         Json::Bool(_) => Err(SchemaError::BadShape),
         Json::Number(_) => Err(SchemaError::BadShape),
+    }
+}
+
+/// The same for an owned value. The types inside it nest at most `depth` levels deep.
+#[cycle(read)]
+fn owned_type_at(
+    alloc: Global,
+    value: Value,
+    space: &Namespace,
+    depth: u32,
+    nodes: &mut Vec<Node>,
+    known: &mut NameTable,
+) -> Result<u32, SchemaError>
+    requires { HasNumber known.old space.now }
+    ensures read { ReadsPart (λ p. p) result
+        (form_at (type_at depth) space.now.text.now (view value) (known_in known.old) (length nodes.old.items))
+        (nodes_view nodes.old.items) (nodes_view nodes.new.items) (known_in known.new) }
+    ensures kept { OnOk result (KeepsNumbers known.old known.new) }
+{
+    match value {
+        Value::String(name) => name_at(alloc, name.as_str(), space, nodes, known),
+        Value::Array(values) => {
+            union_at(alloc, Items::Owned(values), space, depth, nodes, known)
+        }
+        Value::Object(map) => {
+            object_at(alloc, Attributes::Owned(map), space, depth, nodes, known)
+        }
+        Value::Null => Err(SchemaError::BadShape),
+        Value::Bool(_) => Err(SchemaError::BadShape),
+        Value::Number(_) => Err(SchemaError::BadShape),
     }
 }
 
@@ -85,10 +123,8 @@ fn object_at(
     ensures kept { OnOk result (KeepsNumbers known.old known.new) }
 {
     let mut attributes = object;
-    let Some(name) = take_text(&mut attributes, "type") else {
-        return Err(SchemaError::BadShape);
-    };
-    match type_kind_of(name) {
+    let name = take_text(alloc, &mut attributes, "type")?;
+    match type_kind_of(name.as_str()) {
         TypeKind::Primitive(kind) => primitive_at(alloc, kind, attributes, nodes, known),
         TypeKind::Array => {
             let array = ContainerObject {
@@ -109,7 +145,7 @@ fn object_at(
         TypeKind::Record => record_at(alloc, attributes, space, depth, nodes, known),
         TypeKind::Reference => {
             drop(other_attributes(alloc, attributes)?);
-            reference_to(name, space, nodes, known)
+            reference_to(name.as_str(), space, nodes, known)
         }
     }
 }
@@ -147,7 +183,7 @@ fn container_at(
 #[cycle(read)]
 fn union_at(
     alloc: Global,
-    items: Vec<Json<'_>>,
+    items: Items<'_>,
     space: &Namespace,
     depth: u32,
     nodes: &mut Vec<Node>,
@@ -155,7 +191,7 @@ fn union_at(
 ) -> Result<u32, SchemaError>
     requires { HasNumber known.old space.now }
     ensures read { ReadsPart (λ p. p) result
-        (union_at (type_at depth space.now.text.now) (items_data items.entry.items) (known_in known.old) (length nodes.old.items))
+        (union_at (type_at depth space.now.text.now) (list_data items.entry) (known_in known.old) (length nodes.old.items))
         (nodes_view nodes.old.items) (nodes_view nodes.new.items) (known_in known.new) }
     ensures kept { OnOk result (KeepsNumbers known.old known.new) }
 {
@@ -173,6 +209,27 @@ fn union_at(
 #[cycle(read)]
 fn branches_at(
     alloc: Global,
+    items: Items<'_>,
+    space: &Namespace,
+    depth: u32,
+    nodes: &mut Vec<Node>,
+    known: &mut NameTable,
+) -> Result<Vec<(u32, u64)>, SchemaError>
+    requires { HasNumber known.old space.now }
+    ensures read { ReadsPart (λ v. v.items) result
+        (parts_of (branch_of (type_at depth space.now.text.now)) (list_data items.entry) (known_in known.old) (length nodes.old.items))
+        (nodes_view nodes.old.items) (nodes_view nodes.new.items) (known_in known.new) }
+    ensures kept { OnOk result (KeepsNumbers known.old known.new) }
+{
+    match items {
+        Items::Tree(items) => tree_branches_at(alloc, items, space, depth, nodes, known),
+        Items::Owned(values) => owned_branches_at(alloc, values, space, depth, nodes, known),
+    }
+}
+
+#[cycle(read)]
+fn tree_branches_at(
+    alloc: Global,
     items: Vec<Json<'_>>,
     space: &Namespace,
     depth: u32,
@@ -188,6 +245,29 @@ fn branches_at(
     let mut branches = Vec::with_capacity(alloc, items.len())?;
     for item in items {
         branches.push(branch_at(alloc, item, space, depth, nodes, known)?)?;
+    }
+    Ok(branches)
+}
+
+#[cycle(read)]
+fn owned_branches_at(
+    alloc: Global,
+    values: Vec<Value>,
+    space: &Namespace,
+    depth: u32,
+    nodes: &mut Vec<Node>,
+    known: &mut NameTable,
+) -> Result<Vec<(u32, u64)>, SchemaError>
+    requires { HasNumber known.old space.now }
+    ensures read { ReadsPart (λ v. v.items) result
+        (parts_of (branch_of (type_at depth space.now.text.now)) (items_view values.items) (known_in known.old) (length nodes.old.items))
+        (nodes_view nodes.old.items) (nodes_view nodes.new.items) (known_in known.new) }
+    ensures kept { OnOk result (KeepsNumbers known.old known.new) }
+{
+    let mut branches = Vec::with_capacity(alloc, values.len())?;
+    for value in values {
+        let branch = Json::Owned(value);
+        branches.push(branch_at(alloc, branch, space, depth, nodes, known)?)?;
     }
     Ok(branches)
 }
@@ -233,9 +313,7 @@ fn record_at(
     let mut rest = attributes;
     let place = next_place(nodes)?;
     let named = named_of(alloc, &mut rest, space.text, known)?;
-    let Some(items) = take_items(&mut rest, "fields") else {
-        return Err(SchemaError::BadShape);
-    };
+    let items = take_items(&mut rest, "fields")?;
     let extra = other_attributes(alloc, rest)?;
     nodes.push(blank(alloc))?;
     let number = known.define(alloc, named.name.as_str(), place)?;
@@ -259,6 +337,27 @@ fn record_at(
 #[cycle(read)]
 fn fields_at(
     alloc: Global,
+    items: Items<'_>,
+    space: &Namespace,
+    depth: u32,
+    nodes: &mut Vec<Node>,
+    known: &mut NameTable,
+) -> Result<Vec<Field>, SchemaError>
+    requires { HasNumber known.old space.now }
+    ensures read { ReadsPart (λ v. map field_view v.items) result
+        (parts_of (field_of (type_at depth space.now.text.now)) (list_data items.entry) (known_in known.old) (length nodes.old.items))
+        (nodes_view nodes.old.items) (nodes_view nodes.new.items) (known_in known.new) }
+    ensures kept { OnOk result (KeepsNumbers known.old known.new) }
+{
+    match items {
+        Items::Tree(items) => tree_fields_at(alloc, items, space, depth, nodes, known),
+        Items::Owned(values) => owned_fields_at(alloc, values, space, depth, nodes, known),
+    }
+}
+
+#[cycle(read)]
+fn tree_fields_at(
+    alloc: Global,
     items: Vec<Json<'_>>,
     space: &Namespace,
     depth: u32,
@@ -279,6 +378,29 @@ fn fields_at(
 }
 
 #[cycle(read)]
+fn owned_fields_at(
+    alloc: Global,
+    values: Vec<Value>,
+    space: &Namespace,
+    depth: u32,
+    nodes: &mut Vec<Node>,
+    known: &mut NameTable,
+) -> Result<Vec<Field>, SchemaError>
+    requires { HasNumber known.old space.now }
+    ensures read { ReadsPart (λ v. map field_view v.items) result
+        (parts_of (field_of (type_at depth space.now.text.now)) (items_view values.items) (known_in known.old) (length nodes.old.items))
+        (nodes_view nodes.old.items) (nodes_view nodes.new.items) (known_in known.new) }
+    ensures kept { OnOk result (KeepsNumbers known.old known.new) }
+{
+    let mut fields = Vec::with_capacity(alloc, values.len())?;
+    for value in values {
+        let field = Json::Owned(value);
+        fields.push(field_at(alloc, field, space, depth, nodes, known)?)?;
+    }
+    Ok(fields)
+}
+
+#[cycle(read)]
 fn field_at(
     alloc: Global,
     value: Json<'_>,
@@ -293,7 +415,7 @@ fn field_at(
         (nodes_view nodes.old.items) (nodes_view nodes.new.items) (known_in known.new) }
     ensures kept { OnOk result (KeepsNumbers known.old known.new) }
 {
-    let Some(mut rest) = members_of(value) else {
+    let Some(mut rest) = attributes_of(value) else {
         return Err(SchemaError::BadShape);
     };
     // Most fields list `name` before `type`, and lookups start at the end. So `type` is removed

@@ -20,15 +20,21 @@ use crate::indexing::index_of;
 use crate::mentions::mentions_fit;
 use crate::name_table::{NameTable, Namespace};
 use crate::reading::type_at;
-use crate::source::value_at;
+use crate::source::tree_at;
 use crate::weight::names_fit;
-use avro_nodes::{MAX_NESTING, MAX_TEXT, Node, OutOfMemory, identity_of, respelling_of};
+use avro_nodes::{
+    MAX_NESTING, MAX_PLACES, MAX_TEXT, Node, OutOfMemory, identity_of, respelling_of,
+};
 use json::{Reader, Scratch};
 use std::alloc::Global;
 use std::marker::Model;
 
 /// The maximum nesting depth of the JSON text.
 const MAX_DEPTH: usize = 127;
+
+/// The budget of a text's tree. It is enough for all fields that fit into a text, since a field takes
+/// at least 24 bytes, and for as many other values as a schema has nodes.
+const TREE_BUDGET: usize = MAX_TEXT / 12;
 
 /// An Avro schema: the nodes that its text denotes. A node's place is its index; the root is at
 /// place 0 (Avro 1.11 specification, Schema Declaration).
@@ -69,7 +75,7 @@ fn value_of<'a>(
         → Gives value_data result (value_in text) }
 {
     let mut reader = Reader::new(respelt, scratch)?;
-    let value = value_at(alloc, &mut reader, MAX_DEPTH)?;
+    let value = tree_at(alloc, &mut reader, MAX_DEPTH, TREE_BUDGET)?;
     if reader.next().is_some() {
         return Err(SchemaError::NotJson);
     }

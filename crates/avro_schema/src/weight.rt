@@ -3,23 +3,25 @@
 
 ghost use Rattle.std.specs.Prelude.{IsTrue, ◌≡◌, ◌-◌, length, option_map, nat_le, codes, []};
 ghost use Rattle.serde_json.specs.Find.{get_member};
+ghost use Rattle.serde_json.specs.View.{view};
 ghost use Rattle.avro_nodes.specs.Limits.{max_nesting, max_text};
 ghost use Rattle.avro_schema.specs.Attributes.{text_in, array_in};
 ghost use Rattle.avro_schema.specs.Inside.Reserved.{is_reserved_name};
-ghost use Rattle.avro_schema.specs.Inside.Borrowed.{value_data, items_data, members_data};
-ghost use Rattle.avro_schema.specs.Inside.Foreign.{unless_foreign};
+ghost use Rattle.avro_schema.specs.Inside.Borrowed.{value_data};
+ghost use Rattle.avro_schema.specs.Inside.References.{ref_data, items_ref_data, object_ref_data};
 ghost use Rattle.avro_schema.specs.Inside.Weight.{map_or_zero, items_weight, full_name_in, alias_weight, namespace_in, names_weight, enum_or_fixed_weight, field_weight, record_weight, object_weight, weight};
 
-use crate::borrowed::{Attributes, Json, array_of, find, object_of, text_of};
-use crate::foreign::begins_foreign;
+use crate::borrowed::Json;
 use crate::keywords::{TypeKind, type_kind_of};
+use crate::references::{ItemsRef, ObjectRef, ValueRef, find, items_of, object_of, text_of};
 use avro_nodes::{MAX_NESTING, MAX_TEXT, has_dot, namespace_of};
+use serde_json::Value;
 
 /// The attribute with this name, if it is a string.
 #[tactic(auto, unfolding(crate::specs::Attributes::text_in))]
-fn text_at<'a>(members: &'a Attributes<'_>, key: &str) -> Option<&'a str>
+fn text_at<'t>(members: ObjectRef<'t, '_>, key: &str) -> Option<&'t str>
     requires { IsTrue (is_reserved_name key.now) }
-    ensures { option_map (λ s. s.now) result ≡ text_in key.now (members_data members.now) }
+    ensures { option_map (λ s. s.now) result ≡ text_in key.now (object_ref_data members.entry) }
 {
     match find(members, key) {
         Some(value) => text_of(value),
@@ -27,15 +29,14 @@ fn text_at<'a>(members: &'a Attributes<'_>, key: &str) -> Option<&'a str>
     }
 }
 
-/// The items of the attribute with this name, if it is an array whose first item isn't foreign.
+/// The attribute with this name, if it is an array.
 #[tactic(auto, unfolding(crate::specs::Attributes::array_in))]
-fn items_at<'t, 'a>(members: &'t Attributes<'a>, key: &str) -> Option<&'t Vec<Json<'a>>>
+fn items_at<'t, 'a>(members: ObjectRef<'t, 'a>, key: &str) -> Option<ItemsRef<'t, 'a>>
     requires { IsTrue (is_reserved_name key.now) }
-    ensures { option_map (λ v. items_data v.now.items) result
-        ≡ unless_foreign (array_in key.now (members_data members.now)) }
+    ensures { option_map items_ref_data result ≡ array_in key.now (object_ref_data members.entry) }
 {
     match find(members, key) {
-        Some(value) => array_of(value),
+        Some(value) => items_of(value),
         None => None,
     }
 }
@@ -55,8 +56,8 @@ fn after_name(budget: usize, name: &str, space: &str) -> usize
 }
 
 /// What remains after an alias of a type in the namespace.
-fn after_alias(budget: usize, alias: &Json<'_>, space: &str) -> usize
-    ensures { result ≡ budget - alias_weight space.now (value_data alias.now) }
+fn after_alias(budget: usize, alias: ValueRef<'_, '_>, space: &str) -> usize
+    ensures { result ≡ budget - alias_weight space.now (ref_data alias.entry) }
 {
     match text_of(alias) {
         Some(name) => after_name(budget, name, space),
@@ -64,24 +65,33 @@ fn after_alias(budget: usize, alias: &Json<'_>, space: &str) -> usize
     }
 }
 
-fn after_aliases(budget: usize, aliases: &Vec<Json<'_>>, space: &str) -> usize
-    ensures { result ≡ budget - items_weight (alias_weight space.now) (items_data aliases.now.items) }
+fn after_aliases(budget: usize, aliases: ItemsRef<'_, '_>, space: &str) -> usize
+    ensures { result ≡ budget - items_weight (alias_weight space.now) (items_ref_data aliases.entry) }
 {
     let mut rest = budget;
-    for alias in aliases {
-        rest = after_alias(rest, alias, space);
+    match aliases {
+        ItemsRef::Tree(items) => {
+            'tree: for item in items {
+                rest = after_alias(rest, ValueRef::Tree(item), space);
+            }
+        }
+        ItemsRef::Owned(values) => {
+            'owned: for value in values {
+                rest = after_alias(rest, ValueRef::Owned(value), space);
+            }
+        }
     }
     rest
 }
 
 /// The namespace of a definition with this name, declared inside the namespace `enclosing`.
 #[tactic(auto, unfolding(crate::specs::Inside::Weight::namespace_in))]
-fn definition_namespace<'a>(
-    members: &'a Attributes<'_>,
-    name: &'a str,
-    enclosing: &'a str,
-) -> &'a str
-    ensures { result.now ≡ namespace_in enclosing.now name.now (members_data members.now) }
+fn definition_namespace<'t>(
+    members: ObjectRef<'t, '_>,
+    name: &'t str,
+    enclosing: &'t str,
+) -> &'t str
+    ensures { result.now ≡ namespace_in enclosing.now name.now (object_ref_data members.entry) }
 {
     if has_dot(name) {
         return namespace_of(name);
@@ -94,8 +104,8 @@ fn definition_namespace<'a>(
 
 /// What remains after the name and the aliases of a definition in the namespace.
 #[tactic(auto, unfolding(crate::specs::Inside::Weight::names_weight))]
-fn after_names(budget: usize, members: &Attributes<'_>, name: &str, space: &str) -> usize
-    ensures { result ≡ budget - names_weight space.now name.now (members_data members.now) }
+fn after_names(budget: usize, members: ObjectRef<'_, '_>, name: &str, space: &str) -> usize
+    ensures { result ≡ budget - names_weight space.now name.now (object_ref_data members.entry) }
 {
     let rest = after_name(budget, name, space);
     match items_at(members, "aliases") {
@@ -106,15 +116,15 @@ fn after_names(budget: usize, members: &Attributes<'_>, name: &str, space: &str)
 
 /// What remains after a definition without types inside it.
 #[tactic(auto, unfolding(crate::specs::Inside::Weight::enum_or_fixed_weight))]
-fn after_definition(budget: usize, members: &Attributes<'_>, enclosing: &str) -> usize
-    ensures { result ≡ budget - enum_or_fixed_weight enclosing.now (members_data members.now) }
+fn after_definition(budget: usize, members: ObjectRef<'_, '_>, enclosing: &str) -> usize
+    ensures { result ≡ budget - enum_or_fixed_weight enclosing.now (object_ref_data members.entry) }
 {
     match text_at(members, "name") {
         Some(name) => after_names(
             budget,
             members,
             name,
-            definition_namespace(&*members, name, enclosing),
+            definition_namespace(members, name, enclosing),
         ),
         None => budget,
     }
@@ -123,26 +133,54 @@ fn after_definition(budget: usize, members: &Attributes<'_>, enclosing: &str) ->
 /// What remains after the definitions of a type that nests at most `depth` levels deep.
 #[cycle(weigh)]
 #[tactic(auto, unfolding(crate::specs::Inside::Weight::weight))]
-fn after_type(budget: usize, value: &Json<'_>, space: &str, depth: u32) -> usize
+fn after_type(budget: usize, value: ValueRef<'_, '_>, space: &str, depth: u32) -> usize
+    ensures { result ≡ budget - weight depth space.now (ref_data value.entry) }
+{
+    match value {
+        ValueRef::Tree(value) => after_tree_type(budget, value, space, depth),
+        ValueRef::Owned(value) => after_owned_type(budget, value, space, depth),
+    }
+}
+
+#[cycle(weigh)]
+#[tactic(auto, unfolding(crate::specs::Inside::Weight::weight))]
+fn after_tree_type(budget: usize, value: &Json<'_>, space: &str, depth: u32) -> usize
     ensures { result ≡ budget - weight depth space.now (value_data value.now) }
 {
     if depth == 0 {
         return budget;
     }
     match value {
-        Json::Array(items) => if begins_foreign(items) {
-            budget
-        } else {
-            after_branches(budget, items, space, depth - 1)
-        },
-        Json::Object(members) => after_object(budget, members, space, depth - 1),
-        Json::Null | Json::Bool(_) | Json::Number(_) | Json::Text(_) | Json::Foreign(_) => budget,
+        Json::Array(items) => after_branches(budget, ItemsRef::Tree(items), space, depth - 1),
+        Json::Object(object) => after_object(budget, ObjectRef::Tree(object), space, depth - 1),
+        Json::Owned(value) => after_owned_type(budget, value, space, depth),
+        Json::Null | Json::Bool(_) | Json::Number(_) | Json::Text(_) => budget,
     }
 }
 
 #[cycle(weigh)]
-fn after_type_if_any(budget: usize, value: Option<&Json<'_>>, space: &str, depth: u32) -> usize
-    ensures { result ≡ budget - map_or_zero (weight depth space.now) (option_map (λ v. value_data v.now) value.entry) }
+#[tactic(auto, unfolding(crate::specs::Inside::Weight::weight))]
+fn after_owned_type(budget: usize, value: &Value, space: &str, depth: u32) -> usize
+    ensures { result ≡ budget - weight depth space.now (view value.now) }
+{
+    if depth == 0 {
+        return budget;
+    }
+    match value {
+        Value::Array(items) => after_branches(budget, ItemsRef::Owned(items), space, depth - 1),
+        Value::Object(map) => after_object(budget, ObjectRef::Owned(map), space, depth - 1),
+        Value::Null | Value::Bool(_) | Value::Number(_) | Value::String(_) => budget,
+    }
+}
+
+#[cycle(weigh)]
+fn after_type_if_any(
+    budget: usize,
+    value: Option<ValueRef<'_, '_>>,
+    space: &str,
+    depth: u32,
+) -> usize
+    ensures { result ≡ budget - map_or_zero (weight depth space.now) (option_map ref_data value.entry) }
 {
     match value {
         Some(value) => after_type(budget, value, space, depth),
@@ -151,20 +189,29 @@ fn after_type_if_any(budget: usize, value: Option<&Json<'_>>, space: &str, depth
 }
 
 #[cycle(weigh)]
-fn after_branches(budget: usize, items: &Vec<Json<'_>>, space: &str, depth: u32) -> usize
-    ensures { result ≡ budget - items_weight (weight depth space.now) (items_data items.now.items) }
+fn after_branches(budget: usize, branches: ItemsRef<'_, '_>, space: &str, depth: u32) -> usize
+    ensures { result ≡ budget - items_weight (weight depth space.now) (items_ref_data branches.entry) }
 {
     let mut rest = budget;
-    for item in items {
-        rest = after_type(rest, item, space, depth);
+    match branches {
+        ItemsRef::Tree(items) => {
+            'tree: for item in items {
+                rest = after_type(rest, ValueRef::Tree(item), space, depth);
+            }
+        }
+        ItemsRef::Owned(values) => {
+            'owned: for value in values {
+                rest = after_type(rest, ValueRef::Owned(value), space, depth);
+            }
+        }
     }
     rest
 }
 
 #[cycle(weigh)]
 #[tactic(auto, unfolding(crate::specs::Inside::Weight::object_weight))]
-fn after_object(budget: usize, members: &Attributes<'_>, space: &str, depth: u32) -> usize
-    ensures { result ≡ budget - object_weight (weight depth) space.now (members_data members.now) }
+fn after_object(budget: usize, members: ObjectRef<'_, '_>, space: &str, depth: u32) -> usize
+    ensures { result ≡ budget - object_weight (weight depth) space.now (object_ref_data members.entry) }
 {
     let Some(name) = text_at(members, "type") else {
         return budget;
@@ -180,13 +227,13 @@ fn after_object(budget: usize, members: &Attributes<'_>, space: &str, depth: u32
 
 #[cycle(weigh)]
 #[tactic(auto, unfolding(crate::specs::Inside::Weight::record_weight))]
-fn after_record(budget: usize, members: &Attributes<'_>, enclosing: &str, depth: u32) -> usize
-    ensures { result ≡ budget - record_weight (weight depth) enclosing.now (members_data members.now) }
+fn after_record(budget: usize, members: ObjectRef<'_, '_>, enclosing: &str, depth: u32) -> usize
+    ensures { result ≡ budget - record_weight (weight depth) enclosing.now (object_ref_data members.entry) }
 {
     let Some(name) = text_at(members, "name") else {
         return budget;
     };
-    let space = definition_namespace(&*members, name, enclosing);
+    let space = definition_namespace(members, name, enclosing);
     let rest = after_names(budget, members, name, space);
     match items_at(members, "fields") {
         Some(fields) => after_fields(rest, fields, space, depth),
@@ -195,19 +242,28 @@ fn after_record(budget: usize, members: &Attributes<'_>, enclosing: &str, depth:
 }
 
 #[cycle(weigh)]
-fn after_fields(budget: usize, fields: &Vec<Json<'_>>, space: &str, depth: u32) -> usize
-    ensures { result ≡ budget - items_weight (field_weight (weight depth space.now)) (items_data fields.now.items) }
+fn after_fields(budget: usize, fields: ItemsRef<'_, '_>, space: &str, depth: u32) -> usize
+    ensures { result ≡ budget - items_weight (field_weight (weight depth space.now)) (items_ref_data fields.entry) }
 {
     let mut rest = budget;
-    for field in fields {
-        rest = after_field(rest, field, space, depth);
+    match fields {
+        ItemsRef::Tree(items) => {
+            'tree: for item in items {
+                rest = after_field(rest, ValueRef::Tree(item), space, depth);
+            }
+        }
+        ItemsRef::Owned(values) => {
+            'owned: for value in values {
+                rest = after_field(rest, ValueRef::Owned(value), space, depth);
+            }
+        }
     }
     rest
 }
 
 #[cycle(weigh)]
-fn after_field(budget: usize, field: &Json<'_>, space: &str, depth: u32) -> usize
-    ensures { result ≡ budget - field_weight (weight depth space.now) (value_data field.now) }
+fn after_field(budget: usize, field: ValueRef<'_, '_>, space: &str, depth: u32) -> usize
+    ensures { result ≡ budget - field_weight (weight depth space.now) (ref_data field.entry) }
 {
     match object_of(field) {
         Some(members) => after_type_if_any(budget, find(members, "type"), space, depth),
@@ -220,5 +276,5 @@ fn after_field(budget: usize, field: &Json<'_>, space: &str, depth: u32) -> usiz
 pub fn names_fit(value: &Json<'_>) -> bool
     ensures { result ≡ nat_le (weight max_nesting [] (value_data value.now)) max_text }
 {
-    after_type(MAX_TEXT + 1, value, "", MAX_NESTING) > 0
+    after_tree_type(MAX_TEXT + 1, value, "", MAX_NESTING) > 0
 }

@@ -17,8 +17,7 @@ is_reserved_name key =
     (cond (length key == 6) (is_one_of (codes "fields" ∷ codes "values" ∷ []) key) (cond (length key == 7) (is_one_of (codes "aliases" ∷ codes "symbols" ∷ []) key)
     (cond (length key == 9) (is_one_of (codes "namespace" ∷ []) key) false))))
 
--- The reader borrows the value of a reserved member from the text, unless it is a foreign array. It copies every other value, `default`
--- too.
+-- The tree has the values of reserved members. All other members, `default` too, are read as `serde_json` values.
 unfoldable pub is_reserved : List ℕ → Bool
 is_reserved key = is_reserved_name key
 

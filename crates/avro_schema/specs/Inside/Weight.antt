@@ -11,7 +11,6 @@ use Rattle.avro_schema.specs.declared.keywords.TypeKind.TheVariants as type_kind
 use Rattle.avro_schema.specs.Names.{qualified}
 use Rattle.avro_schema.specs.Keywords.{type_kind_of}
 use Rattle.avro_schema.specs.Attributes.{text_in, array_in}
-use Rattle.avro_schema.specs.Inside.Foreign.{unless_foreign}
 
 abbrev pub texts_size : List (List ℕ) → ℕ
 texts_size [] = 0
@@ -58,7 +57,7 @@ namespace_in enclosing name ms = if has_dot name then namespace_of name else unw
 
 -- the name and the aliases of a definition in the namespace
 unfoldable pub names_weight : List ℕ → List ℕ → Members → ℕ
-names_weight space name ms = length (full_name_in space name) + map_or_zero (items_weight (alias_weight space)) (unless_foreign (array_in (codes "aliases") ms))
+names_weight space name ms = length (full_name_in space name) + map_or_zero (items_weight (alias_weight space)) (array_in (codes "aliases") ms)
 
 -- the bytes of the names of an enum or a fixed, given the enclosing namespace; 0 without a string `name`
 unfoldable pub enum_or_fixed_weight : List ℕ → Members → ℕ
@@ -73,7 +72,7 @@ field_weight one d = map_or_zero one (option_and_then (get_member (codes "type")
 
 unfoldable pub record_weight : Weigher → List ℕ → Members → ℕ
 record_weight types space ms =
-    map_or_zero (λ name. names_weight (namespace_in space name ms) name ms + map_or_zero (items_weight (field_weight (types (namespace_in space name ms)))) (unless_foreign (array_in (codes "fields") ms)))
+    map_or_zero (λ name. names_weight (namespace_in space name ms) name ms + map_or_zero (items_weight (field_weight (types (namespace_in space name ms)))) (array_in (codes "fields") ms))
     (text_in (codes "name") ms)
 
 -- the bytes of an object, by what its `type` declares
@@ -90,7 +89,7 @@ unfoldable pub object_weight : Weigher → List ℕ → Members → ℕ
 object_weight types space ms = map_or_zero (λ name. by_type_kind (type_kind_of name) types space ms) (text_in (codes "type") ms)
 
 abbrev pub form_weight : Weigher → Weigher
-form_weight types space (json.array ds) = map_or_zero (items_weight (types space)) (unless_foreign (Some ds))
+form_weight types space (json.array ds) = items_weight (types space) ds
 form_weight types space (json.object ms) = object_weight types space ms
 form_weight types space (string s) = 0
 form_weight types space json.null = 0

@@ -7,7 +7,7 @@ ghost use Rattle.avro_schema.specs.Inside.Types.{reference_to, primitive_at, nam
 ghost use Rattle.avro_schema.specs.Inside.ReaderResults.{ReadsPart};
 ghost use Rattle.avro_schema.specs.Inside.NameTables.{known_in, HasNumber};
 
-use crate::borrowed::Attributes;
+use crate::attribute_map::Attributes;
 use crate::definitions::{next_place, other_attributes};
 use crate::error::SchemaError;
 use crate::keywords::kind_of;

@@ -83,8 +83,7 @@ BadShape|{"type":"record","name":"R","fields":[{"name":"x","type":"int","order":
 BadShape|{"type":"record","name":"R","fields":[{"name":"x","type":"int","aliases":null}]}
 BadUnion|["int",{"type":"int"}]
 BadUnion|[["int"]]
-BadUnion|[null]
-BadShape|["int",null]
+BadShape|[null]
 BadUnion|["int",[]]
 BadUnion|["null","int","null"]
 BadUnion|[{"type":"array","items":"int"},{"type":"array","items":"long"}]

@@ -3,7 +3,7 @@ use Rattle.std.specs.Prelude.{slice_get}
 use Rattle.std.proofs.lemmas.Option.{slice_get-get_or, same_Some}
 use Rattle.serde_json.specs.Data.{put}
 use Rattle.serde_json.specs.View.{members_view}
-use Rattle.avro_schema.specs.Inside.Borrowed.{members_data, put_all}
+use Rattle.avro_schema.specs.Inside.Borrowed.{object_data, put_all}
 use Rattle.avro_schema.proofs.BorrowedMembers.{Entry, others, read_of, taken_out, ordered_all}
 use Rattle.avro_schema.proofs.PutLemmas.{put_again}
 use Rattle.avro_schema.proofs.ReservedLemmas.{none_reserved, reserved_is, in_order}
@@ -11,7 +11,7 @@ use Rattle.avro_schema.proofs.borrowed.drop_member.Goals as goal
 
 pub returns : goal.returns
 returns c value =
-    let old = c.args.attributes.now in
+    let old = c.args.object.now in
     let xs = old.reserved.items in
     let kept = members_view old.others.members.entries in
     let key = c.args.key.now in
@@ -22,4 +22,4 @@ returns c value =
     let none = none_reserved key kept (reserved_is key c.requires) old.others.unreserved in
     ap (λ ys. put key value (put_all (read_of ys) kept)) (c.remove_members.ensures ∙ ap (others key) c.remove.ensures.items)
     ∙ ap (put key value) (taken_out key xs c.in-Some.at m kept here named none ordered)
-    ∙ put_again key value (members_data old) (ordered_all xs kept ordered)
+    ∙ put_again key value (object_data old) (ordered_all xs kept ordered)

@@ -12,8 +12,8 @@ use Rattle.avro_schema.proofs.borrowed.last_index.Goals as goal
 
 pub returns-then-eq : goal.returns-then-eq
 returns-then-eq c =
-    let xs = c.args.attributes.now.reserved.items in
-    let others = members_view c.args.attributes.now.others.members.entries in
+    let xs = c.args.object.now.reserved.items in
+    let others = members_view c.args.object.now.others.members.entries in
     let i = c.loop-left.left - 1 in
     let m = c.index.result.now in
     let key = c.args.key.now in
@@ -25,12 +25,12 @@ returns-then-eq c =
     let found = step ∙ ap (λ (b : Bool). cond b (Some (value_data m.1)) (last_in key (take i xs))) same in
     let here : slice_get xs i ≡ Some m = slice_get-get_or xs i m within ∙ ap (λ (y : Entry). Some y) (sym c.index.ensures) in
     let reserved = reserved_is key c.requires in
-    let none = none_reserved key others reserved c.args.attributes.now.others.unreserved in
+    let none = none_reserved key others reserved c.args.object.now.others.unreserved in
     (within, rw here (ap (λ (s : List ℕ). Some s) ((bytes_eq-Decides m.0.now key).0 same)), members_found key xs others reserved none ∙ found ∙ rw here refl)
 
 pub loop-left-preserved : goal.loop-left-preserved
 loop-left-preserved c =
-    let xs = c.args.attributes.now.reserved.items in
+    let xs = c.args.object.now.reserved.items in
     let i = c.loop-left.left - 1 in
     let m = c.index.result.now in
     let key = c.args.key.now in
@@ -43,10 +43,10 @@ loop-left-preserved c =
 
 pub returns : goal.returns
 returns c =
-    let xs = c.args.attributes.now.reserved.items in
-    let others = members_view c.args.attributes.now.others.members.entries in
+    let xs = c.args.object.now.reserved.items in
+    let others = members_view c.args.object.now.others.members.entries in
     let key = c.args.key.now in
     let over : c.loop-left.left ≡ 0 = omega arith in
     let reserved = reserved_is key c.requires in
-    let none = none_reserved key others reserved c.args.attributes.now.others.unreserved in
+    let none = none_reserved key others reserved c.args.object.now.others.unreserved in
     members_found key xs others reserved none ∙ c.loop-left.invariant.0 ∙ ap (λ (n : ℕ). last_in key (take n xs)) over

@@ -7,7 +7,7 @@ use Rattle.avro_schema.proofs.borrowed.put_reserved.Goals as goal
 
 pub returns : goal.returns
 returns c =
-    let left = c.drop_member.new.attributes in
+    let left = c.drop_member.new.object in
     let kept = members_view left.others.members.entries in
     let added = c.in_ok-push.ensures.items ∙ ap (λ (ys : List Entry). ys ++ (c.args.key, c.args.value) ∷ []) c.make_room.ensures in
     ap (λ ys. put_all (read_of ys) kept) added

@@ -1,14 +1,15 @@
-use Rattle.std.proofs.Common.{◌≡◌, ◌-◌, ◌<◌, [], ◌∷◌, length, Some, None, string_bytes, sym, ap, ap₂, ◌∙◌, arith, rules}
+use Rattle.std.proofs.Common.{◌≡◌, ◌-◌, ◌<◌, [], ◌∷◌, length, Some, None, string_bytes, refl, sym, ap, ap₂, ◌∙◌, arith, rules}
 use Rattle.json.specs.Token.{Token}
 use Rattle.json.specs.Json.{parse_map, after_end_array, read_key, items, members, value}
 use Rattle.json.specs.Reads.{token_of}
 use Rattle.json.proofs.Grammar.{value_is, value-begin_array, value-begin_object, read_key-shorter}
 use Rattle.serde_json.specs.Data.{null, boolean, number, string, array, object, put}
 use Rattle.serde_json.specs.Read.{of_json, of_items, of_members, converted}
-use Rattle.serde_json.specs.View.{view, number_view, members_view}
+use Rattle.serde_json.specs.View.{view, number_view, items_view, members_view}
 use Rattle.serde_json.specs.declared.value.Value.{String, Number, Bool, Null, the_lemmas}
 use Rattle.serde_json.proofs.Views.{view-Array, view-Object, members_view-insert_entry}
-use Rattle.avro_schema.proofs.Conversions.{converted-array, converted-object, item_read, item_refused, items_over, member_read, member_refused, key_refused, members_over, items_before, items_before-no_items, one_more_item, none_before}
+use Rattle.avro_schema.proofs.Conversions.{converted-array, converted-object, item_read, item_refused, items_over, member_read, member_refused, key_refused, members_over, items_on-no_items, one_more_item, none_before, not_mapped}
+use Rattle.avro_schema.specs.Inside.Borrowed.{items_on}
 use Rattle.avro_schema.proofs.owned_values.+keep.Goals as goal
 
 pub owned_value_at-returns-in_err-token-clause-invalid : goal.owned_value_at-returns-in_err-token-clause-invalid
@@ -87,7 +88,9 @@ owned_value_at-returns-in_ok-owned_items_at-in-BeginArray-clause-ok t c =
     let first : c.args.reader.now ≡ token_of c.in_ok-token.token ∷ c.next.new.self = grind arith in
     let opened = ap (converted of_json) (ap (value c.args.depth) (first ∙ ap (λ k. token_of k ∷ c.next.new.self) c.in-BeginArray.is) ∙ value-begin_array c.args.depth c.next.new.self (omega arith)) ∙ converted-array (items (value (c.args.depth - 1)) (length c.next.new.self) c.next.new.self) in
     let found = c.in_ok-owned_items_at-in-BeginArray in
-    opened ∙ ap (parse_map array) (found.ensures.ok (length c.next.new.self) (omega arith)) ∙ ap (λ d. Some (d, c.owned_items_at.new.reader)) (sym (view-Array found.field-0))
+    let all = converted of_items (items (value (c.args.depth - 1)) (length c.next.new.self) c.next.new.self) in
+    let none = none_before all ∙ ap (λ vs. parse_map (items_on (items_view vs)) all) (sym c.new.ensures.items) in
+    opened ∙ ap (parse_map array) (none ∙ found.ensures.ok (length c.next.new.self) (omega arith)) ∙ ap (λ d. Some (d, c.owned_items_at.new.reader)) (sym (view-Array found.field-0))
 
 pub owned_value_at-returns-in_ok-owned_members_at-in-BeginObject-clause-ok : goal.owned_value_at-returns-in_ok-owned_members_at-in-BeginObject-clause-ok
 owned_value_at-returns-in_ok-owned_members_at-in-BeginObject-clause-ok t c =
@@ -98,9 +101,7 @@ owned_value_at-returns-in_ok-owned_members_at-in-BeginObject-clause-ok t c =
 
 pub owned_items_at-items-init : goal.owned_items_at-items-init
 owned_items_at-items-init t c = (
-  λ m enough.
-      let all = converted of_items (items (value c.args.depth) m c.args.reader.now) in
-      (m, enough, none_before all ∙ ap (λ vs. parse_map (items_before vs) all) (sym c.new-found.ensures.items)),
+  λ m enough. (m, enough, refl),
   omega arith,
 )
 
@@ -110,7 +111,8 @@ owned_items_at-returns-in_err-item-clause-invalid t c refused m enough =
     let l = c.items in
     let was = l.invariant.0 m enough in
     let going : (after_end_array l.reader ≡ None) × (c.take_end_array.new.self ≡ l.reader) = grind arith in
-    was.2 ∙ ap (parse_map (items_before l.found.items)) (item_refused p was.0 l.reader going.0 (rw (← going.1) (c.owned_value_at.ensures.invalid (grind arith))))
+    let none = was.2 ∙ ap (parse_map (items_on (items_view l.found.items))) (item_refused p was.0 l.reader going.0 (rw (← going.1) (c.owned_value_at.ensures.invalid (grind arith)))) in
+    not_mapped (items_on (items_view c.args.before.items)) (converted of_items (items p m c.args.reader.now)) none
 
 pub owned_items_at-items-preserved : goal.owned_items_at-items-preserved
 owned_items_at-items-preserved t c =
@@ -127,8 +129,8 @@ owned_items_at-items-preserved t c =
           let turn = item_read p n l.reader r (view v) (omega (arith, was.1)) going.0 (rw (← going.1) done.ok) in (
             n - 1,
             omega (arith, was.1),
-            was.2 ∙ ap (parse_map (items_before l.found.items)) turn ∙ one_more_item l.found.items v _
-                ∙ ap (λ vs. parse_map (items_before vs) (converted of_items (items p (n - 1) r))) (sym c.in_ok-push.ensures.items),
+            was.2 ∙ ap (parse_map (items_on (items_view l.found.items))) turn ∙ one_more_item l.found.items v _
+                ∙ ap (λ vs. parse_map (items_on (items_view vs)) (converted of_items (items p (n - 1) r))) (sym c.in_ok-push.ensures.items),
           ),
       omega (arith, l.invariant.1),
     )
@@ -139,7 +141,7 @@ owned_items_at-returns-clause-ok t c m enough =
     let l = c.items in
     let was = l.invariant.0 m enough in
     let r = c.take_end_array.new.self in
-    was.2 ∙ ap (parse_map (items_before l.found.items)) (items_over p was.0 l.reader r was.1 (grind arith)) ∙ ap (λ ds. Some (ds, r)) (items_before-no_items l.found.items)
+    was.2 ∙ ap (parse_map (items_on (items_view l.found.items))) (items_over p was.0 l.reader r was.1 (grind arith)) ∙ ap (λ ds. Some (ds, r)) (items_on-no_items (items_view l.found.items))
 
 pub owned_members_at-members-init : goal.owned_members_at-members-init
 owned_members_at-members-init t c =

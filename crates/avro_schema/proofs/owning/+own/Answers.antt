@@ -1,13 +1,14 @@
 use Rattle.std.proofs.Common.{◌≡◌, ℕ, List, length, true, cond, string_bytes, sym, ap, ◌∙◌, arith, rules}
 use Rattle.std.specs.Vec.Iter.{into_iter_items}
 use Rattle.serde_json.specs.Data.{put}
-use Rattle.serde_json.specs.View.{view, members_view}
+use Rattle.serde_json.specs.View.{view, items_view, members_view}
 use Rattle.serde_json.proofs.Views.{members_view-insert_entry}
 use Rattle.avro_schema.specs.Inside.Reserved.{is_reserved}
 use Rattle.avro_schema.specs.Inside.Borrowed.{put_all, value_data}
 use Rattle.avro_schema.proofs.AttributeLemmas.{nothing_left}
-use Rattle.avro_schema.proofs.BorrowedLemmas.{item_owned, items_end, next_item, next_member}
+use Rattle.avro_schema.proofs.BorrowedLemmas.{item_owned, next_item, next_member}
 use Rattle.avro_schema.proofs.BorrowedMembers.{read_of}
+use Rattle.avro_schema.proofs.Conversions.{items_on-no_items}
 use Rattle.avro_schema.proofs.owning.+own.Goals as goal
 
 pub owned_items-owned-requires : goal.owned_items-owned-requires
@@ -33,7 +34,7 @@ owned_items-loop-item-preserved t c =
 pub owned_items-returns : goal.owned_items-returns
 owned_items-returns t c =
     let empty = nothing_left _ (sym c.in-None.ensures.steps.0 ∙ c.loop-item.invariant.1) in
-    rw (← c.into_iter-item-iterator.ensures.into_iter_gives.0) (sym (rw empty at c.loop-item.invariant.0 ∙ items_end c.loop-item.list.items))
+    rw (← c.into_iter-item-iterator.ensures.into_iter_gives.0) (sym (rw empty at c.loop-item.invariant.0 ∙ items_on-no_items (items_view c.loop-item.list.items)))
 
 pub owned_members-loop-name-preserved : goal.owned_members-loop-name-preserved
 owned_members-loop-name-preserved t c =

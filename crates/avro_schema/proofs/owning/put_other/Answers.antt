@@ -7,8 +7,8 @@ use Rattle.avro_schema.proofs.owning.put_other.Goals as goal
 
 pub returns : goal.returns
 returns c =
-    let xs = c.args.attributes.now.reserved.items in
-    let others = members_view c.args.attributes.now.others.members.entries in
+    let xs = c.args.object.now.reserved.items in
+    let others = members_view c.args.object.now.others.members.entries in
     let copied : string_bytes c.in_ok-key.key ≡ c.args.name.now = search rules in
     let added = c.in_ok-put.ensures ∙ ap (λ n. put n (view c.args.value) others) copied in
     ap (put_all (read_of xs)) added ∙ other_put xs c.args.name.now (view c.args.value) others c.requires

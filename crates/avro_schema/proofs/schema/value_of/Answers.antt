@@ -16,12 +16,12 @@ returns-in_err-value c = λ text p.
 
 pub returns-then-is_some : goal.returns-then-is_some
 returns-then-is_some c = λ text p.
-    let read : converted of_json (json.value max_depth (tokens c.args.respelt.now)) ≡ Some (value_data c.in_ok-value.value, c.value_at.new.reader) = rw c.in_ok-reader.ensures.ok at c.in_ok-value.ensures.ok in
-    let more = something_more token_of c.next.result c.value_at.new.reader c.next.new.self c.next.ensures.value (sym c.is_some.ensures ∙ c.if-is_some.true) in
+    let read : converted of_json (json.value max_depth (tokens c.args.respelt.now)) ≡ Some (value_data c.in_ok-value.value, c.tree_at.new.reader) = rw c.in_ok-reader.ensures.ok at c.in_ok-value.ensures.ok in
+    let more = something_more token_of c.next.result c.tree_at.new.reader c.next.new.self c.next.ensures.value (sym c.is_some.ensures ∙ c.if-is_some.true) in
     more_follows text c.args.respelt.now p (value_data c.in_ok-value.value) more.0 c.next.new.self (rw more.1 at read)
 
 pub returns : goal.returns
 returns c = λ text p.
-    let read : converted of_json (json.value max_depth (tokens c.args.respelt.now)) ≡ Some (value_data c.in_ok-value.value, c.value_at.new.reader) = rw c.in_ok-reader.ensures.ok at c.in_ok-value.ensures.ok in
-    let over = nothing_more token_of c.next.result c.value_at.new.reader c.next.new.self c.next.ensures.value (sym c.is_some.ensures ∙ c.if-is_some.false) in
+    let read : converted of_json (json.value max_depth (tokens c.args.respelt.now)) ≡ Some (value_data c.in_ok-value.value, c.tree_at.new.reader) = rw c.in_ok-reader.ensures.ok at c.in_ok-value.ensures.ok in
+    let over = nothing_more token_of c.next.result c.tree_at.new.reader c.next.new.self c.next.ensures.value (sym c.is_some.ensures ∙ c.if-is_some.false) in
     value_is text c.args.respelt.now p (value_data c.in_ok-value.value) (rw over at read)

@@ -1,15 +1,14 @@
-use Rattle.std.proofs.Common.{◌≡◌, ◌-◌, ◌<◌, true, [], ◌∷◌, ◌++◌, length, Some, None, Result, Ok, Err, sym, ap, ap₂, ◌∙◌, arith, rules, tests}
-use Rattle.std.specs.Prelude.{IfOk, ◌==◌}
-use Rattle.avro_schema.proofs.AttributeLemmas.{nothing_left}
+use Rattle.std.proofs.Common.{◌≡◌, ◌-◌, ◌<◌, [], ◌∷◌, ◌++◌, length, Some, None, Result, Ok, Err, sym, ap, ap₂, ◌∙◌, arith}
+use Rattle.std.specs.Prelude.{IfOk}
 use Rattle.json.specs.Token.{Token}
 use Rattle.json.specs.Json.{parse_map, after_end_array, read_key, items, members, value}
 use Rattle.json.specs.Reads.{token_of}
 use Rattle.json.proofs.Grammar.{value_is, value-begin_array, value-begin_object, read_key-shorter}
-use Rattle.serde_json.specs.Data.{array, object, item}
+use Rattle.serde_json.specs.Data.{array, object}
 use Rattle.serde_json.specs.Read.{of_json, of_items, of_members, converted}
-use Rattle.avro_schema.specs.Inside.Borrowed.{value_data, members_data}
-use Rattle.avro_schema.proofs.BorrowedLemmas.{of_Null, of_Bool, of_Number, of_Text, of_Array, of_Object, items_before, items_before-no_items, one_more_item}
-use Rattle.avro_schema.proofs.Conversions.{converted-array, converted-object, item_read, item_refused, items_over, member_read, member_refused, key_refused, members_over, none_before}
+use Rattle.avro_schema.specs.Inside.Borrowed.{value_data, items_data, items_on, object_data}
+use Rattle.avro_schema.proofs.BorrowedLemmas.{of_Null, of_Bool, of_Number, of_Text, of_Array, of_Object, one_more_item}
+use Rattle.avro_schema.proofs.Conversions.{converted-array, converted-object, item_read, item_refused, items_over, member_read, member_refused, key_refused, members_over, items_on-no_items, none_before}
 use Rattle.avro_schema.proofs.ReservedLemmas.{is_name}
 use Rattle.avro_schema.proofs.source.+source.Goals as goal
 
@@ -101,7 +100,7 @@ value_at-returns-in_ok-members_at-in-BeginObject-clause-ok t c =
 pub array_at-items-init : goal.array_at-items-init
 array_at-items-init t c =
     let all = converted of_items (items (value c.args.depth) (length c.args.reader.now) c.args.reader.now) in
-    (length c.args.reader.now, omega arith, none_before all ∙ ap (λ vs. parse_map (items_before vs) all) (sym c.new-found.ensures.items), omega arith)
+    (length c.args.reader.now, omega arith, none_before all ∙ ap (λ vs. parse_map (items_on (items_data vs)) all) (sym c.new-found.ensures.items), omega arith)
 
 pub array_at-returns-in_err-item-clause-invalid : goal.array_at-returns-in_err-item-clause-invalid
 array_at-returns-in_err-item-clause-invalid t c refused =
@@ -109,7 +108,7 @@ array_at-returns-in_err-item-clause-invalid t c refused =
     let l = c.items in
     let n = l.invariant.0 in
     let going : (after_end_array l.reader ≡ None) × (c.take_end_array.new.self ≡ l.reader) = grind arith in
-    l.invariant.2 ∙ ap (parse_map (items_before l.found.items)) (item_refused p n l.reader going.0 (rw (← going.1) (c.value_at.ensures.invalid (grind arith))))
+    l.invariant.2 ∙ ap (parse_map (items_on (items_data l.found.items))) (item_refused p n l.reader going.0 (rw (← going.1) (c.value_at.ensures.invalid (grind arith))))
 
 pub array_at-items-preserved : goal.array_at-items-preserved
 array_at-items-preserved t c =
@@ -124,8 +123,8 @@ array_at-items-preserved t c =
     let turn = item_read p n l.reader r (value_data v) (omega (arith, l.invariant.1)) going.0 (rw (← going.1) done.ok) in (
       n - 1,
       omega (arith, l.invariant.1),
-      l.invariant.2 ∙ ap (parse_map (items_before l.found.items)) turn ∙ one_more_item l.found.items v _
-          ∙ ap (λ vs. parse_map (items_before vs) (converted of_items (items p (n - 1) r))) (sym (c.in_ok-push.ensures.items ∙ ap (λ vs. vs ++ v ∷ []) c.make_room.ensures)),
+      l.invariant.2 ∙ ap (parse_map (items_on (items_data l.found.items))) turn ∙ one_more_item l.found.items v _
+          ∙ ap (λ vs. parse_map (items_on (items_data vs)) (converted of_items (items p (n - 1) r))) (sym (c.in_ok-push.ensures.items ∙ ap (λ vs. vs ++ v ∷ []) c.make_room.ensures)),
       omega (arith, l.invariant.3),
     )
 
@@ -133,37 +132,23 @@ if_ok : {T E : Type 0} {P Q : T → Type 0} (r : Result T E) → IfOk r P → ((
 if_ok (Ok x) h f = f x h
 if_ok (Err e) h f = tt
 
-pub array_at-returns-then-is_foreign-clause-ok : goal.array_at-returns-then-is_foreign-clause-ok
-array_at-returns-then-is_foreign-clause-ok t c =
+pub array_at-returns-then-budget-eq0-clause-ok : goal.array_at-returns-then-budget-eq0-clause-ok
+array_at-returns-then-budget-eq0-clause-ok t c =
     let p = value c.args.depth in
     let l = c.items in
     let n = l.invariant.0 in
     let going : (after_end_array l.reader ≡ None) × (c.take_end_array.new.self ≡ l.reader) = grind arith in
-    let done = c.in_ok-item.ensures in
-    let v = c.in_ok-item.item in
-    let r = c.value_at.new.reader in
-    let less : length r < length l.reader = rw (← going.1) done.shorter in
-    let turn = item_read p n l.reader r (value_data v) (omega (arith, l.invariant.1)) going.0 (rw (← going.1) done.ok) in
-    let nothing : (l.found.len == 0) ≡ true = sym c.is_empty.ensures ∙ c.if-is_empty.true in
-    let unread : l.found.len ≡ 0 = search (rules, tests) in
-    let first : l.found.items ≡ [] = nothing_left l.found.items (sym unread ∙ l.found.ok.0) in
-    let rest = parse_map (item (value_data v)) (converted of_items (items p (n - 1) r)) in
-    let all = l.invariant.2 ∙ ap (parse_map (items_before l.found.items)) turn ∙ ap (λ vs. parse_map (items_before vs) rest) first ∙ sym (none_before rest) in
-    if_ok c.foreign_array_at.result c.foreign_array_at.ensures.ok (λ x h. ap (parse_map array) all ∙ h (n - 1) (omega (arith, l.invariant.1)))
+    let so_far = ap (parse_map array) (l.invariant.2 ∙ ap (λ ts. parse_map (items_on (items_data l.found.items)) (converted of_items (items p n ts))) (sym going.1)) in
+    if_ok c.owned_array_at.result c.owned_array_at.ensures.ok (λ x h. so_far ∙ h n (omega (arith, l.invariant.1, ap length going.1)))
 
-pub array_at-returns-then-is_foreign-clause-invalid : goal.array_at-returns-then-is_foreign-clause-invalid
-array_at-returns-then-is_foreign-clause-invalid t c refused =
+pub array_at-returns-then-budget-eq0-clause-invalid : goal.array_at-returns-then-budget-eq0-clause-invalid
+array_at-returns-then-budget-eq0-clause-invalid t c refused =
     let p = value c.args.depth in
     let l = c.items in
     let n = l.invariant.0 in
     let going : (after_end_array l.reader ≡ None) × (c.take_end_array.new.self ≡ l.reader) = grind arith in
-    let done = c.in_ok-item.ensures in
-    let v = c.in_ok-item.item in
-    let r = c.value_at.new.reader in
-    let less : length r < length l.reader = rw (← going.1) done.shorter in
-    let turn = item_read p n l.reader r (value_data v) (omega (arith, l.invariant.1)) going.0 (rw (← going.1) done.ok) in
-    let none = c.foreign_array_at.ensures.invalid refused (n - 1) (omega (arith, l.invariant.1)) in
-    l.invariant.2 ∙ ap (parse_map (items_before l.found.items)) (turn ∙ ap (parse_map (item (value_data v))) none)
+    let none = c.owned_array_at.ensures.invalid refused n (omega (arith, l.invariant.1, ap length going.1)) in
+    l.invariant.2 ∙ ap (λ ts. parse_map (items_on (items_data l.found.items)) (converted of_items (items p n ts))) (sym going.1) ∙ ap (parse_map (items_on (items_data l.found.items))) none
 
 pub array_at-returns-clause-ok : goal.array_at-returns-clause-ok
 array_at-returns-clause-ok t c =
@@ -171,20 +156,20 @@ array_at-returns-clause-ok t c =
     let l = c.items in
     let n = l.invariant.0 in
     let r = c.take_end_array.new.self in
-    let over = l.invariant.2 ∙ ap (parse_map (items_before l.found.items)) (items_over p n l.reader r l.invariant.1 (grind arith)) ∙ ap (λ ds. Some (ds, r)) (items_before-no_items l.found.items) in
+    let over = l.invariant.2 ∙ ap (parse_map (items_on (items_data l.found.items))) (items_over p n l.reader r l.invariant.1 (grind arith)) ∙ ap (λ ds. Some (ds, r)) (items_on-no_items (items_data l.found.items)) in
     ap (parse_map array) over ∙ ap (λ d. Some (d, r)) (sym (of_Array l.found))
 
 pub members_at-members-init : goal.members_at-members-init
 members_at-members-init t c =
     let all = members (value c.args.depth) (length c.args.reader.now) c.args.reader.now in
-    (length c.args.reader.now, omega arith, ap (λ es. converted (λ ms. of_members ms es) all) (sym c.no_attributes-found.ensures), omega arith)
+    (length c.args.reader.now, omega arith, ap (λ es. converted (λ ms. of_members ms es) all) (sym c.empty_object-found.ensures), omega arith)
 
 pub members_at-returns-in_err-name-clause-invalid : goal.members_at-returns-in_err-name-clause-invalid
 members_at-returns-in_err-name-clause-invalid t c refused =
     let p = value c.args.depth in
     let l = c.members in
     let n = l.invariant.0 in
-    let old = members_data l.found in
+    let old = object_data l.found in
     l.invariant.2 ∙ key_refused p old n l.reader c.in_err-name.ensures.value
 
 pub members_at-returns-in_err-member_at-clause-invalid : goal.members_at-returns-in_err-member_at-clause-invalid
@@ -192,7 +177,7 @@ members_at-returns-in_err-member_at-clause-invalid t c refused =
     let p = value c.args.depth in
     let l = c.members in
     let n = l.invariant.0 in
-    let old = members_data l.found in
+    let old = object_data l.found in
     let k = c.in-Some.name.now in
     let s = c.next_key.new.self in
     let named : read_key l.reader ≡ Some (Some k, s) = grind arith in
@@ -203,7 +188,7 @@ members_at-members-preserved t c =
     let p = value c.args.depth in
     let l = c.members in
     let n = l.invariant.0 in
-    let old = members_data l.found in
+    let old = object_data l.found in
     let k = c.in-Some.name.now in
     let s = c.next_key.new.self in
     let named : read_key l.reader ≡ Some (Some k, s) = grind arith in
@@ -224,7 +209,7 @@ members_at-returns-clause-ok t c =
     let p = value c.args.depth in
     let l = c.members in
     let n = l.invariant.0 in
-    let old = members_data l.found in
+    let old = object_data l.found in
     l.invariant.2 ∙ members_over p old n l.reader c.next_key.new.self l.invariant.1 (grind arith)
 
 pub member_at-put_reserved-requires : goal.member_at-put_reserved-requires
