@@ -15,7 +15,8 @@ use Rattle.avro_schema.specs.Attributes.{without_all, text_in, array_in}
 use Rattle.avro_schema.specs.Inside.Distinct.{all_distinct}
 use Rattle.avro_schema.specs.Inside.Declarations.{name_keys, named_in, FieldAttributesView, field_attributes_in, field_attribute_keys, bounded}
 use Rattle.avro_schema.specs.Inside.ValueReaders.{Part, PartReader, TypeReader, parts_of, room_at}
-use Rattle.avro_schema.specs.Inside.KindNumbers.{branch_number}
+use Rattle.avro_schema.specs.Kinds.{BranchKind, branch_kind}
+use Rattle.avro_schema.specs.Inside.KindNumbers.{kind_number, branch_number}
 use Rattle.avro_schema.specs.Inside.Types.{name_at, reference_to, member_name, container_node, container_at, branch_of, union_at, field_at, field_of, record_at, by_type_kind, object_at, form_at, type_at}
 use Rattle.avro_schema.specs.Inside.ReaderResults.{AddsPart}
 use Rattle.avro_schema.proofs.Sequence.{settled}
@@ -145,13 +146,14 @@ module _ (one : PartReader ℕ) (d : Data) (known : Known) (first : ℕ) where
   unfolding branch_of
   branch_fails none = rw none refl
 
-  pub is_no_branch : (p : ℕ) (before after : List NodeView) (known2 : Known) (t : AddsPart (one d known first) p before after known2) → branch_number p t.added ≡ None → branch_of one d known first ≡ None
-  unfolding branch_of
+  pub is_no_branch : (p : ℕ) (before after : List NodeView) (known2 : Known) (t : AddsPart (one d known first) p before after known2) → branch_kind p t.added ≡ None → branch_of one d known first ≡ None
+  unfolding branch_of branch_number
   is_no_branch p before after known2 t none = rw (t.is, none) refl
 
-  pub is_branch : (p k : ℕ) (before after : List NodeView) (known2 : Known) (t : AddsPart (one d known first) p before after known2) → branch_number p t.added ≡ Some k → AddsPart (branch_of one d known first) (p, k) before after known2
-  unfolding branch_of
-  is_branch p k before after known2 t some = record { added = t.added; is = rw (t.is, some) refl; after_is = t.after_is }
+  pub is_branch : (p : ℕ) (kind : BranchKind) (before after : List NodeView) (known2 : Known) (t : AddsPart (one d known first) p before after known2) → branch_kind p t.added ≡ Some kind
+      → AddsPart (branch_of one d known first) (p, kind_number kind) before after known2
+  unfolding branch_of branch_number
+  is_branch p kind before after known2 t some = record { added = t.added; is = rw (t.is, some) refl; after_is = t.after_is }
 
 -- ---- a field
 

@@ -1,4 +1,4 @@
-//! Whether the names or kinds in a list are distinct.
+//! Whether the names or numbers in a list are distinct.
 
 ghost use Rattle.std.specs.Prelude.{◌≡◌, ◌==◌, List, ℕ, IfOk, IsTrue, true, map, string_bytes};
 ghost use Rattle.std.specs.Cmp.Lexicographic.{slice_cmp};
@@ -89,13 +89,20 @@ fn hashes_of<T: HasName>(alloc: Global, items: &[T]) -> Result<Vec<u64>, AllocEr
     Ok(hashes)
 }
 
+/// Whether no number occurs twice.
+pub fn are_numbers_distinct(numbers: Vec<u64>) -> bool
+    ensures { result ≡ all_distinct (λ a c. a == c) numbers.items }
+{
+    let mut sorted = numbers;
+    sorted.sort_unstable();
+    numbers_rise(&sorted)
+}
+
 /// Whether the hashes of the names are distinct. If so, the names are distinct, too.
 fn are_hashes_distinct<T: HasName>(alloc: Global, items: &[T]) -> Result<bool, AllocError>
     ensures { IfOk result (λ b. IsTrue b → true ≡ all_distinct bytes_eq (map T.name_bytes items.now)) }
 {
-    let mut hashes = hashes_of(alloc, items)?;
-    hashes.sort_unstable();
-    Ok(numbers_rise(&hashes))
+    Ok(are_numbers_distinct(hashes_of(alloc, items)?))
 }
 
 /// Whether no text, or no field's name, occurs twice. The texts themselves are sorted only if two
@@ -113,18 +120,4 @@ pub fn are_names_distinct<T: HasName>(alloc: Global, items: &[T]) -> Result<bool
     let mut names = item_names(alloc, items)?;
     names.sort_unstable();
     Ok(texts_rise(&names))
-}
-
-/// Whether the kinds of the branches are distinct. A branch is its place and the number of its
-/// kind.
-///
-/// # Errors
-///
-/// `AllocError` if an allocation fails.
-pub fn are_kinds_distinct(alloc: Global, branches: &[(u32, u64)]) -> Result<bool, AllocError>
-    ensures { IfOk result (λ b. b ≡ all_distinct (λ a c. a == c) (map (λ p. p.1) branches.now)) }
-{
-    let mut kinds: Vec<u64> = branches.iter().map(|branch| branch.1).collect(alloc)?;
-    kinds.sort_unstable();
-    Ok(numbers_rise(&kinds))
 }

@@ -5,6 +5,7 @@ ghost use Rattle.serde_json.specs.View.{view, items_view};
 ghost use Rattle.avro_nodes.specs.Nodes.{field_view, nodes_view};
 ghost use Rattle.avro_schema.specs.Inside.Borrowed.{value_data, items_data, members_data, list_data};
 ghost use Rattle.avro_schema.specs.Inside.ValueReaders.{parts_of};
+ghost use Rattle.avro_schema.specs.Inside.KindNumbers.{branch_view};
 ghost use Rattle.avro_schema.specs.Inside.Types.{container_at, branch_of, union_at, field_of, record_at, object_at, form_at, type_at};
 ghost use Rattle.avro_schema.specs.Inside.ReaderResults.{ReadsPart};
 ghost use Rattle.avro_schema.specs.Inside.NameTables.{known_in, HasNumber, KeepsNumbers};
@@ -13,12 +14,12 @@ use crate::attribute_map::{Attributes, Items, attributes_of, take};
 use crate::attributes::{take_items, take_text};
 use crate::borrowed::Json;
 use crate::definitions::{enum_at, fixed_at, named_of, next_place, other_attributes};
-use crate::distinct::{are_kinds_distinct, are_names_distinct};
+use crate::distinct::{are_names_distinct, are_numbers_distinct};
 use crate::error::SchemaError;
 use crate::field_attributes::field_attributes_of;
 use crate::keywords::{Container, TypeKind, type_kind_of};
 use crate::name_table::{NameTable, Namespace};
-use crate::reading::kinds::{branch_number, member_name};
+use crate::reading::kinds::{Branch, branch_kind, member_name};
 use crate::reading::names::{name_at, primitive_at, reference_to};
 use crate::reading::nodes::{blank, container_node, field_from, fill_blank};
 use avro_nodes::{Field, Node, namespace_of};
@@ -198,10 +199,11 @@ fn union_at(
     let place = next_place(nodes)?;
     nodes.push(blank(alloc))?;
     let read = branches_at(alloc, items, space, depth, nodes, known)?;
-    if !are_kinds_distinct(alloc, &read)? {
+    let kinds = read.iter().map(|branch| branch.kind_number()).collect(alloc)?;
+    if !are_numbers_distinct(kinds) {
         return Err(SchemaError::BadUnion);
     }
-    let branches = read.iter().map(|b| b.0).collect(alloc)?;
+    let branches = read.iter().map(|branch| branch.place).collect(alloc)?;
     fill_blank(nodes, place, Node::Union { branches });
     Ok(place)
 }
@@ -214,9 +216,9 @@ fn branches_at(
     depth: u32,
     nodes: &mut Vec<Node>,
     known: &mut NameTable,
-) -> Result<Vec<(u32, u64)>, SchemaError>
+) -> Result<Vec<Branch>, SchemaError>
     requires { HasNumber known.old space.now }
-    ensures read { ReadsPart (λ v. v.items) result
+    ensures read { ReadsPart (λ v. map branch_view v.items) result
         (parts_of (branch_of (type_at depth space.now.text.now)) (list_data items.entry) (known_in known.old) (length nodes.old.items))
         (nodes_view nodes.old.items) (nodes_view nodes.new.items) (known_in known.new) }
     ensures kept { OnOk result (KeepsNumbers known.old known.new) }
@@ -235,9 +237,9 @@ fn tree_branches_at(
     depth: u32,
     nodes: &mut Vec<Node>,
     known: &mut NameTable,
-) -> Result<Vec<(u32, u64)>, SchemaError>
+) -> Result<Vec<Branch>, SchemaError>
     requires { HasNumber known.old space.now }
-    ensures read { ReadsPart (λ v. v.items) result
+    ensures read { ReadsPart (λ v. map branch_view v.items) result
         (parts_of (branch_of (type_at depth space.now.text.now)) (items_data items.entry.items) (known_in known.old) (length nodes.old.items))
         (nodes_view nodes.old.items) (nodes_view nodes.new.items) (known_in known.new) }
     ensures kept { OnOk result (KeepsNumbers known.old known.new) }
@@ -257,9 +259,9 @@ fn owned_branches_at(
     depth: u32,
     nodes: &mut Vec<Node>,
     known: &mut NameTable,
-) -> Result<Vec<(u32, u64)>, SchemaError>
+) -> Result<Vec<Branch>, SchemaError>
     requires { HasNumber known.old space.now }
-    ensures read { ReadsPart (λ v. v.items) result
+    ensures read { ReadsPart (λ v. map branch_view v.items) result
         (parts_of (branch_of (type_at depth space.now.text.now)) (items_view values.items) (known_in known.old) (length nodes.old.items))
         (nodes_view nodes.old.items) (nodes_view nodes.new.items) (known_in known.new) }
     ensures kept { OnOk result (KeepsNumbers known.old known.new) }
@@ -280,19 +282,19 @@ fn branch_at(
     depth: u32,
     nodes: &mut Vec<Node>,
     known: &mut NameTable,
-) -> Result<(u32, u64), SchemaError>
+) -> Result<Branch, SchemaError>
     requires { HasNumber known.old space.now }
-    ensures read { ReadsPart (λ b. b) result
+    ensures read { ReadsPart branch_view result
         (branch_of (type_at depth space.now.text.now) (value_data value.entry) (known_in known.old) (length nodes.old.items))
         (nodes_view nodes.old.items) (nodes_view nodes.new.items) (known_in known.new) }
     ensures kept { OnOk result (KeepsNumbers known.old known.new) }
 {
     let before = nodes.len();
     let place = type_at(alloc, value, space, depth, nodes, known)?;
-    let Some(number) = branch_number(place, &nodes[before..]) else {
+    let Some(kind) = branch_kind(&nodes[before..]) else {
         return Err(SchemaError::BadUnion);
     };
-    Ok((place, number))
+    Ok(Branch { place, kind })
 }
 
 #[cycle(read)]

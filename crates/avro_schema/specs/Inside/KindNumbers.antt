@@ -4,6 +4,9 @@ use Rattle.avro_nodes.specs.declared.node.PrimitiveKind.{PrimitiveKind}
 use Rattle.avro_nodes.specs.declared.node.PrimitiveKind.TheVariants.{Null, Boolean, Int, Long, Float, Double, Bytes, Text}
 use Rattle.avro_nodes.specs.Nodes.{NodeView}
 use Rattle.avro_schema.specs.Kinds.{BranchKind, primitive_kind, array_kind, map_kind, named_kind, branch_kind}
+use Rattle.avro_schema.specs.declared.reading.kinds.Branch.{Branch}
+use Rattle.avro_schema.specs.declared.reading.kinds.BranchKind.{BranchKind as KindRead}
+use Rattle.avro_schema.specs.declared.reading.kinds.BranchKind.TheVariants.{Primitive, Array, Map, Named}
 
 abbrev pub primitive_number : PrimitiveKind → ℕ
 primitive_number Null = 0
@@ -24,3 +27,14 @@ kind_number (named_kind place) = 10 + place
 -- the number of the kind of a branch that has this place and added these nodes
 unfoldable pub branch_number : ℕ → List NodeView → Option ℕ
 branch_number place nodes = option_map kind_number (branch_kind place nodes)
+
+-- the kind of a branch at this place, as the reader has it
+abbrev pub kind_at : ℕ → KindRead → BranchKind
+kind_at place (Primitive kind) = primitive_kind kind
+kind_at place Array = array_kind
+kind_at place Map = map_kind
+kind_at place Named = named_kind place
+
+-- a branch: its place and the number of its kind
+abbrev pub branch_view : Branch → ℕ × ℕ
+branch_view b = (b.place, kind_number (kind_at b.place b.kind))

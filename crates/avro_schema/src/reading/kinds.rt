@@ -1,12 +1,30 @@
-//! The kinds of a union's branches.
+//! The branches of a union and their kinds.
 
-ghost use Rattle.std.specs.Prelude.{◌≡◌};
+ghost use Rattle.std.specs.Prelude.{◌≡◌, ℕ, option_map};
 ghost use Rattle.avro_nodes.specs.Nodes.{nodes_view};
-ghost use Rattle.avro_schema.specs.Inside.KindNumbers.{primitive_number, branch_number};
+ghost use Rattle.avro_schema.specs.Kinds.{branch_kind};
+ghost use Rattle.avro_schema.specs.Inside.KindNumbers.{primitive_number, kind_at, branch_view};
 ghost use Rattle.avro_schema.specs.Inside.Types.{member_name};
 
 use crate::keywords::Container;
 use avro_nodes::{Node, PrimitiveKind};
+
+/// The kind of a branch. A union has at most one branch of each kind.
+#[derive(Clone, Copy)]
+pub enum BranchKind {
+    Primitive(PrimitiveKind),
+    Array,
+    Map,
+    /// a named type, which is a kind of its own
+    Named,
+}
+
+/// A branch of a union.
+#[derive(Clone, Copy)]
+pub struct Branch {
+    pub place: u32,
+    pub kind: BranchKind,
+}
 
 /// The number of a primitive type.
 fn primitive_number(kind: PrimitiveKind) -> u32
@@ -24,22 +42,33 @@ fn primitive_number(kind: PrimitiveKind) -> u32
     }
 }
 
-/// The number of the kind of a branch that has this place and added these nodes. Two branches with
-/// the same number can't be in one union. `None` if the branch is a union.
-#[tactic(auto, unfolding(crate::specs::Inside::KindNumbers::branch_number, crate::specs::Kinds::branch_kind,))]
-pub fn branch_number(place: u32, added: &[Node]) -> Option<u64>
-    ensures { result ≡ branch_number place (nodes_view added.now) }
+impl Branch {
+    /// The number of the branch's kind. Two branches with the same number can't be in one union.
+    pub fn kind_number(&self) -> u64
+        ensures { result ≡ (branch_view self.now).1 }
+    {
+        match self.kind {
+            BranchKind::Primitive(kind) => u64::from(primitive_number(kind)),
+            BranchKind::Array => 8,
+            BranchKind::Map => 9,
+            BranchKind::Named => 10 + u64::from(self.place),
+        }
+    }
+}
+
+/// The kind of a branch that added these nodes. `None` if the branch is a union.
+#[tactic(auto, unfolding(crate::specs::Kinds::branch_kind))]
+pub fn branch_kind(added: &[Node]) -> Option<BranchKind>
+    ensures { (place : ℕ) → option_map (kind_at place) result ≡ branch_kind place (nodes_view added.now) }
 {
     match added.first() {
-        None => Some(10 + u64::from(place)),
+        None => Some(BranchKind::Named),
         Some(node) => match node {
-            Node::Primitive { kind, .. } => Some(u64::from(primitive_number(*kind))),
-            Node::Array { .. } => Some(8),
-            Node::Map { .. } => Some(9),
+            Node::Primitive { kind, .. } => Some(BranchKind::Primitive(*kind)),
+            Node::Array { .. } => Some(BranchKind::Array),
+            Node::Map { .. } => Some(BranchKind::Map),
             Node::Union { .. } => None,
-            Node::Enum { .. } | Node::Fixed { .. } | Node::Rec { .. } => {
-                Some(10 + u64::from(place))
-            }
+            Node::Enum { .. } | Node::Fixed { .. } | Node::Rec { .. } => Some(BranchKind::Named),
         },
     }
 }

@@ -1,15 +1,10 @@
-use Rattle.std.proofs.Common.{◌∙◌, nat_cmp, sym, ap}
-use Rattle.std.proofs.lemmas.List.{map-id}
-use Rattle.std.specs.Cmp.{nat_cmp_total}
+use Rattle.std.proofs.Common.{◌∙◌, sym, ap}
 use Rattle.std.specs.Prelude.{◌==◌}
 use Rattle.avro_schema.specs.Inside.Distinct.{all_distinct}
-use Rattle.avro_schema.proofs.DistinctLemmas.{rise_differ, numbers_level, differ_by_hash}
+use Rattle.avro_schema.proofs.DistinctLemmas.{differ_by_hash}
 use Rattle.avro_schema.proofs.distinct.are_hashes_distinct.Goals as goal
 
 pub returns : goal.returns
 returns g c rises =
-    let told =
-    rise_differ nat_cmp nat_cmp_total (λ a b. a == b) numbers_level (λ x. x) 0 c.in_ok-hashes.hashes.items c.sort_unstable.new.self.items c.numbers_rise.result
-    c.sort_unstable.ensures.permutation c.sort_unstable.ensures.sorted (rw c.deref.ensures.value at c.numbers_rise.ensures)
-    ∙ ap (all_distinct (λ a b. a == b)) (map-id c.in_ok-hashes.hashes.items ∙ c.in_ok-hashes.ensures) in
+    let told = c.are_numbers_distinct.ensures ∙ ap (all_distinct (λ a b. a == b)) c.in_ok-hashes_of.ensures in
     sym (differ_by_hash g.T.HasName.name_bytes c.args.items.now (sym told ∙ rises))

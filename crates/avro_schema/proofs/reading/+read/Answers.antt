@@ -1,4 +1,5 @@
-use Rattle.std.proofs.Common.{◌≡◌, length, map, option_map, string_bytes, bytes_eq, sym, ap, ◌∙◌, arith, rules}
+use mathlib.Core.List.{map-map}
+use Rattle.std.proofs.Common.{◌≡◌, ℕ, length, map, option_map, string_bytes, bytes_eq, sym, ap, ◌∙◌, arith, rules}
 use Rattle.std.proofs.lemmas.List.{map_push}
 use Rattle.serde_json.specs.Data.{null, boolean, number, string, array, object}
 use Rattle.serde_json.specs.View.{view, number_view}
@@ -6,7 +7,9 @@ use Rattle.avro_schema.specs.Inside.Borrowed.{value_data, items_data, object_dat
 use Rattle.avro_schema.proofs.BorrowedLemmas.{of_Null, of_Bool, of_Text, of_Array, of_Object, of_Owned, of_Number}
 use Rattle.avro_nodes.specs.Nodes.{field_view}
 use Rattle.avro_nodes.specs.Names.{namespace_of}
-use Rattle.avro_schema.specs.Inside.KindNumbers.{branch_number}
+use Rattle.avro_schema.specs.Kinds.{branch_kind}
+use Rattle.avro_schema.specs.Inside.KindNumbers.{branch_view}
+use Rattle.std.specs.Prelude.{◌==◌}
 use Rattle.avro_schema.specs.Inside.Distinct.{all_distinct}
 use Rattle.avro_schema.proofs.AttributeLemmas.{nothing_left}
 use Rattle.avro_schema.proofs.BorrowedMembers.{key_reserved}
@@ -159,13 +162,13 @@ pub branch_at-returns-in_default-clause-read : goal.branch_at-returns-in_default
 branch_at-returns-in_default-clause-read t c =
     let found = c.in_ok-place.ensures.read in
     let added = new_nodes c.args.nodes.now.items c.type_at.new.nodes.items found.added c.len-before.result found.after_is (c.len-before.ensures ∙ c.args.nodes.now.ok.0) in
-    is_no_branch _ _ _ _ _ _ _ _ found (ap (branch_number c.in_ok-place.place) (sym added) ∙ (rw c.deref.ensures.value at (sym c.in_default.ensures)))
+    is_no_branch _ _ _ _ _ _ _ _ found (ap (branch_kind c.in_ok-place.place) (sym added) ∙ (rw c.deref.ensures.value at (sym (c.in_default.ensures c.in_ok-place.place))))
 
 pub branch_at-returns-clause-read : goal.branch_at-returns-clause-read
 branch_at-returns-clause-read t c =
     let found = c.in_ok-place.ensures.read in
     let added = new_nodes c.args.nodes.now.items c.type_at.new.nodes.items found.added c.len-before.result found.after_is (c.len-before.ensures ∙ c.args.nodes.now.ok.0) in
-    is_branch _ _ _ _ _ _ _ _ _ found (ap (branch_number c.in_ok-place.place) (sym added) ∙ (rw c.deref.ensures.value at (sym c.in-Some.ensures)))
+    is_branch _ _ _ _ _ _ _ _ _ found (ap (branch_kind c.in_ok-place.place) (sym added) ∙ (rw c.deref.ensures.value at (sym (c.in-Some.ensures c.in_ok-place.place))))
 
 pub tree_branches_at-loop-item-init : goal.tree_branches_at-loop-item-init
 tree_branches_at-loop-item-init t c = (rw c.in_ok-branches.ensures.items (at_start _ _ _ _ _), search rules, keeps_same c.args.known.now)
@@ -185,7 +188,8 @@ tree_branches_at-loop-item-preserved t c =
     let longer = c.in-Some.ensures.steps.1 in
     let short = ap length c.in-Some.ensures.steps.0 in
     let was = c.loop-item.invariant.1 in (
-      rw c.in_ok-push.ensures.items (goes_on _ _ _ _ _ _ _ _ _ _ _ _ _ _ _ at c.in_ok-branch_at.ensures.read (sym (length-nodes _)) (sym (length-nodes _))),
+      rw (c.in_ok-push.ensures.items, map_push branch_view c.loop-item.branches.items c.in_ok-branch_at.field-0)
+          (goes_on _ _ _ _ _ _ _ _ _ _ _ _ _ _ _ at c.in_ok-branch_at.ensures.read (sym (length-nodes _)) (sym (length-nodes _))),
       omega arith,
       keeps_then c.args.known.now c.loop-item.known c.branch_at.new.known c.loop-item.invariant.2 c.in_ok-branch_at.ensures.kept,
     )
@@ -213,7 +217,8 @@ owned_branches_at-loop-value-preserved t c =
     let longer = c.in-Some.ensures.steps.1 in
     let short = ap length c.in-Some.ensures.steps.0 in
     let was = c.loop-value.invariant.1 in (
-      rw c.in_ok-push.ensures.items (goes_on _ _ _ _ _ _ _ _ _ _ _ _ _ _ _ at (rw (of_Owned c.in-Some.value) at c.in_ok-branch_at.ensures.read) (sym (length-nodes _)) (sym (length-nodes _))),
+      rw (c.in_ok-push.ensures.items, map_push branch_view c.loop-value.branches.items c.in_ok-branch_at.field-0)
+          (goes_on _ _ _ _ _ _ _ _ _ _ _ _ _ _ _ at (rw (of_Owned c.in-Some.value) at c.in_ok-branch_at.ensures.read) (sym (length-nodes _)) (sym (length-nodes _))),
       omega arith,
       keeps_then c.args.known.now c.loop-value.known c.branch_at.new.known c.loop-value.invariant.2 c.in_ok-branch_at.ensures.kept,
     )
@@ -231,10 +236,11 @@ union_at-returns-in_err-read-clause-read t c =
     let next = one_more _ _ _ c.in_ok-push.ensures.items in
     reads_exit _ _ _ _ _ _ _ c.from_residual-in_err-read.ensures.1 (fails_from _ _ _ (branches_fail _ _ _ _ _ c.in_ok-place.ensures.room) (rw next at c.in_err-read.ensures.read))
 
-pub union_at-returns-then-not-branch-clause-read : goal.union_at-returns-then-not-branch-clause-read
-union_at-returns-then-not-branch-clause-read t c =
+pub union_at-returns-then-not-are_numbers_distinct-clause-read : goal.union_at-returns-then-not-are_numbers_distinct-clause-read
+union_at-returns-then-not-are_numbers_distinct-clause-read t c =
     let next = one_more _ _ _ c.in_ok-push.ensures.items in
-    let alike = rw c.deref.ensures.value at (sym c.in_ok-are_kinds_distinct.ensures ∙ c.if-not-branch.true) in
+    let kinds : c.in_ok-kinds.kinds.items ≡ map (λ b. (branch_view b).1) c.in_ok-read.read.items = search rules in
+    let alike = ap (all_distinct (λ a b. a == b)) (map-map (λ (b : ℕ × ℕ). b.1) branch_view c.in_ok-read.read.items ∙ sym kinds) ∙ sym c.are_numbers_distinct.ensures ∙ c.if-not-are_numbers_distinct.true in
     branches_alike _ _ _ _ _ c.in_ok-place.ensures.room _ _ _ _ (rw next at c.in_ok-read.ensures.read) alike
 
 pub union_at-fill_blank-requires : goal.union_at-fill_blank-requires
@@ -245,9 +251,11 @@ union_at-fill_blank-requires t c =
 pub union_at-returns-clause-read : goal.union_at-returns-clause-read
 union_at-returns-clause-read t c =
     let next = one_more _ _ _ c.in_ok-push.ensures.items in
-    let differ = rw c.deref.ensures.value at (sym c.in_ok-are_kinds_distinct.ensures ∙ c.if-not-branch.false) in
-    let places : c.in_ok-branches.branches.items ≡ map (λ b. b.0) c.in_ok-read.read.items = search rules in
-    rw (c.fill_blank.ensures, places)
+    let kinds : c.in_ok-kinds.kinds.items ≡ map (λ b. (branch_view b).1) c.in_ok-read.read.items = search rules in
+    let differ = ap (all_distinct (λ a b. a == b)) (map-map (λ (b : ℕ × ℕ). b.1) branch_view c.in_ok-read.read.items ∙ sym kinds) ∙ sym c.are_numbers_distinct.ensures ∙ c.if-not-are_numbers_distinct.false in
+    let places : c.in_ok-branches.branches.items ≡ map (λ b. b.place) c.in_ok-read.read.items = search rules in
+    let branches = places ∙ sym (map-map (λ (b : ℕ × ℕ). b.0) branch_view c.in_ok-read.read.items) in
+    rw (c.fill_blank.ensures, branches)
     (union_done _ _ _ _ _ c.in_ok-place.ensures.room _ _ _ _ _ _ (c.in_ok-place.ensures.place ∙ sym (length-nodes _)) (nodes_push _ _ _ c.in_ok-push.ensures.items) (rw next at c.in_ok-read.ensures.read) differ)
 
 -- ---- a field

@@ -3,6 +3,7 @@ use Rattle.std.specs.Vec.Iter.{into_iter_items, into_iter_len}
 use Rattle.serde_json.specs.View.{items_view}
 use Rattle.avro_schema.specs.Inside.Borrowed.{items_data}
 use Rattle.avro_nodes.specs.Nodes.{field_view, nodes_view}
+use Rattle.avro_schema.specs.Inside.KindNumbers.{branch_view}
 use Rattle.avro_schema.specs.Inside.Types.{branch_of, field_of, type_at}
 use Rattle.avro_schema.specs.Inside.NameTables.{known_in, KeepsNumbers}
 use Rattle.avro_schema.proofs.Sequence.{Going}
@@ -53,14 +54,14 @@ decreases-owned_type_at l = 8 * l.depth + 6
 abbrev pub invariant-tree_branches_at-loop-item : goal.invariant-tree_branches_at-loop-item
 invariant-tree_branches_at-loop-item l =
     Going (branch_of (type_at l.depth l.space.text.now)) (items_data (into_iter_items l.initial.item-iterator)) (known_in l.initial.known) (length l.initial.nodes.items) (nodes_view l.initial.nodes.items)
-    l.branches.items (nodes_view l.nodes.items) (known_in l.known) (length l.nodes.items) (items_data (into_iter_items l.item-iterator))
+    (map branch_view l.branches.items) (nodes_view l.nodes.items) (known_in l.known) (length l.nodes.items) (items_data (into_iter_items l.item-iterator))
     × (into_iter_len l.item-iterator ≡ length (into_iter_items l.item-iterator))
     × KeepsNumbers l.initial.known l.known
 
 abbrev pub invariant-owned_branches_at-loop-value : goal.invariant-owned_branches_at-loop-value
 invariant-owned_branches_at-loop-value l =
     Going (branch_of (type_at l.depth l.space.text.now)) (items_view (into_iter_items l.initial.value-iterator)) (known_in l.initial.known) (length l.initial.nodes.items) (nodes_view l.initial.nodes.items)
-    l.branches.items (nodes_view l.nodes.items) (known_in l.known) (length l.nodes.items) (items_view (into_iter_items l.value-iterator))
+    (map branch_view l.branches.items) (nodes_view l.nodes.items) (known_in l.known) (length l.nodes.items) (items_view (into_iter_items l.value-iterator))
     × (into_iter_len l.value-iterator ≡ length (into_iter_items l.value-iterator))
     × KeepsNumbers l.initial.known l.known
 
