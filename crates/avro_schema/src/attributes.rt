@@ -151,13 +151,7 @@ fn listed_name(
     }
 }
 
-/// The names that the items of an array give: full names of aliases in the namespace, or simple
-/// names if there is no namespace.
-///
-/// # Errors
-///
-/// `BadShape` if an item isn't a string, `BadName` if it isn't such a name, and `OutOfMemory` if
-/// allocation fails.
+/// `names_in` for items of the tree.
 fn names_of(
     alloc: Global,
     items: Vec<Json<'_>>,
@@ -174,7 +168,7 @@ fn names_of(
     Ok(names)
 }
 
-/// The same for owned values.
+/// `names_in` for owned values.
 fn names_of_values(
     alloc: Global,
     values: Vec<Value>,
@@ -193,11 +187,13 @@ fn names_of_values(
     Ok(names)
 }
 
-/// The names that the items of an array give.
+/// The names that the items of an array give: full names of aliases in the namespace, or simple
+/// names if there is no namespace.
 ///
 /// # Errors
 ///
-/// The errors of `names_of`.
+/// `BadShape` if an item isn't a string, `BadName` if it isn't such a name, and `OutOfMemory` if
+/// allocation fails.
 pub fn names_in(
     alloc: Global,
     items: Items<'_>,
@@ -216,7 +212,7 @@ pub fn names_in(
 ///
 /// # Errors
 ///
-/// `BadShape` if the attribute isn't an array, and the errors of `names_of`.
+/// `BadShape` if the attribute isn't an array, and the errors of `names_in`.
 pub fn names_if_any(
     alloc: Global,
     attribute: Option<Json<'_>>,

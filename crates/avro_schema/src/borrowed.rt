@@ -13,7 +13,8 @@ use crate::others::OtherMembers;
 use serde_json::{Number, Value};
 use std::alloc::{AllocError, Global};
 
-/// A JSON value. Its strings borrow from the text, except those of `Owned`.
+/// A JSON value. Its strings borrow from the text, except those of `Owned` and of an object's other
+/// members.
 #[derive(Drop)]
 pub enum Json<'a> {
     Null,
@@ -22,7 +23,7 @@ pub enum Json<'a> {
     Text(&'a str),
     Array(Vec<Json<'a>>),
     Object(Object<(&'a str, Json<'a>)>),
-    /// a `serde_json` value, usually one for which the tree had no budget
+    /// a `serde_json` value: one for which the tree had no budget, or a part of such a value
     Owned(Value),
 }
 
@@ -155,6 +156,10 @@ pub fn empty_object<'a>(alloc: Global) -> TreeObject<'a>
 
 /// Reserves room for two values in a list that has no room yet. Most objects have one or two
 /// reserved members, and most unions have two branches.
+///
+/// # Errors
+///
+/// `AllocError` if allocation fails.
 pub fn make_room<T>(list: &mut Vec<T>) -> Result<(), AllocError>
     ensures { list.new.items ≡ list.old.items }
 {

@@ -19,7 +19,7 @@ use std::alloc::{AllocError, Global};
 ///
 /// `AllocError` if allocation fails.
 #[cycle(own)]
-pub fn owned(alloc: Global, value: Json<'_>) -> Result<Value, AllocError>
+fn owned(alloc: Global, value: Json<'_>) -> Result<Value, AllocError>
     ensures { IfOk result (λ v. view v ≡ value_data value.entry) }
 {
     match value {

@@ -199,7 +199,10 @@ fn union_at(
     let place = next_place(nodes)?;
     nodes.push(blank(alloc))?;
     let read = branches_at(alloc, items, space, depth, nodes, known)?;
-    let kinds = read.iter().map(|branch| branch.kind_number()).collect(alloc)?;
+    let kinds = read
+        .iter()
+        .map(|branch| branch.kind_number())
+        .collect(alloc)?;
     if !are_numbers_distinct(kinds) {
         return Err(SchemaError::BadUnion);
     }

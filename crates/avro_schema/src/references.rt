@@ -4,7 +4,6 @@ ghost use Rattle.std.specs.Prelude.{◌≡◌, IsTrue, option_map};
 ghost use Rattle.serde_json.specs.Find.{get_member, as_str, as_array, as_object};
 ghost use Rattle.serde_json.specs.View.{view, members_view};
 ghost use Rattle.avro_schema.specs.Inside.Reserved.{is_reserved_name};
-ghost use Rattle.avro_schema.specs.Inside.Borrowed.{value_data};
 ghost use Rattle.avro_schema.specs.Inside.References.{ref_data, items_ref_data, object_ref_data};
 
 use crate::borrowed;
@@ -89,7 +88,7 @@ pub fn object_of<'t, 'a>(value: ValueRef<'t, 'a>) -> Option<ObjectRef<'t, 'a>>
     }
 }
 
-/// The member of an owned object with this name.
+/// The value of the member with this name, in an owned object.
 pub fn member_of<'a>(members: &'a Members, key: &str) -> Option<&'a Value>
     ensures { option_map (λ v. view v.now) result
         ≡ get_member key.now (members_view members.now.entries) }

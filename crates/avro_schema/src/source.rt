@@ -1,7 +1,7 @@
 //! Reads a schema text as a tree of JSON values that borrow from it. The tree has a budget. Once it
 //! is spent, all further values are read as `serde_json` values.
 
-ghost use Rattle.std.specs.Prelude.{◌≡◌, ◌<◌, ◌≤◌, ℕ, true, Some, None, Err, IfOk, OnOk, length};
+ghost use Rattle.std.specs.Prelude.{◌≡◌, ◌<◌, ◌≤◌, ℕ, Some, None, Err, IfOk, OnOk, length};
 ghost use Rattle.json.specs.Json.{value, items, members, parse_map};
 ghost use Rattle.serde_json.specs.Data.{Data, array, no_members, put};
 ghost use Rattle.serde_json.specs.Read.{of_json, of_items, of_members, converted};
@@ -17,8 +17,8 @@ use json::{Reader, Token};
 use serde_json::Value;
 use std::alloc::Global;
 
-/// Where a value is in the text. An object may be a record unless an earlier `type` of it is
-/// something other than `"record"`.
+/// Where a value is in the text. An object may be a record if its `type` so far is missing or
+/// `"record"`.
 #[derive(Clone, Copy)]
 enum Position {
     /// the member `fields` of an object that may be a record
@@ -49,8 +49,7 @@ fn position_after(position: Position, item: &Json<'_>) -> Position {
     }
 }
 
-/// The position of the member with this reserved name of an object that has the members `found` so
-/// far.
+/// The position of the member `key` of an object whose members so far are `found`.
 fn position_of_member(key: &str, found: &TreeObject<'_>) -> Position {
     if key != "fields" {
         return Position::Elsewhere;
@@ -75,8 +74,9 @@ fn after_value(budget: usize, position: Position) -> usize
     }
 }
 
-/// Reads a value as a tree. `budget` limits the number of objects and of items of arrays in it: an
-/// object among other items costs 40, other items and objects cost 20, and a field costs 2.
+/// Reads a value as a tree. `budget` limits the number of objects and of items of arrays in it: a
+/// field costs 2, another object in an array 40, and any other item or object 20. It changes only how
+/// much reading takes, so no contract mentions it.
 ///
 /// # Errors
 ///
@@ -191,7 +191,8 @@ fn array_at<'a>(
         }
         let item = value_at(alloc, reader, depth, position, budget)?;
         position = position_after(position, &item);
-        // `value_at` counted an object already. An item that is no field counts like other items.
+        // `value_at` has already charged for an object. This charges for the item. It costs as little
+        // as a field only if it is an object.
         *budget = after_value(*budget, position);
         make_room(&mut found)?;
         found.push(item)?;

@@ -9,13 +9,14 @@ ghost use Rattle.avro_schema.specs.Inside.Types.{member_name};
 use crate::keywords::Container;
 use avro_nodes::{Node, PrimitiveKind};
 
-/// The kind of a branch. A union has at most one branch of each kind.
+/// What kind of type a branch is. A union has at most one branch of each primitive type, one array,
+/// one map, and any number of different named types.
 #[derive(Clone, Copy)]
 pub enum BranchKind {
     Primitive(PrimitiveKind),
     Array,
     Map,
-    /// a named type, which is a kind of its own
+    /// a named type, which the branch's place identifies
     Named,
 }
 
