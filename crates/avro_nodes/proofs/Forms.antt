@@ -11,11 +11,11 @@ use Rattle.avro_nodes.specs.declared.node.Order.TheVariants.{Ascending, Descendi
 use Rattle.avro_nodes.specs.Names.{has_dot}
 use Rattle.avro_nodes.specs.Nodes.{NamedView, FieldView}
 use Rattle.avro_nodes.specs.Identity.{texts, with_text, with_aliases, with_default, with_order, with_namespace, enum_value, fixed_value, record_value, field_value}
-use Rattle.avro_nodes.specs.Inside.Objects.{Attribute, EndsObject, merged, AreOrdered, put_attribute, put_attributes, some_texts, order_text, null_namespace, record_end}
+use Rattle.avro_nodes.specs.Inside.Objects.{Attribute, EndsObject, merged, AreOrdered, put_attribute, put_attributes, texts_value, order_value, namespace_value, record_end}
 use Rattle.avro_nodes.proofs.Merged.{ascending}
 use Rattle.avro_nodes.proofs.Written.{object_merged}
 
-put_aliases : (ts : List (List ℕ)) (ms : Members) → put_attribute (codes "aliases", some_texts ts) ms ≡ with_aliases ts ms
+put_aliases : (ts : List (List ℕ)) (ms : Members) → put_attribute (codes "aliases", texts_value ts) ms ≡ with_aliases ts ms
 put_aliases [] ms = refl
 put_aliases (t ∷ ts) ms = refl
 
@@ -23,22 +23,22 @@ put_default : (o : Option Data) (ms : Members) → put_attribute (codes "default
 put_default None ms = refl
 put_default (Some d) ms = refl
 
-put_order : (o : Order) (ms : Members) → put_attribute (codes "order", order_text o) ms ≡ with_order o ms
+put_order : (o : Order) (ms : Members) → put_attribute (codes "order", order_value o) ms ≡ with_order o ms
 put_order Ascending ms = refl
 put_order Descending ms = refl
 put_order Ignore ms = refl
 
-put_namespace_at : (b : Bool) (c : ℕ) (enclosing name : List ℕ) (ms : Members) → has_dot name ≡ b → put_attribute (codes "namespace", null_namespace (c ∷ enclosing) name) ms ≡ with_namespace (c ∷ enclosing) name ms
+put_namespace_at : (b : Bool) (c : ℕ) (enclosing name : List ℕ) (ms : Members) → has_dot name ≡ b → put_attribute (codes "namespace", namespace_value (c ∷ enclosing) name) ms ≡ with_namespace (c ∷ enclosing) name ms
 put_namespace_at true c enclosing name ms e = rw e refl
 put_namespace_at false c enclosing name ms e = rw e refl
 
-put_namespace : (enclosing name : List ℕ) (ms : Members) → put_attribute (codes "namespace", null_namespace enclosing name) ms ≡ with_namespace enclosing name ms
+put_namespace : (enclosing name : List ℕ) (ms : Members) → put_attribute (codes "namespace", namespace_value enclosing name) ms ≡ with_namespace enclosing name ms
 put_namespace [] name ms = refl
 put_namespace (c ∷ enclosing) name ms = put_namespace_at (has_dot name) c enclosing name ms refl
 
 abbrev pub enum_attributes : List ℕ → NamedView → List (List ℕ) → Option (List ℕ) → List Attribute
 enum_attributes enclosing named symbols fallback =
-    (codes "aliases", some_texts named.aliases) ∷ (codes "default", option_map string fallback) ∷ (codes "name", Some (string named.name)) ∷ (codes "namespace", null_namespace enclosing named.name)
+    (codes "aliases", texts_value named.aliases) ∷ (codes "default", option_map string fallback) ∷ (codes "name", Some (string named.name)) ∷ (codes "namespace", namespace_value enclosing named.name)
     ∷ (codes "symbols", Some (array (texts symbols))) ∷ (codes "type", Some (string (codes "enum"))) ∷ []
 
 pub enum_put : (enclosing : List ℕ) (named : NamedView) (symbols : List (List ℕ)) (fallback : Option (List ℕ)) (extra : Members) → object (put_attributes (enum_attributes enclosing named symbols fallback) extra) ≡ enum_value enclosing named symbols fallback extra
@@ -49,7 +49,7 @@ enum_put enclosing named symbols fallback extra =
 
 abbrev pub fixed_attributes : List ℕ → NamedView → ℕ → List Attribute
 fixed_attributes enclosing named size =
-    (codes "aliases", some_texts named.aliases) ∷ (codes "name", Some (string named.name)) ∷ (codes "namespace", null_namespace enclosing named.name) ∷ (codes "size", Some (number (unsigned size)))
+    (codes "aliases", texts_value named.aliases) ∷ (codes "name", Some (string named.name)) ∷ (codes "namespace", namespace_value enclosing named.name) ∷ (codes "size", Some (number (unsigned size)))
     ∷ (codes "type", Some (string (codes "fixed"))) ∷ []
 
 pub fixed_put : (enclosing : List ℕ) (named : NamedView) (size : ℕ) (extra : Members) → object (put_attributes (fixed_attributes enclosing named size) extra) ≡ fixed_value enclosing named size extra
@@ -58,7 +58,7 @@ fixed_put enclosing named size extra =
     ap object (put_aliases named.aliases _ ∙ ap (λ (ms : Members). with_aliases named.aliases (with_text (codes "name") named.name ms)) (put_namespace enclosing named.name after))
 
 abbrev pub record_attributes : List ℕ → NamedView → Items → List Attribute
-record_attributes enclosing named fields = (codes "aliases", some_texts named.aliases) ∷ (codes "fields", Some (array fields)) ∷ record_end enclosing named.name
+record_attributes enclosing named fields = (codes "aliases", texts_value named.aliases) ∷ (codes "fields", Some (array fields)) ∷ record_end enclosing named.name
 
 pub record_put : (enclosing : List ℕ) (named : NamedView) (fields : Items) (extra : Members) → object (put_attributes (record_attributes enclosing named fields) extra) ≡ record_value enclosing named fields extra
 record_put enclosing named fields extra =
@@ -68,7 +68,7 @@ record_put enclosing named fields extra =
 
 abbrev pub field_attributes : FieldView → Data → List Attribute
 field_attributes f type =
-    (codes "aliases", some_texts f.aliases) ∷ (codes "default", f.value) ∷ (codes "name", Some (string f.name)) ∷ (codes "order", order_text f.order) ∷ (codes "type", Some type) ∷ []
+    (codes "aliases", texts_value f.aliases) ∷ (codes "default", f.value) ∷ (codes "name", Some (string f.name)) ∷ (codes "order", order_value f.order) ∷ (codes "type", Some type) ∷ []
 
 pub field_put : (f : FieldView) (type : Data) → object (put_attributes (field_attributes f type) f.extra) ≡ field_value f type
 field_put f type =

@@ -12,7 +12,7 @@ use Rattle.json.specs.Word.{is_operator, is_space, head, ends_word, after_number
 use Rattle.json.specs.Lex.{Lexeme, token, comma, colon, Class, quote, backslash, operator, space, class, operator_lexeme, string_token, Mode, between, in_word, in_string, in_escape, lex_byte, lex}
 use Rattle.json.specs.Lex as lexer
 use Rattle.json.proofs.Printed.Numbers.{in_word-ended}
-use Rattle.avro_nodes.specs.Plain.{Quoting, Outside, Inside, Escaped, after, is_number_char, pieces, begins_number}
+use Rattle.avro_nodes.specs.Plain.{StringState, Outside, Inside, Escaped, next_state, is_number_char, pieces, begins_number}
 use Rattle.avro_nodes.proofs.Runs.{no_number_next}
 use Rattle.avro_nodes.proofs.Unchanged.{Stops, run_copies}
 use Rattle.avro_nodes.proofs.Respelt.{IsWholeText, AllGood}
@@ -125,8 +125,8 @@ abbrev Passed : List ℕ → Type 0
 Passed name = (rest : List ℕ) → Stops rest → (lex in_word (drop 1 (name ++ rest)) ≡ lex in_word rest) × (AllGood (pieces Outside (name ++ rest)) → AllGood (pieces Outside rest))
 
 -- after a byte that is no number character
-other_good : (c : ℕ) (cs : List ℕ) → is_number_char c ≡ false → after Outside c ≡ Outside → AllGood (pieces Outside (c ∷ cs)) → AllGood (pieces Outside cs)
-other_good c cs e f g = subst (λ (q : Quoting). AllGood (pieces q cs)) f (subst AllGood (no_number_next c cs e) g)
+other_good : (c : ℕ) (cs : List ℕ) → is_number_char c ≡ false → next_state Outside c ≡ Outside → AllGood (pieces Outside (c ∷ cs)) → AllGood (pieces Outside cs)
+other_good c cs e f g = subst (λ (q : StringState). AllGood (pieces q cs)) f (subst AllGood (no_number_next c cs e) g)
 
 -- after an `e` that ends a literal
 e_good : (rest : List ℕ) → Stops rest → AllGood (pieces Outside (101 ∷ rest)) → AllGood (pieces Outside rest)
@@ -197,10 +197,10 @@ class_by q b o s = cond q quote (cond b backslash (cond o operator (cond s space
 
 -- a byte outside the strings, before a rest that is fine
 module _ (c : ℕ) (cs : List ℕ) (good : AllGood (pieces Outside (c ∷ cs))) (on : Onward (c ∷ cs)) (inside : AllGood (pieces Inside cs) → Fine (lex in_string cs)) where
-  step_out : (q : Quoting) → is_number_char c ≡ false → after Outside c ≡ q → AllGood (pieces q cs)
-  step_out q e f = subst (λ (p : Quoting). AllGood (pieces p cs)) f (subst AllGood (no_number_next c cs e) good)
+  step_out : (q : StringState) → is_number_char c ≡ false → next_state Outside c ≡ q → AllGood (pieces q cs)
+  step_out q e f = subst (λ (p : StringState). AllGood (pieces p cs)) f (subst AllGood (no_number_next c cs e) good)
 
-  stays : (c == 34) ≡ false → after Outside c ≡ Outside
+  stays : (c == 34) ≡ false → next_state Outside c ≡ Outside
   stays e = rw e refl
 
   fine_byte : (q b o s : Bool) → (c == 34) ≡ q → (c == 92) ≡ b → is_operator c ≡ o → is_space c ≡ s → Fine (lex_byte between (class_by q b o s) c cs (λ m. lex m cs))
@@ -211,10 +211,10 @@ module _ (c : ℕ) (cs : List ℕ) (good : AllGood (pieces Outside (c ∷ cs))) 
   fine_byte false false false false eq eb eo es = fine_word c cs (rw (eo, es) refl) good on
 
 -- a byte inside a string, before a rest that is fine
-module _ (c : ℕ) (cs : List ℕ) (good : AllGood (pieces (after Inside c) cs)) (outside : AllGood (pieces Outside cs) → Fine (lex between cs)) (inside : AllGood (pieces Inside cs) → Fine (lex in_string cs))
+module _ (c : ℕ) (cs : List ℕ) (good : AllGood (pieces (next_state Inside c) cs)) (outside : AllGood (pieces Outside cs) → Fine (lex between cs)) (inside : AllGood (pieces Inside cs) → Fine (lex in_string cs))
     (escaped : AllGood (pieces Escaped cs) → Fine (lex in_escape cs)) where
-  into : (q : Quoting) → after Inside c ≡ q → AllGood (pieces q cs)
-  into q e = subst (λ (p : Quoting). AllGood (pieces p cs)) e good
+  into : (q : StringState) → next_state Inside c ≡ q → AllGood (pieces q cs)
+  into q e = subst (λ (p : StringState). AllGood (pieces p cs)) e good
 
   fine_letter : (q b o s : Bool) → (c == 34) ≡ q → (c == 92) ≡ b → Fine (lex_byte in_string (class_by q b o s) c cs (λ m. lex m cs))
   fine_letter true b o s eq eb = outside (into Outside (rw eq refl))

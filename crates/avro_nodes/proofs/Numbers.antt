@@ -10,7 +10,7 @@ use Rattle.std.proofs.lemmas.Bool.{false≢true, and_parts, lt-ltb, ltb-true}
 use Rattle.std.proofs.lemmas.Bool.Decides.{eqb_tells}
 use Rattle.std.proofs.lemmas.Fmt.{decimal-digits_value}
 use Rattle.std.proofs.lemmas.Str.Parse.{IsDigitsTest, IsNumeralModel, numerals_by_value, parse_digits}
-use Rattle.avro_nodes.specs.Plain.{are_digits, signed, respelt_digits, respelt_whole, is_minus}
+use Rattle.avro_nodes.specs.Plain.{is_canonical_decimal, signed, respelt_digits, respelt_whole, is_minus}
 
 abbrev pub AllAreDigits : List ℕ → Type 0
 AllAreDigits ds = list_all is_ascii_digit ds ≡ true
@@ -29,18 +29,18 @@ first_zero : (c n : ℕ) → (not (c == 48) || (n == 1)) ≡ true → c ≡ 48 �
 first_zero c n h e = grind (arith, tests)
 
 -- digits are the decimal text of their value
-pub spells : (ds : List ℕ) → are_digits ds ≡ true → digits_value 10 ds < 2 ^ 64 → decimal (digits_value 10 ds) ≡ ds
+pub spells : (ds : List ℕ) → is_canonical_decimal ds ≡ true → digits_value 10 ds < 2 ^ 64 → decimal (digits_value 10 ds) ≡ ds
 spells ds e small =
     let parts = and_parts (not (length ds == 0) && list_all is_ascii_digit ds) (not (slice_index ds 0 == 48) || (length ds == 1)) e in
     let front = and_parts (not (length ds == 0)) (list_all is_ascii_digit ds) parts.0 in
     decimal-digits_value own ds front.1 (some_digits ds front.0) (first_zero (slice_index ds 0) (length ds) parts.1) small
 
-pub digits_of_digits : (ds : List ℕ) → are_digits ds ≡ true → AllAreDigits ds
+pub digits_of_digits : (ds : List ℕ) → is_canonical_decimal ds ≡ true → AllAreDigits ds
 digits_of_digits ds e =
     let parts = and_parts (not (length ds == 0) && list_all is_ascii_digit ds) (not (slice_index ds 0 == 48) || (length ds == 1)) e in
     (and_parts (not (length ds == 0)) (list_all is_ascii_digit ds) parts.0).1
 
-pub some_of_digits : (ds : List ℕ) → are_digits ds ≡ true → 0 < length ds
+pub some_of_digits : (ds : List ℕ) → is_canonical_decimal ds ≡ true → 0 < length ds
 some_of_digits ds e =
     let parts = and_parts (not (length ds == 0) && list_all is_ascii_digit ds) (not (slice_index ds 0 == 48) || (length ds == 1)) e in
     some_digits ds (and_parts (not (length ds == 0)) (list_all is_ascii_digit ds) parts.0).0
@@ -52,7 +52,7 @@ le-is : (m n : ℕ) → nat_le m n ≡ true → m ≤ n
 le-is m n h = search (rules, tests)
 
 abbrev pub Magnitude : List ℕ → Option ℕ
-Magnitude ds = cond (are_digits ds && nat_lt (digits_value 10 ds) (2 ^ 64)) (Some (digits_value 10 ds)) None
+Magnitude ds = cond (is_canonical_decimal ds && nat_lt (digits_value 10 ds) (2 ^ 64)) (Some (digits_value 10 ds)) None
 
 parsed_is : {E : Type 0} (some : Bool) (n : ℕ) (r : Result ℕ E) → some ≡ true → OkIff r (n < 2 ^ 64) n → result_ok r ≡ cond (some && nat_lt n (2 ^ 64)) (Some n) None
 parsed_is some n (Ok x) e h = rw (e, lt-ltb n (2 ^ 64) h.0, h.1) refl
@@ -62,26 +62,26 @@ narrowed : {E : Type 0} (n : ℕ) (A : Type 0) (r : Result ℕ E) → A → OkIf
 narrowed n A (Ok x) a h = (h.0.1, h.1)
 narrowed n A (Err x) a h = λ small. h (a, small)
 
-pub magnitude_is : {E : Type 0} (ds : List ℕ) (r : Result ℕ E) → ParsesUnsigned 64 10 ds r → are_digits ds ≡ true → result_ok r ≡ Magnitude ds
+pub magnitude_is : {E : Type 0} (ds : List ℕ) (r : Result ℕ E) → ParsesUnsigned 64 10 ds r → is_canonical_decimal ds ≡ true → result_ok r ≡ Magnitude ds
 magnitude_is ds r h e =
-    parsed_is (are_digits ds) (digits_value 10 ds) r e (narrowed (digits_value 10 ds) (0 < length ds) r (some_of_digits ds e) (parse_digits own 64 ds r h (digits_of_digits ds e)))
+    parsed_is (is_canonical_decimal ds) (digits_value 10 ds) r e (narrowed (digits_value 10 ds) (0 < length ds) r (some_of_digits ds e) (parse_digits own 64 ds r h (digits_of_digits ds e)))
 
 pub no_minus : (w : List ℕ) → ((rest : List ℕ) → w ≢ 45 ∷ rest) → is_minus (slice_index w 0) ≡ false
 no_minus [] h = refl
 no_minus (c ∷ cs) h = elim (eqb_tells c 45) [ inl p ↦ absurd (h cs (ap (λ d. d ∷ cs) p.1)) | inr p ↦ p.0 ]
 
-at_unsigned : (ds : List ℕ) (some small : Bool) → are_digits ds ≡ some → nat_lt (digits_value 10 ds) (2 ^ 64) ≡ small
+at_unsigned : (ds : List ℕ) (some small : Bool) → is_canonical_decimal ds ≡ some → nat_lt (digits_value 10 ds) (2 ^ 64) ≡ small
     → respelt_digits false ds ≡ option_map (λ _. ds) (cond (some && small) (Some (digits_value 10 ds)) None)
 at_unsigned ds true true e f = rw (e, f) (ap (λ s. Some s) (spells ds e (ltb-true (digits_value 10 ds) (2 ^ 64) f)))
 at_unsigned ds true false e f = rw (e, f) refl
 at_unsigned ds false small e f = rw e refl
 
 pub respelt_unsigned : (w : List ℕ) (m : Option ℕ) → ((rest : List ℕ) → w ≢ 45 ∷ rest) → m ≡ Magnitude w → respelt_whole w ≡ option_map (λ _. w) m
-respelt_unsigned w m h e = rw (no_minus w h, e) (at_unsigned w (are_digits w) (nat_lt (digits_value 10 w) (2 ^ 64)) refl refl)
+respelt_unsigned w m h e = rw (no_minus w h, e) (at_unsigned w (is_canonical_decimal w) (nat_lt (digits_value 10 w) (2 ^ 64)) refl refl)
 
 -- ---- after a minus
 
-spelt_zero : (ds : List ℕ) → are_digits ds ≡ true → digits_value 10 ds ≡ 0 → signed_decimal (signed true (digits_value 10 ds)) ≡ ds
+spelt_zero : (ds : List ℕ) → is_canonical_decimal ds ≡ true → digits_value 10 ds ≡ 0 → signed_decimal (signed true (digits_value 10 ds)) ≡ ds
 spelt_zero ds e z = rw z (rw z at (spells ds e (omega (arith, z))))
 
 spelt_below : (n : ℕ) (ds : List ℕ) → (n ≡ 0 → ⊥) → decimal n ≡ ds → signed_decimal (neg_ℤ (pos n)) ≡ 45 ∷ ds
@@ -113,24 +113,24 @@ module _ (ds : List ℕ) (m : Option ℕ) (is : m ≡ Magnitude ds) where
 
   pub respelt_zero : m ≡ Some 0 → respelt_digits true ds ≡ Some ds
   respelt_zero e =
-      let k = known (are_digits ds) (nat_lt v (2 ^ 64)) v 0 (sym is ∙ e) in
+      let k = known (is_canonical_decimal ds) (nat_lt v (2 ^ 64)) v 0 (sym is ∙ e) in
       rw (k.0, le-true v (2 ^ 63) (omega (arith, k.2))) (ap (λ s. Some s) (spelt_zero ds k.0 k.2))
 
   pub respelt_negative : (n : ℕ) → m ≡ Some n → (n ≡ 0 → ⊥) → n ≤ 2 ^ 63 → respelt_digits true ds ≡ Some (45 ∷ ds)
   respelt_negative n e some small =
-      let k = known (are_digits ds) (nat_lt v (2 ^ 64)) v n (sym is ∙ e) in
+      let k = known (is_canonical_decimal ds) (nat_lt v (2 ^ 64)) v n (sym is ∙ e) in
       rw (k.0, le-true v (2 ^ 63) (omega (arith, k.2))) (ap (λ s. Some s) (spelt_below v ds (λ z. some (sym k.2 ∙ z)) (spells ds k.0 (ltb-true v (2 ^ 64) k.1))))
 
   pub respelt_past : (n : ℕ) → m ≡ Some n → 2 ^ 63 < n → respelt_digits true ds ≡ None
   respelt_past n e big =
-      let k = known (are_digits ds) (nat_lt v (2 ^ 64)) v n (sym is ∙ e) in
+      let k = known (is_canonical_decimal ds) (nat_lt v (2 ^ 64)) v n (sym is ∙ e) in
       rw (k.0, le-false v (2 ^ 63) (omega (arith, k.2))) refl
 
   pub respelt_none : m ≡ None → respelt_digits true ds ≡ None
   respelt_none e =
-      elim (unknown (are_digits ds) (nat_lt v (2 ^ 64)) v (sym is ∙ e)) [
+      elim (unknown (is_canonical_decimal ds) (nat_lt v (2 ^ 64)) v (sym is ∙ e)) [
         | inl bad ↦ rw bad refl
-        | inr far ↦ at_far (are_digits ds) far
+        | inr far ↦ at_far (is_canonical_decimal ds) far
       ] where
         at_far : (b : Bool) → nat_lt v (2 ^ 64) ≡ false → cond (b && nat_le v (2 ^ 63)) (Some (signed_decimal (signed true v))) None ≡ None
         at_far true far = rw (below_not v far) refl

@@ -10,19 +10,19 @@ use Rattle.std.proofs.Math.Seq.{take-suc, take-add}
 use Rattle.std.proofs.lemmas.Bool.{false≢true, cases_lt, false_from_ne_true, or_parts}
 use Rattle.std.proofs.lemmas.List.{drop_all, get_or-drop, get_or-take, length-take-le, drop-drop}
 use Rattle.avro_nodes.proofs.Lists.{drop_item}
-use Rattle.avro_nodes.specs.Plain.{Quoting, Outside, Inside, Escaped, after, is_number_char, is_outside, run, other, in_run, pieces, joined, before, piece_text, is_whole, whole_part, respelt, respelt_whole, begins_number}
+use Rattle.avro_nodes.specs.Plain.{StringState, Outside, Inside, Escaped, next_state, is_number_char, is_outside, run, other, in_run, pieces, joined, prepended, piece_text, is_whole, whole_part, respelt, respelt_whole, begins_number}
 
-pub before_before : (a b : List ℕ) (o : Option (List ℕ)) → before a (before b o) ≡ before (a ++ b) o
-before_before a b None = refl
-before_before a b (Some r) = ap (λ (s : List ℕ). Some s) (sym (append_assoc a b r))
+pub prepended_prepended : (a b : List ℕ) (o : Option (List ℕ)) → prepended a (prepended b o) ≡ prepended (a ++ b) o
+prepended_prepended a b None = refl
+prepended_prepended a b (Some r) = ap (λ (s : List ℕ). Some s) (sym (append_assoc a b r))
 
-pub before_nothing : (o : Option (List ℕ)) → before [] o ≡ o
-before_nothing None = refl
-before_nothing (Some r) = refl
+pub prepended_nothing : (o : Option (List ℕ)) → prepended [] o ≡ o
+prepended_nothing None = refl
+prepended_nothing (Some r) = refl
 
 -- ---- bytes outside the runs
 
-other_next : (q : Quoting) (c : ℕ) (cs : List ℕ) → (is_outside q && is_number_char c) ≡ false → joined (pieces q (c ∷ cs)) ≡ before (c ∷ []) (joined (pieces (after q c) cs))
+other_next : (q : StringState) (c : ℕ) (cs : List ℕ) → (is_outside q && is_number_char c) ≡ false → joined (pieces q (c ∷ cs)) ≡ prepended (c ∷ []) (joined (pieces (next_state q c) cs))
 unfolding pieces joined
 other_next q c cs e = rw e refl
 
@@ -32,11 +32,11 @@ range_more xs i j a b =
     let there : i + (j - i) ≡ j = omega arith in
     rw one (take-suc (drop i xs) (j - i) 0 (omega (arith, length-drop i xs)) ∙ ap (λ d. take (j - i) (drop i xs) ++ d ∷ []) (get_or-drop i xs (j - i) 0 ∙ ap (λ k. get_or xs k 0) there))
 
-pub other_more : (bs : List ℕ) (from at : ℕ) (q : Quoting) → from ≤ at → at < length bs → (is_outside q && is_number_char (get_or bs at 0)) ≡ false
-    → before (slice_range bs from (at + 1)) (joined (pieces (after q (get_or bs at 0)) (drop (at + 1) bs))) ≡ before (slice_range bs from at) (joined (pieces q (drop at bs)))
+pub other_more : (bs : List ℕ) (from at : ℕ) (q : StringState) → from ≤ at → at < length bs → (is_outside q && is_number_char (get_or bs at 0)) ≡ false
+    → prepended (slice_range bs from (at + 1)) (joined (pieces (next_state q (get_or bs at 0)) (drop (at + 1) bs))) ≡ prepended (slice_range bs from at) (joined (pieces q (drop at bs)))
 other_more bs from at q a b e =
     rw (range_more bs from at a b, drop_item bs at 0 b, other_next q (get_or bs at 0) (drop (at + 1) bs) e)
-    (sym (before_before (slice_range bs from at) (get_or bs at 0 ∷ []) (joined (pieces (after q (get_or bs at 0)) (drop (at + 1) bs)))))
+    (sym (prepended_prepended (slice_range bs from at) (get_or bs at 0 ∷ []) (joined (pieces (next_state q (get_or bs at 0)) (drop (at + 1) bs)))))
 
 pub range_join : (xs : List ℕ) (i j k : ℕ) → i ≤ j → j ≤ k → slice_range xs i j ++ slice_range xs j k ≡ slice_range xs i k
 range_join xs i j k a b =
@@ -45,30 +45,30 @@ range_join xs i j k a b =
     let parts : take (k - i) (drop i xs) ≡ take (j - i) (drop i xs) ++ take (k - j) (drop (j - i) (drop i xs)) = rw total (take-add (j - i) (k - j) (drop i xs)) in
     sym (parts ∙ ap (λ (ys : List ℕ). take (j - i) (drop i xs) ++ take (k - j) ys) (drop-drop (j - i) i xs ∙ ap (λ n. drop n xs) there))
 
-pub joined_more : (q r : Quoting) (bs : List ℕ) (from at end : ℕ) → from ≤ at → at ≤ end → joined (pieces q (drop at bs)) ≡ before (slice_range bs at end) (joined (pieces r (drop end bs)))
-    → before (slice_range bs from at) (joined (pieces q (drop at bs))) ≡ before (slice_range bs from end) (joined (pieces r (drop end bs)))
+pub joined_more : (q r : StringState) (bs : List ℕ) (from at end : ℕ) → from ≤ at → at ≤ end → joined (pieces q (drop at bs)) ≡ prepended (slice_range bs at end) (joined (pieces r (drop end bs)))
+    → prepended (slice_range bs from at) (joined (pieces q (drop at bs))) ≡ prepended (slice_range bs from end) (joined (pieces r (drop end bs)))
 joined_more q r bs from at end a b e =
-    ap (before (slice_range bs from at)) e
-    ∙ before_before (slice_range bs from at) (slice_range bs at end) (joined (pieces r (drop end bs)))
-    ∙ ap (λ (s : List ℕ). before s (joined (pieces r (drop end bs)))) (range_join bs from at end a b)
+    ap (prepended (slice_range bs from at)) e
+    ∙ prepended_prepended (slice_range bs from at) (slice_range bs at end) (joined (pieces r (drop end bs)))
+    ∙ ap (λ (s : List ℕ). prepended s (joined (pieces r (drop end bs)))) (range_join bs from at end a b)
 
-pub nothing_skipped : (bs : List ℕ) (at : ℕ) (q : Quoting) → joined (pieces q (drop at bs)) ≡ before (slice_range bs at at) (joined (pieces q (drop at bs)))
-nothing_skipped bs at q = let none : at - at ≡ 0 = omega arith in rw none (sym (before_nothing (joined (pieces q (drop at bs)))))
+pub nothing_skipped : (bs : List ℕ) (at : ℕ) (q : StringState) → joined (pieces q (drop at bs)) ≡ prepended (slice_range bs at at) (joined (pieces q (drop at bs)))
+nothing_skipped bs at q = let none : at - at ≡ 0 = omega arith in rw none (sym (prepended_nothing (joined (pieces q (drop at bs)))))
 
 -- a byte inside a string is copied
-pub inside_next : (bs : List ℕ) (at : ℕ) (q r : Quoting) → at < length bs → is_outside q ≡ false → after q (get_or bs at 0) ≡ r
-    → joined (pieces q (drop at bs)) ≡ before (slice_range bs at (at + 1)) (joined (pieces r (drop (at + 1) bs)))
+pub inside_next : (bs : List ℕ) (at : ℕ) (q r : StringState) → at < length bs → is_outside q ≡ false → next_state q (get_or bs at 0) ≡ r
+    → joined (pieces q (drop at bs)) ≡ prepended (slice_range bs at (at + 1)) (joined (pieces r (drop (at + 1) bs)))
 inside_next bs at q r h inside goes =
     nothing_skipped bs at q ∙ sym (other_more bs at at q (omega arith) h (rw inside refl))
-    ∙ ap (λ (p : Quoting). before (slice_range bs at (at + 1)) (joined (pieces p (drop (at + 1) bs)))) goes
+    ∙ ap (λ (p : StringState). prepended (slice_range bs at (at + 1)) (joined (pieces p (drop (at + 1) bs)))) goes
 
-pub quote_ends : (c : ℕ) → c ≡ 34 → after Inside c ≡ Outside
+pub quote_ends : (c : ℕ) → c ≡ 34 → next_state Inside c ≡ Outside
 quote_ends c e = rw e refl
 
-pub escape_begins : (c : ℕ) → c ≡ 92 → after Inside c ≡ Escaped
+pub escape_begins : (c : ℕ) → c ≡ 92 → next_state Inside c ≡ Escaped
 escape_begins c e = rw e refl
 
-stays_inside : (c : ℕ) → (c == 34) ≡ false → (c == 92) ≡ false → after Inside c ≡ Inside
+stays_inside : (c : ℕ) → (c == 34) ≡ false → (c == 92) ≡ false → next_state Inside c ≡ Inside
 stays_inside c e f = rw (e, f) refl
 
 -- neither a quote nor a backslash
@@ -76,14 +76,14 @@ abbrev IsPlainByte : ℕ → Type 0
 IsPlainByte c = (c == 34 || c == 92) ≡ false
 
 one_inside : (bs : List ℕ) (at : ℕ) → at < length bs → IsPlainByte (get_or bs at 0)
-    → joined (pieces Inside (drop at bs)) ≡ before (slice_range bs at (at + 1)) (joined (pieces Inside (drop (at + 1) bs)))
+    → joined (pieces Inside (drop at bs)) ≡ prepended (slice_range bs at (at + 1)) (joined (pieces Inside (drop (at + 1) bs)))
 one_inside bs at h is =
     let c = get_or bs at 0 in
     let parts = or_parts (c == 34) (c == 92) is in
     inside_next bs at Inside Inside h refl (stays_inside c parts.0 parts.1)
 
 pub marks_skipped : (bs : List ℕ) (from n : ℕ) → from + n ≤ length bs → ((k : ℕ) → k < n → IsPlainByte (get_or bs (from + k) 0))
-    → joined (pieces Inside (drop from bs)) ≡ before (slice_range bs from (from + n)) (joined (pieces Inside (drop (from + n) bs)))
+    → joined (pieces Inside (drop from bs)) ≡ prepended (slice_range bs from (from + n)) (joined (pieces Inside (drop (from + n) bs)))
 marks_skipped bs from zero h each =
     let here : from + 0 ≡ from = omega arith in
     rw here (nothing_skipped bs from Inside)
@@ -91,7 +91,7 @@ marks_skipped bs from (suc n) h each =
     let next : from + n + 1 ≡ from + suc n = omega arith in
     marks_skipped bs from n (omega (arith, h)) (λ k below. each k (omega (arith, below)))
     ∙ joined_more Inside Inside bs from (from + n) (from + n + 1) (omega arith) (omega arith) (one_inside bs (from + n) (omega (arith, h)) (each n (omega arith)))
-    ∙ ap (λ m. before (slice_range bs from m) (joined (pieces Inside (drop m bs)))) next
+    ∙ ap (λ m. prepended (slice_range bs from m) (joined (pieces Inside (drop m bs)))) next
 
 pub length_from : (bs : List ℕ) (from : ℕ) → length (take (length bs - from) (drop from bs)) ≡ length bs - from
 length_from bs from = length-take-le (length bs - from) (drop from bs) (omega (arith, length-drop from bs))
@@ -103,24 +103,24 @@ plain_from bs from k h differs =
     let same : get_or (take (length bs - from) (drop from bs)) k 0 ≡ get_or bs (from + k) 0 = get_or-take (length bs - from) (drop from bs) k 0 h ∙ get_or-drop from bs k 0 in
     subst IsPlainByte same (false_from_ne_true (get_or (take (length bs - from) (drop from bs)) k 0 == 34 || get_or (take (length bs - from) (drop from bs)) k 0 == 92) differs)
 
-other_skipped : (bs : List ℕ) (at : ℕ) → at < length bs → is_number_char (get_or bs at 0) ≡ false → joined (pieces Outside (drop at bs)) ≡ before (slice_range bs at (at + 1)) (joined (pieces (after Outside (get_or bs at 0)) (drop (at + 1) bs)))
+other_skipped : (bs : List ℕ) (at : ℕ) → at < length bs → is_number_char (get_or bs at 0) ≡ false → joined (pieces Outside (drop at bs)) ≡ prepended (slice_range bs at (at + 1)) (joined (pieces (next_state Outside (get_or bs at 0)) (drop (at + 1) bs)))
 other_skipped bs at h e = nothing_skipped bs at Outside ∙ sym (other_more bs at at Outside (omega arith) h e)
 
-pub byte_skipped : (bs : List ℕ) (at : ℕ) → at < length bs → is_number_char (get_or bs at 0) ≡ false → (get_or bs at 0 == 34) ≡ false → joined (pieces Outside (drop at bs)) ≡ before (slice_range bs at (at + 1)) (joined (pieces Outside (drop (at + 1) bs)))
+pub byte_skipped : (bs : List ℕ) (at : ℕ) → at < length bs → is_number_char (get_or bs at 0) ≡ false → (get_or bs at 0 == 34) ≡ false → joined (pieces Outside (drop at bs)) ≡ prepended (slice_range bs at (at + 1)) (joined (pieces Outside (drop (at + 1) bs)))
 byte_skipped bs at h e differs =
-    let stays : after Outside (get_or bs at 0) ≡ Outside = rw differs refl in
-    other_skipped bs at h e ∙ ap (λ (q : Quoting). before (slice_range bs at (at + 1)) (joined (pieces q (drop (at + 1) bs)))) stays
+    let stays : next_state Outside (get_or bs at 0) ≡ Outside = rw differs refl in
+    other_skipped bs at h e ∙ ap (λ (q : StringState). prepended (slice_range bs at (at + 1)) (joined (pieces q (drop (at + 1) bs)))) stays
 
 pub string_skipped : (bs : List ℕ) (at end : ℕ) → at < length bs → is_number_char (get_or bs at 0) ≡ false → (get_or bs at 0 == 34) ≡ true → at + 1 ≤ end
-    → joined (pieces Inside (drop (at + 1) bs)) ≡ before (slice_range bs (at + 1) end) (joined (pieces Outside (drop end bs)))
-    → joined (pieces Outside (drop at bs)) ≡ before (slice_range bs at end) (joined (pieces Outside (drop end bs)))
+    → joined (pieces Inside (drop (at + 1) bs)) ≡ prepended (slice_range bs (at + 1) end) (joined (pieces Outside (drop end bs)))
+    → joined (pieces Outside (drop at bs)) ≡ prepended (slice_range bs at end) (joined (pieces Outside (drop end bs)))
 string_skipped bs at end h e quote in_range ends =
-    let enters : after Outside (get_or bs at 0) ≡ Inside = rw quote refl in
+    let enters : next_state Outside (get_or bs at 0) ≡ Inside = rw quote refl in
     other_skipped bs at h e
-    ∙ ap (λ (q : Quoting). before (slice_range bs at (at + 1)) (joined (pieces q (drop (at + 1) bs)))) enters
-    ∙ ap (before (slice_range bs at (at + 1))) ends
-    ∙ before_before (slice_range bs at (at + 1)) (slice_range bs (at + 1) end) (joined (pieces Outside (drop end bs)))
-    ∙ ap (λ (s : List ℕ). before s (joined (pieces Outside (drop end bs)))) (range_join bs at (at + 1) end (omega arith) in_range)
+    ∙ ap (λ (q : StringState). prepended (slice_range bs at (at + 1)) (joined (pieces q (drop (at + 1) bs)))) enters
+    ∙ ap (prepended (slice_range bs at (at + 1))) ends
+    ∙ prepended_prepended (slice_range bs at (at + 1)) (slice_range bs (at + 1) end) (joined (pieces Outside (drop end bs)))
+    ∙ ap (λ (s : List ℕ). prepended s (joined (pieces Outside (drop end bs)))) (range_join bs at (at + 1) end (omega arith) in_range)
 
 pub front_range : (xs : List ℕ) (k : ℕ) → slice_range xs 0 k ≡ take k xs
 front_range xs k = let all : k - 0 ≡ k = omega arith in ap (λ n. take n xs) all
@@ -132,7 +132,7 @@ taken xs i j a = let there : i + (j - i) ≡ j = omega arith in sym (take-add i 
 pub taken_more : (xs : List ℕ) (i j k : ℕ) → i ≤ j → j ≤ k → (take i xs ++ slice_range xs i j) ++ slice_range xs j k ≡ take k xs
 taken_more xs i j k a b = ap (λ (s : List ℕ). s ++ slice_range xs j k) (taken xs i j a) ∙ taken xs j k b
 
-pub nothing_left : (q : Quoting) (bs : List ℕ) (at : ℕ) → length bs ≤ at → joined (pieces q (drop at bs)) ≡ Some []
+pub nothing_left : (q : StringState) (bs : List ℕ) (at : ℕ) → length bs ≤ at → joined (pieces q (drop at bs)) ≡ Some []
 unfolding pieces joined
 nothing_left q bs at h = rw (drop_all at bs h) refl
 
@@ -142,7 +142,7 @@ pub number_next : (c : ℕ) (cs : List ℕ) → is_number_char c ≡ true → pi
 unfolding pieces
 number_next c cs e = rw e refl
 
-pub no_number_next : (c : ℕ) (cs : List ℕ) → is_number_char c ≡ false → pieces Outside (c ∷ cs) ≡ other c ∷ pieces (after Outside c) cs
+pub no_number_next : (c : ℕ) (cs : List ℕ) → is_number_char c ≡ false → pieces Outside (c ∷ cs) ≡ other c ∷ pieces (next_state Outside c) cs
 unfolding pieces
 no_number_next c cs e = rw e refl
 
@@ -176,7 +176,7 @@ run_first c (d ∷ ds) e = let P : ℕ → Type 0 = BeginsRun (c ∷ d ∷ ds) i
 
 -- the text is the run `s`, followed by `more`
 abbrev FromRun : List ℕ → List ℕ → List ℕ → Type 0
-FromRun cs s more = joined (pieces Outside cs) ≡ option_and_then (λ t. before t (joined (pieces Outside more))) (piece_text (run s))
+FromRun cs s more = joined (pieces Outside cs) ≡ option_and_then (λ t. prepended t (joined (pieces Outside more))) (piece_text (run s))
 
 run_then : (cs : List ℕ) (n : ℕ) → BeginsRun cs n → FromRun cs (take n cs) (drop n cs)
 unfolding joined
@@ -200,14 +200,14 @@ run_at bs start end found e =
 
 -- ---- one iteration: writes the bytes before a run, and then the text that replaces the run
 
-module _ (bs out : List ℕ) (total : Option (List ℕ)) (at start end : ℕ) (so_far : before out (joined (pieces Outside (drop at bs))) ≡ total)
-    (skipped : joined (pieces Outside (drop at bs)) ≡ before (slice_range bs at start) (joined (pieces Outside (drop start bs))))
+module _ (bs out : List ℕ) (total : Option (List ℕ)) (at start end : ℕ) (so_far : prepended out (joined (pieces Outside (drop at bs))) ≡ total)
+    (skipped : joined (pieces Outside (drop at bs)) ≡ prepended (slice_range bs at start) (joined (pieces Outside (drop start bs))))
     (found : start < length bs → is_number_char (get_or bs start 0) ≡ true) (ends : end ≡ start + prefix_len is_number_char (drop start bs)) where
-  turn : (o : Option (List ℕ)) → o ≡ piece_text (run (slice_range bs start end)) → total ≡ before (out ++ slice_range bs at start) (option_and_then (λ t. before t (joined (pieces Outside (drop end bs)))) o)
-  turn o e = rw e (sym so_far ∙ ap (before out) skipped ∙ before_before out (slice_range bs at start) (joined (pieces Outside (drop start bs))) ∙ ap (before (out ++ slice_range bs at start)) (run_at bs start end found ends))
+  turn : (o : Option (List ℕ)) → o ≡ piece_text (run (slice_range bs start end)) → total ≡ prepended (out ++ slice_range bs at start) (option_and_then (λ t. prepended t (joined (pieces Outside (drop end bs)))) o)
+  turn o e = rw e (sym so_far ∙ ap (prepended out) skipped ∙ prepended_prepended out (slice_range bs at start) (joined (pieces Outside (drop start bs))) ∙ ap (prepended (out ++ slice_range bs at start)) (run_at bs start end found ends))
 
-  pub turn_done : (number : List ℕ) → Some number ≡ piece_text (run (slice_range bs start end)) → before ((out ++ slice_range bs at start) ++ number) (joined (pieces Outside (drop end bs))) ≡ total
-  turn_done number e = sym (turn (Some number) e ∙ before_before (out ++ slice_range bs at start) number (joined (pieces Outside (drop end bs))))
+  pub turn_done : (number : List ℕ) → Some number ≡ piece_text (run (slice_range bs start end)) → prepended ((out ++ slice_range bs at start) ++ number) (joined (pieces Outside (drop end bs))) ≡ total
+  turn_done number e = sym (turn (Some number) e ∙ prepended_prepended (out ++ slice_range bs at start) number (joined (pieces Outside (drop end bs))))
 
   pub turn_fails : None ≡ piece_text (run (slice_range bs start end)) → None ≡ total
   turn_fails e = sym (turn None e)

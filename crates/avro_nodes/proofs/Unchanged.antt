@@ -14,17 +14,17 @@ use Rattle.std.specs.List.{flat_map}
 use Rattle.serde_json.proofs.OnLiterals.{serde_json_on_literals}
 use Rattle.serde_json.specs.Data.{Num, unsigned, negative, float, Data, null, boolean, number, string, array, object, Items, no_items, item, Members, no_members, member}
 use Rattle.serde_json.specs.Written.{number_text, comma_if, compact_text, items_text, members_text}
-use Rattle.avro_nodes.specs.Plain.{Quoting, Outside, Inside, Escaped, after, is_number_char, is_outside, Piece, run, in_run, pieces, joined, before, piece_text, is_point, is_minus, are_digits, respelt_whole, respelt, begins_number, plain}
+use Rattle.avro_nodes.specs.Plain.{StringState, Outside, Inside, Escaped, next_state, is_number_char, is_outside, Piece, run, in_run, pieces, joined, prepended, piece_text, is_point, is_minus, is_canonical_decimal, respelt_whole, respelt, begins_number, plain}
 use Rattle.avro_nodes.specs.Whole.{is_whole_number, has_whole_numbers, items_have_whole_numbers, members_have_whole_numbers}
 use Rattle.avro_nodes.specs.Nodes.{NodeView}
 use Rattle.avro_nodes.specs.Identity.{identity, identity_value, nodes_pass}
-use Rattle.avro_nodes.proofs.Runs.{before_before, before_nothing, number_next, no_number_next, alone}
+use Rattle.avro_nodes.proofs.Runs.{prepended_prepended, prepended_nothing, number_next, no_number_next, alone}
 use Rattle.avro_nodes.proofs.Numbers.{own, spells, digits_of_digits}
 use Rattle.avro_nodes.proofs.Plainness.{identity_is_whole}
 
 -- ---- bytes that are copied, and don't change the position in or outside strings
 
-abbrev From : Quoting → List ℕ → Option (List ℕ)
+abbrev From : StringState → List ℕ → Option (List ℕ)
 From q bs = joined (pieces q bs)
 
 -- these bytes are followed by no number character
@@ -33,39 +33,39 @@ Stops [] = Unit {0}
 Stops (c ∷ cs) = is_number_char c ≡ false
 
 abbrev Copies : List ℕ → Type 0
-Copies bs = (rest : List ℕ) → From Outside (bs ++ rest) ≡ before bs (From Outside rest)
+Copies bs = (rest : List ℕ) → From Outside (bs ++ rest) ≡ prepended bs (From Outside rest)
 
 abbrev CopiesUntil : List ℕ → Type 0
-CopiesUntil bs = (rest : List ℕ) → Stops rest → From Outside (bs ++ rest) ≡ before bs (From Outside rest)
+CopiesUntil bs = (rest : List ℕ) → Stops rest → From Outside (bs ++ rest) ≡ prepended bs (From Outside rest)
 
 abbrev Stays : List ℕ → Type 0
-Stays bs = (rest : List ℕ) → From Inside (bs ++ rest) ≡ before bs (From Inside rest)
+Stays bs = (rest : List ℕ) → From Inside (bs ++ rest) ≡ prepended bs (From Inside rest)
 
-other_from : (q : Quoting) (c : ℕ) (cs : List ℕ) → (is_outside q && is_number_char c) ≡ false → From q (c ∷ cs) ≡ before (c ∷ []) (From (after q c) cs)
+other_from : (q : StringState) (c : ℕ) (cs : List ℕ) → (is_outside q && is_number_char c) ≡ false → From q (c ∷ cs) ≡ prepended (c ∷ []) (From (next_state q c) cs)
 unfolding pieces joined
 other_from q c cs e = rw e refl
 
-copies_byte : (c : ℕ) → is_number_char c ≡ false → after Outside c ≡ Outside → Copies (c ∷ [])
-copies_byte c e f rest = other_from Outside c rest e ∙ ap (λ (q : Quoting). before (c ∷ []) (From q rest)) f
+copies_byte : (c : ℕ) → is_number_char c ≡ false → next_state Outside c ≡ Outside → Copies (c ∷ [])
+copies_byte c e f rest = other_from Outside c rest e ∙ ap (λ (q : StringState). prepended (c ∷ []) (From q rest)) f
 
 copies_both : (a b : List ℕ) → Copies a → Copies b → Copies (a ++ b)
-copies_both a b f g rest = ap (From Outside) (append_assoc a b rest) ∙ f (b ++ rest) ∙ ap (before a) (g rest) ∙ before_before a b (From Outside rest)
+copies_both a b f g rest = ap (From Outside) (append_assoc a b rest) ∙ f (b ++ rest) ∙ ap (prepended a) (g rest) ∙ prepended_prepended a b (From Outside rest)
 
 copies_then : (a b : List ℕ) → CopiesUntil a → ((rest : List ℕ) → Stops (b ++ rest)) → Copies b → Copies (a ++ b)
-copies_then a b f s g rest = ap (From Outside) (append_assoc a b rest) ∙ f (b ++ rest) (s rest) ∙ ap (before a) (g rest) ∙ before_before a b (From Outside rest)
+copies_then a b f s g rest = ap (From Outside) (append_assoc a b rest) ∙ f (b ++ rest) (s rest) ∙ ap (prepended a) (g rest) ∙ prepended_prepended a b (From Outside rest)
 
 stays_both : (a b : List ℕ) → Stays a → Stays b → Stays (a ++ b)
-stays_both a b f g rest = ap (From Inside) (append_assoc a b rest) ∙ f (b ++ rest) ∙ ap (before a) (g rest) ∙ before_before a b (From Inside rest)
+stays_both a b f g rest = ap (From Inside) (append_assoc a b rest) ∙ f (b ++ rest) ∙ ap (prepended a) (g rest) ∙ prepended_prepended a b (From Inside rest)
 
 -- ---- strings
 
-stays_byte : (c : ℕ) → after Inside c ≡ Inside → Stays (c ∷ [])
-stays_byte c e rest = other_from Inside c rest refl ∙ ap (λ (q : Quoting). before (c ∷ []) (From q rest)) e
+stays_byte : (c : ℕ) → next_state Inside c ≡ Inside → Stays (c ∷ [])
+stays_byte c e rest = other_from Inside c rest refl ∙ ap (λ (q : StringState). prepended (c ∷ []) (From q rest)) e
 
 letter_stays : (l : ℕ) → Stays (92 ∷ l ∷ [])
-letter_stays l rest = other_from Inside 92 (l ∷ rest) refl ∙ ap (before (92 ∷ [])) (other_from Escaped l rest refl) ∙ before_before (92 ∷ []) (l ∷ []) (From Inside rest)
+letter_stays l rest = other_from Inside 92 (l ∷ rest) refl ∙ ap (prepended (92 ∷ [])) (other_from Escaped l rest refl) ∙ prepended_prepended (92 ∷ []) (l ∷ []) (From Inside rest)
 
-hex_stays : (a b : ℕ) → after Inside a ≡ Inside → after Inside b ≡ Inside → Stays (92 ∷ 117 ∷ 48 ∷ 48 ∷ a ∷ b ∷ [])
+hex_stays : (a b : ℕ) → next_state Inside a ≡ Inside → next_state Inside b ≡ Inside → Stays (92 ∷ 117 ∷ 48 ∷ 48 ∷ a ∷ b ∷ [])
 hex_stays a b e f =
     stays_both (92 ∷ 117 ∷ []) (48 ∷ 48 ∷ a ∷ b ∷ []) (letter_stays 117)
     (stays_both (48 ∷ []) (48 ∷ a ∷ b ∷ []) (stays_byte 48 refl) (stays_both (48 ∷ []) (a ∷ b ∷ []) (stays_byte 48 refl) (stays_both (a ∷ []) (b ∷ []) (stays_byte a e) (stays_byte b f))))
@@ -77,17 +77,17 @@ letter_of x = cond ((x == 34) || (x == 92)) x (cond (x == 8) 98 (cond (x == 12) 
 abbrev pub escaped : ℕ → List ℕ
 escaped x = cond (nat_lt 0 (letter_of x)) (92 ∷ letter_of x ∷ []) (cond (nat_lt x 32) (92 ∷ 117 ∷ 48 ∷ 48 ∷ digit_char (x / 16) ∷ digit_char (x % 16) ∷ []) (x ∷ []))
 
-inside_still : (c : ℕ) → (c ≡ 34 → ⊥) → (c ≡ 92 → ⊥) → after Inside c ≡ Inside
+inside_still : (c : ℕ) → (c ≡ 34 → ⊥) → (c ≡ 92 → ⊥) → next_state Inside c ≡ Inside
 inside_still c a b = rw (ne_eqb c 34 a, ne_eqb c 92 b) refl
 
 ten_up : (m n : ℕ) → nat_lt m n ≡ false → n ≤ m
 ten_up m n e = search (rules, tests)
 
-digit_inside : (d : ℕ) (b : Bool) → nat_lt d 10 ≡ b → d < 16 → after Inside (cond b (48 + d) (87 + d)) ≡ Inside
+digit_inside : (d : ℕ) (b : Bool) → nat_lt d 10 ≡ b → d < 16 → next_state Inside (cond b (48 + d) (87 + d)) ≡ Inside
 digit_inside d true e h = inside_still (48 + d) (λ is. omega (arith, is)) (λ is. omega (arith, is))
 digit_inside d false e h = inside_still (87 + d) (λ is. omega (arith, is)) (λ is. omega (arith, is, ten_up d 10 e))
 
-plain_inside : (x : ℕ) → nat_lt 0 (letter_of x) ≡ false → after Inside x ≡ Inside
+plain_inside : (x : ℕ) → nat_lt 0 (letter_of x) ≡ false → next_state Inside x ≡ Inside
 plain_inside x e = inside_still x (λ is. true≢false (sym (ap (λ y. nat_lt 0 (letter_of y)) is) ∙ e)) (λ is. true≢false (sym (ap (λ y. nat_lt 0 (letter_of y)) is) ∙ e))
 
 below_16 : (x : ℕ) → nat_lt x 32 ≡ true → x / 16 < 16
@@ -100,7 +100,7 @@ escape_stays x false true e f =
 escape_stays x false false e f = rw (e, f) (stays_byte x (plain_inside x e))
 
 stays_nothing : Stays []
-stays_nothing rest = sym (before_nothing (From Inside rest))
+stays_nothing rest = sym (prepended_nothing (From Inside rest))
 
 escaped_stays : (s : List ℕ) → Stays (flat_map escaped s)
 escaped_stays [] = stays_nothing
@@ -118,8 +118,8 @@ quoted_copies s =
     let t = flat_map escaped s in
     let P : List ℕ → Type 0 = Copies in
     subst P (sym (quoted_is s)) (λ rest. other_from Outside 34 ((t ++ 34 ∷ []) ++ rest) refl
-    ∙ ap (before (34 ∷ [])) (ap (From Inside) (append_assoc t (34 ∷ []) rest) ∙ escaped_stays s (34 ∷ rest) ∙ ap (before t) (other_from Inside 34 rest refl) ∙ before_before t (34 ∷ []) (From Outside rest))
-    ∙ before_before (34 ∷ []) (t ++ 34 ∷ []) (From Outside rest))
+    ∙ ap (prepended (34 ∷ [])) (ap (From Inside) (append_assoc t (34 ∷ []) rest) ∙ escaped_stays s (34 ∷ rest) ∙ ap (prepended t) (other_from Inside 34 rest refl) ∙ prepended_prepended t (34 ∷ []) (From Outside rest))
+    ∙ prepended_prepended (34 ∷ []) (t ++ 34 ∷ []) (From Outside rest))
 
 -- ---- numbers
 
@@ -133,7 +133,7 @@ run_copies c (d ∷ ds) rest e s =
     let h = and_parts (is_number_char c) (list_all is_number_char (d ∷ ds)) e in
     number_next c ((d ∷ ds) ++ rest) h.0 ∙ ap (in_run c) (run_copies d ds rest h.1 s)
 
-joined_run : (s : List ℕ) (ps : List Piece) → piece_text (run s) ≡ Some s → joined (run s ∷ ps) ≡ before s (joined ps)
+joined_run : (s : List ℕ) (ps : List Piece) → piece_text (run s) ≡ Some s → joined (run s ∷ ps) ≡ prepended s (joined ps)
 unfolding joined
 joined_run s ps e = rw e refl
 
@@ -179,8 +179,8 @@ module _ (n : ℕ) (small : n < 2 ^ 64) where
   first_is : 48 ≤ get_or digits 0 0
   first_is = (digit_at digits 0 (decimal_is_IsNumeral n small).0.1 some_digits).0
 
-digits_are : (n : ℕ) → n < 2 ^ 64 → are_digits (decimal n) ≡ true
-digits_are zero h = ap are_digits (decimal_digit 0 (omega arith))
+digits_are : (n : ℕ) → n < 2 ^ 64 → is_canonical_decimal (decimal n) ≡ true
+digits_are zero h = ap is_canonical_decimal (decimal_digit 0 (omega arith))
 digits_are (suc n) h =
     let ds = decimal (suc n) in
     let some : not (length ds == 0) ≡ true = rw (ne_eqb (length ds) 0 (λ e. omega (arith, e, some_digits (suc n) h))) refl in
@@ -194,7 +194,7 @@ digits_respelt n h =
     whole_alone ds (no_point ds (all_digits n h)) ∙ rw (bare, digits_are n h, value_is n h, lt-ltb n (2 ^ 64) h) refl
 
 -- a number of at most 19 digits without a leading zero stays as it is
-pub short_number_stays : (s : List ℕ) → are_digits s ≡ true → length s < 20 → piece_text (run s) ≡ Some s
+pub short_number_stays : (s : List ℕ) → is_canonical_decimal s ≡ true → length s < 20 → piece_text (run s) ≡ Some s
 short_number_stays s e short =
     let small : digits_value 10 s < 2 ^ 64 = omega (arith, digits_value_short own s 19 (digits_of_digits s e) (omega arith)) in
     either_spelt (begins_number s) s (subst (λ (t : List ℕ). respelt t ≡ Some t) (spells s e small) (digits_respelt (digits_value 10 s) small))
@@ -228,7 +228,7 @@ stops_members no_members rest = refl
 stops_members (member k d ms) rest = refl
 
 copies_nothing : Copies []
-copies_nothing rest = sym (before_nothing (From Outside rest))
+copies_nothing rest = sym (prepended_nothing (From Outside rest))
 
 comma_copies : (later : Bool) → Copies (comma_if later)
 comma_copies true = copies_byte 44 refl refl
@@ -238,9 +238,9 @@ until : (bs : List ℕ) → Copies bs → CopiesUntil bs
 until bs f rest s = f rest
 
 copies_until : (a b : List ℕ) → Copies a → CopiesUntil b → CopiesUntil (a ++ b)
-copies_until a b f g rest s = ap (From Outside) (append_assoc a b rest) ∙ f (b ++ rest) ∙ ap (before a) (g rest s) ∙ before_before a b (From Outside rest)
+copies_until a b f g rest s = ap (From Outside) (append_assoc a b rest) ∙ f (b ++ rest) ∙ ap (prepended a) (g rest s) ∙ prepended_prepended a b (From Outside rest)
 
-letter : (c : ℕ) (bs : List ℕ) → is_number_char c ≡ false → after Outside c ≡ Outside → CopiesUntil bs → CopiesUntil (c ∷ bs)
+letter : (c : ℕ) (bs : List ℕ) → is_number_char c ≡ false → next_state Outside c ≡ Outside → CopiesUntil bs → CopiesUntil (c ∷ bs)
 letter c bs e f more = copies_until (c ∷ []) bs (copies_byte c e f) more
 
 e_copies : CopiesUntil (101 ∷ [])
@@ -286,7 +286,7 @@ nothing_from = refl
 pub plain-compact_text : (d : Data) → has_whole_numbers d ≡ true → plain (compact_text d) ≡ Some (compact_text d)
 plain-compact_text d e =
     let t = compact_text d in
-    ap (From Outside) (sym (append-nil t)) ∙ text_copies d e [] tt ∙ ap (before t) nothing_from ∙ ap (λ (s : List ℕ). Some s) (append-nil t)
+    ap (From Outside) (sym (append-nil t)) ∙ text_copies d e [] tt ∙ ap (prepended t) nothing_from ∙ ap (λ (s : List ℕ). Some s) (append-nil t)
 
 -- the identity text has its numbers in plain decimal digits
 pub plain-identity : (nodes : List NodeView) → IsTrue (nodes_pass has_whole_numbers nodes) → plain (identity nodes) ≡ Some (identity nodes)

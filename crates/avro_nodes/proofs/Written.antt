@@ -14,7 +14,7 @@ use Rattle.serde_json.specs.Read.{number_of, of_items, of_members}
 use Rattle.serde_json.specs.View.{members_view}
 use Rattle.serde_json.specs.Written.{number_text, unless_float, outline, members_outline, blank_members, WritesValue, WritesItems}
 use Rattle.serde_json.proofs.Views.{Entry}
-use Rattle.avro_nodes.specs.Inside.Objects.{Attribute, AreJsonOf, EndsObject, merged, put_attributes, rest_after, WritesOthersBefore, WritesName, WritesAttribute, AllAfter, AreOrdered, some_texts, null_namespace}
+use Rattle.avro_nodes.specs.Inside.Objects.{Attribute, AreJsonOf, EndsObject, merged, put_attributes, rest_after, WritesOthersBefore, WritesName, WritesAttribute, AllAfter, AreOrdered, texts_value, namespace_value}
 use Rattle.avro_nodes.specs.Nodes.{texts_view}
 use Rattle.avro_nodes.specs.Identity.{texts}
 use Rattle.avro_nodes.specs.Names.{has_dot}
@@ -190,13 +190,13 @@ attribute_is k p o others left old new e w = subst (λ (q : Option Data). Writes
 pub attribute_written : (k : List ℕ) (o : Option Data) (d : Data) (others left : Members) (old named new : List Token) → o ≡ Some d → WritesName k others left old named → WritesValue d named new → WritesAttribute (k, o) others left old new
 attribute_written k o d others left old named new e name value = attribute_is k o (Some d) others left old new e (name d new value)
 
-pub some_texts_are : (ts : List (String Global)) → (length ts ≡ 0 → ⊥) → some_texts (texts_view ts) ≡ Some (array (texts (texts_view ts)))
-some_texts_are [] other = absurd (other refl)
-some_texts_are (t ∷ ts) other = refl
+pub texts_value_is : (ts : List (String Global)) → (length ts ≡ 0 → ⊥) → texts_value (texts_view ts) ≡ Some (array (texts (texts_view ts)))
+texts_value_is [] other = absurd (other refl)
+texts_value_is (t ∷ ts) other = refl
 
-pub null_namespace_is : (enclosing name : List ℕ) → (length enclosing ≡ 0 → ⊥) → has_dot name ≡ false → null_namespace enclosing name ≡ Some (string [])
-null_namespace_is [] name other bare = absurd (other refl)
-null_namespace_is (c ∷ enclosing) name other bare = rw bare refl
+pub namespace_value_is : (enclosing name : List ℕ) → (length enclosing ≡ 0 → ⊥) → has_dot name ≡ false → namespace_value enclosing name ≡ Some (string [])
+namespace_value_is [] name other bare = absurd (other refl)
+namespace_value_is (c ∷ enclosing) name other bare = rw bare refl
 
 -- two iterators at the same position take the same step
 pub next_left : {X Y : Type 0} (shows : X → Y) (r : Option X) (s t rest : List Y) (e : Y) → MatchOption r ((s ≡ []) × (t ≡ [])) (λ x. s ≡ shows x ∷ t) → s ≡ e ∷ rest → t ≡ rest

@@ -151,7 +151,7 @@ identity_value nodes = (identity_at max_nesting nodes [] 0 0).0
 abbrev pub identity : List NodeView → List ℕ
 identity nodes = compact_text (identity_value nodes)
 
--- ---- whether each default, each other attribute and each size passes a test, as JSON
+-- ---- whether each field's default, each other attribute and each size passes a test, as JSON
 
 abbrev pub members_pass : (Data → Bool) → Members → Bool
 members_pass test no_members = true

@@ -8,19 +8,19 @@ use Rattle.std.specs.Str.Parse.{digits_value}
 
 -- ---- the runs of a text
 
--- the position of a byte: outside the strings, inside one, or inside one after a backslash
-pub data Quoting : Type 0 where
-  Outside : Quoting
-  Inside : Quoting
-  Escaped : Quoting
+-- where a byte is: outside the strings, inside one, or inside one after a backslash
+pub data StringState : Type 0 where
+  Outside : StringState
+  Inside : StringState
+  Escaped : StringState
 
--- the position of the byte after this one (RFC 8259, section 7)
-abbrev pub after : Quoting → ℕ → Quoting
-after Outside c = if c == 34 then Inside else Outside
-after Inside c = if c == 34 then Outside else (if c == 92 then Escaped else Inside)
-after Escaped c = Inside
+-- the state of the next byte, given the state and value of this one (RFC 8259, section 7)
+abbrev pub next_state : StringState → ℕ → StringState
+next_state Outside c = if c == 34 then Inside else Outside
+next_state Inside c = if c == 34 then Outside else (if c == 92 then Escaped else Inside)
+next_state Escaped c = Inside
 
-abbrev pub is_outside : Quoting → Bool
+abbrev pub is_outside : StringState → Bool
 is_outside Outside = true
 is_outside Inside = false
 is_outside Escaped = false
@@ -39,10 +39,10 @@ in_run c [] = run (c ∷ []) ∷ []
 in_run c (run s ∷ more) = run (c ∷ s) ∷ more
 in_run c (other d ∷ more) = run (c ∷ []) ∷ other d ∷ more
 
--- the pieces of a text whose first byte has this position
-unfoldable pub pieces : Quoting → List ℕ → List Piece
+-- the pieces of a text whose first byte has this state
+unfoldable pub pieces : StringState → List ℕ → List Piece
 pieces p [] = []
-pieces p (c ∷ cs) = if is_outside p && is_number_char c then in_run c (pieces p cs) else other c ∷ pieces (after p c) cs
+pieces p (c ∷ cs) = if is_outside p && is_number_char c then in_run c (pieces p cs) else other c ∷ pieces (next_state p c) cs
 
 -- ---- the number of a run
 
@@ -65,8 +65,8 @@ abbrev pub is_whole : List ℕ → Bool
 is_whole s = (position_or_len is_point s == length s) || are_zeros (after_first is_point s)
 
 -- 0, or digits without a leading 0
-abbrev pub are_digits : List ℕ → Bool
-are_digits ds = not (length ds == 0) && list_all is_ascii_digit ds && (not (slice_index ds 0 == 48) || (length ds == 1))
+abbrev pub is_canonical_decimal : List ℕ → Bool
+is_canonical_decimal ds = not (length ds == 0) && list_all is_ascii_digit ds && (not (slice_index ds 0 == 48) || (length ds == 1))
 
 -- whether the number, with its sign, is from -2^63 to 2^64 - 1
 abbrev pub in_range : Bool → ℕ → Bool
@@ -77,7 +77,7 @@ signed negative n = if negative then neg_ℤ (pos n) else pos n
 
 -- the plain decimal digits of the number, with its sign
 abbrev pub respelt_digits : Bool → List ℕ → Option (List ℕ)
-respelt_digits negative ds = if are_digits ds && in_range negative (digits_value 10 ds) then Some (signed_decimal (signed negative (digits_value 10 ds))) else None
+respelt_digits negative ds = if is_canonical_decimal ds && in_range negative (digits_value 10 ds) then Some (signed_decimal (signed negative (digits_value 10 ds))) else None
 
 -- the same for a whole part with its sign
 abbrev pub respelt_whole : List ℕ → Option (List ℕ)
@@ -98,12 +98,12 @@ piece_text (run s) = if begins_number s then respelt s else Some s
 -- ---- the text
 
 -- `front`, followed by the rest
-abbrev pub before : List ℕ → Option (List ℕ) → Option (List ℕ)
-before front rest = option_map (λ r. front ++ r) rest
+abbrev pub prepended : List ℕ → Option (List ℕ) → Option (List ℕ)
+prepended front rest = option_map (λ r. front ++ r) rest
 
 unfoldable pub joined : List Piece → Option (List ℕ)
 joined [] = Some []
-joined (p ∷ ps) = option_and_then (λ s. before s (joined ps)) (piece_text p)
+joined (p ∷ ps) = option_and_then (λ s. prepended s (joined ps)) (piece_text p)
 
 -- the text with its numbers rewritten, if each is an integer in range
 abbrev pub plain : List ℕ → Option (List ℕ)

@@ -7,7 +7,7 @@ ghost use Rattle.serde_json.specs.View.{view, members_view};
 ghost use Rattle.serde_json.specs.Written.{WritesValue};
 ghost use Rattle.avro_nodes.specs.Nodes.{texts_view};
 ghost use Rattle.avro_nodes.specs.Identity.{texts};
-ghost use Rattle.avro_nodes.specs.Inside.Objects.{WritesOthersBefore, WritesName, WritesAttribute, some_texts, order_text, null_namespace};
+ghost use Rattle.avro_nodes.specs.Inside.Objects.{WritesOthersBefore, WritesName, WritesAttribute, texts_value, order_value, namespace_value};
 
 use crate::compact::CompactWriter;
 use crate::names::has_dot;
@@ -88,7 +88,7 @@ pub(crate) fn write_aliases(
     others: &mut UnwrittenMembers<'_>,
     aliases: &[String],
 ) -> Result<(), AllocError>
-    ensures { OnOk result (WritesAttribute (codes "aliases", some_texts (texts_view aliases.now))
+    ensures { OnOk result (WritesAttribute (codes "aliases", texts_value (texts_view aliases.now))
         (members_view others.old) (members_view others.new) out.old out.new) }
 {
     if aliases.is_empty() {
@@ -135,7 +135,7 @@ pub(crate) fn write_order(
     others: &mut UnwrittenMembers<'_>,
     order: Order,
 ) -> Result<(), AllocError>
-    ensures { OnOk result (WritesAttribute (codes "order", order_text order)
+    ensures { OnOk result (WritesAttribute (codes "order", order_value order)
         (members_view others.old) (members_view others.new) out.old out.new) }
 {
     match order {
@@ -152,7 +152,7 @@ pub(crate) fn write_namespace(
     enclosing: &str,
     name: &str,
 ) -> Result<(), AllocError>
-    ensures { OnOk result (WritesAttribute (codes "namespace", null_namespace enclosing.now name.now)
+    ensures { OnOk result (WritesAttribute (codes "namespace", namespace_value enclosing.now name.now)
         (members_view others.old) (members_view others.new) out.old out.new) }
 {
     if enclosing.is_empty() || has_dot(name) {

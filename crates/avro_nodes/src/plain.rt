@@ -7,7 +7,7 @@ ghost use Rattle.std.specs.Char.{is_ascii_digit};
 ghost use Rattle.std.specs.List.{prefix_len, list_all};
 ghost use Rattle.std.specs.Str.{IsCharBoundary};
 ghost use Rattle.std.specs.Str.Parse.{digits_value};
-ghost use Rattle.avro_nodes.specs.Plain.{Inside, Outside, is_number_char as is_number_char_of, pieces, joined, before, is_whole, whole_part, are_digits as are_digits_of, are_zeros as are_zeros_of, respelt_whole, begins_number as begins_number_of, piece_text, run as run_of, plain};
+ghost use Rattle.avro_nodes.specs.Plain.{Inside, Outside, is_number_char as is_number_char_of, pieces, joined, prepended, is_whole, whole_part, is_canonical_decimal as is_canonical_decimal_of, are_zeros as are_zeros_of, respelt_whole, begins_number as begins_number_of, piece_text, run as run_of, plain};
 ghost use Rattle.avro_nodes.specs.Respelling.{respelt_text};
 
 use crate::error::OutOfMemory;
@@ -21,12 +21,13 @@ fn is_number_char(c: u8) -> bool
     c.is_ascii_digit() || matches!(c, b'+' | b'-' | b'.' | b'e' | b'E')
 }
 
-/// The index after a backslash inside a string and the byte that it escapes.
+/// The index after the escape that begins at `at`, inside a string: a backslash and the byte after
+/// it, if there is one.
 fn escape_end(bytes: &[u8], at: usize) -> usize
     requires { (at < length bytes.now) × (slice_index bytes.now at ≡ 92) }
     ensures bounds { (at < result) × (result ≤ length bytes.now) }
     ensures pieces { joined (pieces Inside (drop at bytes.now))
-        ≡ before (slice_range bytes.now at result) (joined (pieces Inside (drop result bytes.now))) }
+        ≡ prepended (slice_range bytes.now at result) (joined (pieces Inside (drop result bytes.now))) }
 {
     if at + 1 < bytes.len() { at + 2 } else { at + 1 }
 }
@@ -39,7 +40,7 @@ fn next_quote_or_backslash(bytes: &[u8], from: usize) -> usize
     ensures found { result < length bytes.now
         → (slice_index bytes.now result ≡ 34) ⊎ (slice_index bytes.now result ≡ 92) }
     ensures pieces { joined (pieces Inside (drop from bytes.now))
-        ≡ before (slice_range bytes.now from result) (joined (pieces Inside (drop result bytes.now))) }
+        ≡ prepended (slice_range bytes.now from result) (joined (pieces Inside (drop result bytes.now))) }
 {
     match memchr2(b'"', b'\\', &bytes[from..]) {
         Some(skipped) => from + skipped,
@@ -52,7 +53,7 @@ fn string_end(bytes: &[u8], from: usize) -> usize
     requires { from ≤ length bytes.now }
     ensures bounds { (from ≤ result) × (result ≤ length bytes.now) }
     ensures pieces { joined (pieces Inside (drop from bytes.now))
-        ≡ before (slice_range bytes.now from result) (joined (pieces Outside (drop result bytes.now))) }
+        ≡ prepended (slice_range bytes.now from result) (joined (pieces Outside (drop result bytes.now))) }
 {
     let mut at = next_quote_or_backslash(bytes, from);
     while at < bytes.len() {
@@ -69,7 +70,7 @@ fn next_outside(bytes: &[u8], at: usize) -> usize
     requires { (at < length bytes.now) × (is_number_char_of (slice_index bytes.now at) ≡ false) }
     ensures bounds { (at < result) × (result ≤ length bytes.now) }
     ensures pieces { joined (pieces Outside (drop at bytes.now))
-        ≡ before (slice_range bytes.now at result) (joined (pieces Outside (drop result bytes.now))) }
+        ≡ prepended (slice_range bytes.now at result) (joined (pieces Outside (drop result bytes.now))) }
 {
     if bytes[at] == b'"' {
         string_end(bytes, at + 1)
@@ -85,7 +86,7 @@ fn run_start(bytes: &[u8], from: usize) -> usize
     ensures bounds { (from ≤ result) × (result ≤ length bytes.now) }
     ensures found { result < length bytes.now → is_number_char_of (slice_index bytes.now result) ≡ true }
     ensures pieces { joined (pieces Outside (drop from bytes.now))
-        ≡ before (slice_range bytes.now from result) (joined (pieces Outside (drop result bytes.now))) }
+        ≡ prepended (slice_range bytes.now from result) (joined (pieces Outside (drop result bytes.now))) }
 {
     let mut at = from;
     while at < bytes.len() {
@@ -128,8 +129,9 @@ fn are_zeros(text: &str) -> bool
     !text.is_empty() && all_zeros(text.as_bytes())
 }
 
-/// The part of a run before its point, or the whole run without a point. It is `None` unless the
-/// point is followed by one or more zeros and nothing else.
+/// The integer part of a run, if the run has no other part than zeros. A run without a point is
+/// returned as it is. For a run with a point, the result is the part before the point, or `None`
+/// unless one or more zeros and nothing else follow the point.
 fn whole_part_if_integer(run: &str) -> Option<&str>
     ensures { option_map (λ s. s.now) result
         ≡ (if is_whole run.now then Some (whole_part run.now) else None) }
@@ -140,8 +142,8 @@ fn whole_part_if_integer(run: &str) -> Option<&str>
     }
 }
 
-fn are_digits(text: &str) -> bool
-    ensures { result ≡ are_digits_of text.now }
+fn is_canonical_decimal(text: &str) -> bool
+    ensures { result ≡ is_canonical_decimal_of text.now }
 {
     let bytes = text.as_bytes();
     !bytes.is_empty() && all_digits(bytes) && (bytes[0] != b'0' || bytes.len() == 1)
@@ -149,10 +151,10 @@ fn are_digits(text: &str) -> bool
 
 /// The value of the digits, if they are a number below 2^64 without a leading zero.
 fn magnitude(digits: &str) -> Option<u64>
-    ensures { result ≡ (if are_digits_of digits.now && nat_lt (digits_value 10 digits.now) (2 ^ 64)
+    ensures { result ≡ (if is_canonical_decimal_of digits.now && nat_lt (digits_value 10 digits.now) (2 ^ 64)
         then Some (digits_value 10 digits.now) else None) }
 {
-    if !are_digits(digits) {
+    if !is_canonical_decimal(digits) {
         return None;
     }
     digits.parse::<u64>().ok()
@@ -202,7 +204,7 @@ fn respell_run(run: &str) -> Option<&str>
 fn is_unchanged(run: &str) -> bool
     ensures { IsTrue result → piece_text (run_of run.now) ≡ Some run.now }
 {
-    if run.len() < 20 && are_digits(run) {
+    if run.len() < 20 && is_canonical_decimal(run) {
         return true;
     }
     match respell_run(run) {
@@ -211,12 +213,13 @@ fn is_unchanged(run: &str) -> bool
     }
 }
 
-/// The length of the front of the text that stays as it is. It ends before the first run that is
-/// rewritten or breaks the rule.
+/// An index up to which the text stays as it is: the end of the last run before the first one that
+/// is rewritten or breaks the rule, or 0 if there is no run before it. If no run is rewritten or
+/// breaks the rule, the length of the text.
 fn unchanged_len(text: &str) -> usize
     ensures bounds { result ≤ length text.now }
     ensures cut { IsCharBoundary text.now result }
-    ensures kept { before (take result text.now) (joined (pieces Outside (drop result text.now)))
+    ensures kept { prepended (take result text.now) (joined (pieces Outside (drop result text.now)))
         ≡ plain text.now }
 {
     let bytes = text.as_bytes();
@@ -263,8 +266,8 @@ pub fn respelling_of(alloc: Global, text: &str) -> Result<Respelling, OutOfMemor
 
 /// Returns the text with each number rewritten in plain decimal digits, or `None` if a number isn't
 /// an integer from -2^63 to 2^64 - 1 (this project's choice). A number is a maximal run of the
-/// characters `0` to `9`, `+`, `-`, `.`, `e`, `E` outside the strings that begins with a digit or
-/// `-`. It must have no leading zero and no exponent. A point must be followed by one or more zeros
+/// characters `0` to `9`, `+`, `-`, `.`, `e`, `E` outside strings. It begins with a digit or `-`. It
+/// must have no leading zero and no exponent. A point must be followed by one or more zeros
 /// and nothing else. `-0` is rewritten as `0`.
 ///
 /// # Errors

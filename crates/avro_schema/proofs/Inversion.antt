@@ -14,7 +14,7 @@ use Rattle.serde_json.specs.Find.{get_member}
 use Rattle.std.proofs.lemmas.Slice.Eq.{bytes_eq-Decides}
 use Rattle.std.proofs.lemmas.Bool.{ltb-true, lt-ltb, and_parts, not-true}
 use Rattle.avro_schema.specs.Attributes.{◌>>=◌, without, without_all, text_in, array_in, text_if_any}
-use Rattle.avro_schema.specs.Inside.ValueReaders.{room_at}
+use Rattle.avro_schema.specs.Inside.ValueReaders.{next_place}
 
 pub bind_some : {A B : Type 0} (o : Option A) (f : A → Option B) (y : B) → (o >>= f) ≡ Some y → (x : A) × (o ≡ Some x) × (f x ≡ Some y)
 bind_some None f y e = absurd cc
@@ -34,12 +34,12 @@ map_some f (Some x) y e = (x, refl, same_Some _ _ e)
 
 -- ---- room for a node
 
-pub room_is : (first place : ℕ) → room_at first ≡ Some place → (first < max_places) × (first ≡ place)
-unfolding room_at
+pub room_is : (first place : ℕ) → next_place first ≡ Some place → (first < max_places) × (first ≡ place)
+unfolding next_place
 room_is first place e = let g = guard_some (nat_lt first max_places) (Some first) place e in (ltb-true first max_places g.0, same_Some _ _ g.1)
 
-pub room_there : (first : ℕ) → first < max_places → room_at first ≡ Some first
-unfolding room_at
+pub room_there : (first : ℕ) → first < max_places → next_place first ≡ Some first
+unfolding next_place
 room_there first h = rw (lt-ltb first max_places h) refl
 
 -- ---- an attribute after others were removed

@@ -5,7 +5,7 @@ use Rattle.avro_nodes.specs.declared.node.PrimitiveKind.{PrimitiveKind}
 use Rattle.avro_nodes.specs.declared.node.PrimitiveKind.TheVariants.{Null, Boolean, Int, Long, Float, Double, Bytes, Text}
 use Rattle.avro_nodes.specs.Nodes.{NodeView}
 use Rattle.avro_schema.specs.Kinds.{BranchKind, primitive_kind, array_kind, map_kind, named_kind, branch_kind}
-use Rattle.avro_schema.specs.Inside.KindNumbers.{primitive_number, kind_number, branch_number}
+use Rattle.avro_schema.specs.Inside.KindNumbers.{primitive_number, kind_number, branch_kind_number}
 use Rattle.avro_schema.specs.Denotes.{Lacks, AllDiffer}
 
 -- ---- the number determines the kind
@@ -85,11 +85,11 @@ numbered_kind None n e = absurd cc
 numbered_kind (Some kind) n e = (kind, refl, cc)
 
 -- a branch with this number has the kind with this number
-pub kind_of_number : (place n : ℕ) (nodes : List NodeView) → branch_number place nodes ≡ Some n → (kind : BranchKind) × (branch_kind place nodes ≡ Some kind) × (kind_number kind ≡ n)
-unfolding branch_number
+pub kind_of_number : (place n : ℕ) (nodes : List NodeView) → branch_kind_number place nodes ≡ Some n → (kind : BranchKind) × (branch_kind place nodes ≡ Some kind) × (kind_number kind ≡ n)
+unfolding branch_kind_number
 kind_of_number place n nodes e = numbered_kind (branch_kind place nodes) n e
 
 -- a branch with this kind has the number of this kind
-pub number_of_kind : (place : ℕ) (kind : BranchKind) (nodes : List NodeView) → branch_kind place nodes ≡ Some kind → branch_number place nodes ≡ Some (kind_number kind)
-unfolding branch_number
+pub number_of_kind : (place : ℕ) (kind : BranchKind) (nodes : List NodeView) → branch_kind place nodes ≡ Some kind → branch_kind_number place nodes ≡ Some (kind_number kind)
+unfolding branch_kind_number
 number_of_kind place kind nodes e = ap (option_map kind_number) e

@@ -14,9 +14,9 @@ use Rattle.avro_schema.specs.Keywords.{type_kind_of}
 use Rattle.avro_schema.specs.Attributes.{without_all, text_in, array_in}
 use Rattle.avro_schema.specs.Inside.Distinct.{all_distinct}
 use Rattle.avro_schema.specs.Inside.Declarations.{name_keys, named_in, FieldAttributesView, field_attributes_in, field_attribute_keys, bounded}
-use Rattle.avro_schema.specs.Inside.ValueReaders.{Part, PartReader, TypeReader, parts_of, room_at}
+use Rattle.avro_schema.specs.Inside.ValueReaders.{Part, PartReader, TypeReader, parts_of, next_place}
 use Rattle.avro_schema.specs.Kinds.{BranchKind, branch_kind}
-use Rattle.avro_schema.specs.Inside.KindNumbers.{kind_number, branch_number}
+use Rattle.avro_schema.specs.Inside.KindNumbers.{kind_number, branch_kind_number}
 use Rattle.avro_schema.specs.Inside.Types.{name_at, reference_to, member_name, container_node, container_at, branch_of, union_at, field_at, field_of, record_at, by_type_kind, object_at, form_at, type_at}
 use Rattle.avro_schema.specs.Inside.ReaderResults.{AddsPart}
 use Rattle.avro_schema.proofs.Sequence.{settled}
@@ -77,11 +77,11 @@ module _ (types : TypeReader) (space : List ℕ) (ms : Members) (known : Known) 
 -- ---- arrays and maps
 
 module _ (container : Container) (one : PartReader ℕ) (ms : Members) (known : Known) (first : ℕ) where
-  pub container_past : room_at first ≡ None → container_at container one ms known first ≡ None
+  pub container_past : next_place first ≡ None → container_at container one ms known first ≡ None
   unfolding container_at
   container_past none = rw none refl
 
-  module _ (place : ℕ) (room : room_at first ≡ Some place) where
+  module _ (place : ℕ) (room : next_place first ≡ Some place) where
     pub nothing_held : get_member (member_name container) ms ≡ None → container_at container one ms known first ≡ None
     unfolding container_at
     nothing_held none = rw (room, none) refl
@@ -100,22 +100,22 @@ module _ (container : Container) (one : PartReader ℕ) (ms : Members) (known : 
         unfolding container_at
         container_is p nodes known2 inner = rw (room, holds, bound, inner) refl
 
-        pub container_done : (p : ℕ) (before mid after : List NodeView) (blank : NodeView) (known2 : Known) → place ≡ length before → mid ≡ before ++ blank ∷ []
+        pub container_done : (p : ℕ) (before mid after : List NodeView) (placeholder : NodeView) (known2 : Known) → place ≡ length before → mid ≡ before ++ placeholder ∷ []
             → AddsPart (one i known (first + 1)) p mid after known2 → AddsPart (container_at container one ms known first) place before (set after place (container_node container p extra)) known2
-        container_done p before mid after blank known2 place_is mid_is inner =
-            record { added = container_node container p extra ∷ inner.added; is = container_is p inner.added known2 inner.is; after_is = settled before mid after inner.added place blank (container_node container p extra) mid_is inner.after_is place_is }
+        container_done p before mid after placeholder known2 place_is mid_is inner =
+            record { added = container_node container p extra ∷ inner.added; is = container_is p inner.added known2 inner.is; after_is = settled before mid after inner.added place placeholder (container_node container p extra) mid_is inner.after_is place_is }
 
 -- ---- unions
 
 module _ (one : PartReader ℕ) (ds : Items) (known : Known) (first : ℕ) where
-  pub union_past : room_at first ≡ None → union_at one ds known first ≡ None
+  pub union_past : next_place first ≡ None → union_at one ds known first ≡ None
   unfolding union_at
   union_past none = rw none refl
 
   abbrev pub branches_read : Option (Part (List (ℕ × ℕ)))
   branches_read = parts_of (branch_of one) ds known (first + 1)
 
-  module _ (place : ℕ) (room : room_at first ≡ Some place) where
+  module _ (place : ℕ) (room : next_place first ≡ Some place) where
     pub branches_fail : branches_read ≡ None → union_at one ds known first ≡ None
     unfolding union_at
     branches_fail none = rw (room, none) refl
@@ -129,14 +129,14 @@ module _ (one : PartReader ℕ) (ds : Items) (known : Known) (first : ℕ) where
     unfolding union_at
     union_is bs nodes known2 parts differ = rw (room, parts, differ) refl
 
-    pub union_done : (bs : List (ℕ × ℕ)) (before mid after : List NodeView) (blank : NodeView) (known2 : Known) → place ≡ length before → mid ≡ before ++ blank ∷ []
+    pub union_done : (bs : List (ℕ × ℕ)) (before mid after : List NodeView) (placeholder : NodeView) (known2 : Known) → place ≡ length before → mid ≡ before ++ placeholder ∷ []
         → AddsPart branches_read bs mid after known2 → all_distinct (λ a b. a == b) (map (λ b. b.1) bs) ≡ true
         → AddsPart (union_at one ds known first) place before (set after place (union (map (λ b. b.0) bs))) known2
-    union_done bs before mid after blank known2 place_is mid_is parts differ =
+    union_done bs before mid after placeholder known2 place_is mid_is parts differ =
         record {
           added = union (map (λ b. b.0) bs) ∷ parts.added;
           is = union_is bs parts.added known2 parts.is differ;
-          after_is = settled before mid after parts.added place blank (union (map (λ b. b.0) bs)) mid_is parts.after_is place_is;
+          after_is = settled before mid after parts.added place placeholder (union (map (λ b. b.0) bs)) mid_is parts.after_is place_is;
         }
 
 -- ---- a branch
@@ -147,12 +147,12 @@ module _ (one : PartReader ℕ) (d : Data) (known : Known) (first : ℕ) where
   branch_fails none = rw none refl
 
   pub is_no_branch : (p : ℕ) (before after : List NodeView) (known2 : Known) (t : AddsPart (one d known first) p before after known2) → branch_kind p t.added ≡ None → branch_of one d known first ≡ None
-  unfolding branch_of branch_number
+  unfolding branch_of branch_kind_number
   is_no_branch p before after known2 t none = rw (t.is, none) refl
 
   pub is_branch : (p : ℕ) (kind : BranchKind) (before after : List NodeView) (known2 : Known) (t : AddsPart (one d known first) p before after known2) → branch_kind p t.added ≡ Some kind
       → AddsPart (branch_of one d known first) (p, kind_number kind) before after known2
-  unfolding branch_of branch_number
+  unfolding branch_of branch_kind_number
   is_branch p kind before after known2 t some = record { added = t.added; is = rw (t.is, some) refl; after_is = t.after_is }
 
 -- ---- a field
@@ -189,11 +189,11 @@ module _ (one : PartReader ℕ) (d : Data) (known : Known) (first : ℕ) where
 -- ---- records
 
 module _ (types : TypeReader) (space : List ℕ) (ms : Members) (known : Known) (first : ℕ) where
-  pub record_past : room_at first ≡ None → record_at types space ms known first ≡ None
+  pub record_past : next_place first ≡ None → record_at types space ms known first ≡ None
   unfolding record_at
   record_past none = rw none refl
 
-  module _ (place : ℕ) (room : room_at first ≡ Some place) where
+  module _ (place : ℕ) (room : next_place first ≡ Some place) where
     pub no_named : named_in space ms known ≡ None → record_at types space ms known first ≡ None
     unfolding record_at
     no_named none = rw (room, none) refl
@@ -226,12 +226,12 @@ module _ (types : TypeReader) (space : List ℕ) (ms : Members) (known : Known) 
           unfolding record_at
           record_is fields nodes known2 parts differ = rw (room, e, f, bound, parts, differ) refl
 
-          pub record_done : (fields : List FieldView) (before mid after : List NodeView) (blank : NodeView) (known2 : Known) → place ≡ length before → mid ≡ before ++ blank ∷ []
+          pub record_done : (fields : List FieldView) (before mid after : List NodeView) (placeholder : NodeView) (known2 : Known) → place ≡ length before → mid ≡ before ++ placeholder ∷ []
               → AddsPart fields_read fields mid after known2 → all_distinct bytes_eq (map (λ x. x.name) fields) ≡ true
               → AddsPart (record_at types space ms known first) place before (set after place (rec named fields extra)) known2
-          record_done fields before mid after blank known2 place_is mid_is parts differ =
+          record_done fields before mid after placeholder known2 place_is mid_is parts differ =
               record {
                 added = rec named fields extra ∷ parts.added;
                 is = record_is fields parts.added known2 parts.is differ;
-                after_is = settled before mid after parts.added place blank (rec named fields extra) mid_is parts.after_is place_is;
+                after_is = settled before mid after parts.added place placeholder (rec named fields extra) mid_is parts.after_is place_is;
               }

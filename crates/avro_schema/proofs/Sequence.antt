@@ -101,12 +101,12 @@ new_nodes old all added from e is =
 
 -- ---- a node that precedes those of its parts and is filled in after them
 
-set_middle : (before : List NodeView) (blank s : NodeView) (added : List NodeView) → set ((before ++ blank ∷ []) ++ added) (length before) s ≡ before ++ s ∷ added
-set_middle [] blank s added = refl
-set_middle (x ∷ before) blank s added = ap (λ (xs : List NodeView). x ∷ xs) (set_middle before blank s added)
+set_middle : (before : List NodeView) (placeholder s : NodeView) (added : List NodeView) → set ((before ++ placeholder ∷ []) ++ added) (length before) s ≡ before ++ s ∷ added
+set_middle [] placeholder s added = refl
+set_middle (x ∷ before) placeholder s added = ap (λ (xs : List NodeView). x ∷ xs) (set_middle before placeholder s added)
 
-pub settled : (before mid after added : List NodeView) (place : ℕ) (blank s : NodeView) → mid ≡ before ++ blank ∷ [] → after ≡ mid ++ added → place ≡ length before → set after place s ≡ before ++ s ∷ added
-settled before mid after added place blank s mid_is after_is place_is = rw (after_is, mid_is, place_is) (set_middle before blank s added)
+pub settled : (before mid after added : List NodeView) (place : ℕ) (placeholder s : NodeView) → mid ≡ before ++ placeholder ∷ [] → after ≡ mid ++ added → place ≡ length before → set after place s ≡ before ++ s ∷ added
+settled before mid after added place placeholder s mid_is after_is place_is = rw (after_is, mid_is, place_is) (set_middle before placeholder s added)
 
 -- the place of a pushed node doesn't change when others follow
 pub still_there : (mid after : List Node) (added : List NodeView) (place n : ℕ) → nodes_view after ≡ nodes_view mid ++ added → length mid ≡ n + 1 → place ≡ n → place < length after

@@ -18,9 +18,9 @@ use Rattle.avro_schema.specs.Keywords.{kind_of, type_kind_of}
 use Rattle.avro_schema.specs.Attributes.{◌>>=◌, without_all, text_in, array_in, text_if_any, texts_in, texts_if_any, size_of, fallback_in, order_in}
 use Rattle.avro_schema.specs.Inside.Distinct.{all_distinct}
 use Rattle.avro_schema.specs.Inside.Declarations.{name_keys, if_new, new_name, named_in, symbols_in, enum_at, fixed_at, FieldAttributesView, field_attributes_in, field_attribute_keys, bounded, bounded_value}
-use Rattle.avro_schema.specs.Inside.ValueReaders.{Part, parts_of, room_at}
+use Rattle.avro_schema.specs.Inside.ValueReaders.{Part, parts_of, next_place}
 use Rattle.avro_schema.specs.Kinds.{BranchKind}
-use Rattle.avro_schema.specs.Inside.KindNumbers.{branch_number}
+use Rattle.avro_schema.specs.Inside.KindNumbers.{branch_kind_number}
 use Rattle.avro_schema.proofs.KindLemmas.{numbered, same_places, kinds_distinct, kind_of_number}
 use Rattle.avro_schema.specs.Inside.Types.{reference_to, primitive_at, kind_or_reference, name_at, container_at, branch_of, union_at, field_at, field_of, record_at, by_type_kind, object_at, type_at}
 use Rattle.avro_schema.specs.Denotes.{IsExtra, IsNamed, IsEnum, IsField, HasTypeKind, Denotes, a_primitive, a_reference, primitive_type, reference_type, array_type, map_type, fixed_type, enum_type, record_type, union_type}
@@ -109,7 +109,7 @@ enum_says : (n : ℕ) (space : List ℕ) (ms : Members) (known : Known) (first :
 unfolding enum_at
 enum_says n space ms known first p s e =
     let rest = without_all name_keys (inside ms) in
-    let q = bind5 (room_at first) (λ _. named_in space (inside ms) known) (λ _ _. symbols_in rest) (λ _ _ symbols. fallback_in symbols (get_member (codes "default") (without_all (codes "symbols" ∷ []) rest)))
+    let q = bind5 (next_place first) (λ _. named_in space (inside ms) known) (λ _ _. symbols_in rest) (λ _ _ symbols. fallback_in symbols (get_member (codes "default") (without_all (codes "symbols" ∷ []) rest)))
     (λ _ _ _ _. bounded (without_all (codes "symbols" ∷ codes "default" ∷ []) rest))
     (λ place named symbols fallback extra. Some (record { it = place; nodes = enumeration named symbols fallback extra ∷ []; known = defined known named.name place })) p e in
     let room = room_is first q.0 q.5 in
@@ -121,7 +121,7 @@ fixed_says : (n : ℕ) (space : List ℕ) (ms : Members) (known : Known) (first 
 unfolding fixed_at
 fixed_says n space ms known first p s e =
     let rest = without_all name_keys (inside ms) in
-    let q = bind4 (room_at first) (λ _. named_in space (inside ms) known) (λ _ _. size_of (get_member (codes "size") rest)) (λ _ _ _. bounded (without_all (codes "size" ∷ []) rest))
+    let q = bind4 (next_place first) (λ _. named_in space (inside ms) known) (λ _ _. size_of (get_member (codes "size") rest)) (λ _ _ _. bounded (without_all (codes "size" ∷ []) rest))
     (λ place named size extra. Some (record { it = place; nodes = fixed named size extra ∷ []; known = defined known named.name place })) p e in
     let room = room_is first q.0 q.4 in
     subst (λ (x : Part ℕ). Says_ (suc n) space (json.object ms) known first x)
@@ -133,7 +133,7 @@ fixed_says n space ms known first p s e =
 primitive_says : (n : ℕ) (space : List ℕ) (ms : Members) (known : Known) (first : ℕ) (kind : PrimitiveKind) (p : Part ℕ) → HasTypeKind ms (type_kind.Primitive kind) → primitive_at kind (inside ms) known first ≡ Some p → Says_ (suc n) space (json.object ms) known first p
 unfolding primitive_at
 primitive_says n space ms known first kind p s e =
-    let q = bind2 (room_at first) (λ _. bounded (inside ms)) (λ place extra. Some (record { it = place; nodes = primitive kind extra ∷ []; known = known })) p e in
+    let q = bind2 (next_place first) (λ _. bounded (inside ms)) (λ place extra. Some (record { it = place; nodes = primitive kind extra ∷ []; known = known })) p e in
     let room = room_is first q.0 q.2 in
     subst (λ (x : Part ℕ). Says_ (suc n) space (json.object ms) known first x)
     (ap (λ (place : ℕ). record { it = place; nodes = primitive kind q.1 ∷ []; known = known }) room.1 ∙ same_Some _ _ q.4)
@@ -142,7 +142,7 @@ primitive_says n space ms known first kind p s e =
 name_says : (o : Option PrimitiveKind) (n : ℕ) (space s : List ℕ) (known : Known) (first : ℕ) (p : Part ℕ) → kind_of s ≡ o → kind_or_reference o space s known first ≡ Some p → Says_ (suc n) space (string s) known first p
 unfolding primitive_at reference_to
 name_says (Some kind) n space s known first p named e =
-    let q = bind2 (room_at first) (λ _. bounded no_members) (λ place extra. Some (record { it = place; nodes = primitive kind extra ∷ []; known = known })) p e in
+    let q = bind2 (next_place first) (λ _. bounded no_members) (λ place extra. Some (record { it = place; nodes = primitive kind extra ∷ []; known = known })) p e in
     let room = room_is first q.0 q.2 in
     let none = (bound_is no_members q.1 q.3).0 in
     subst (λ (x : Part ℕ). Says_ (suc n) space (string s) known first x)
@@ -217,7 +217,7 @@ module _ (n : ℕ) (says : AllSay n) where
   branches_say space (item d ds) known first ps e =
       let q = bind2 (branch_of (type_at n space) d known first) (λ p. parts_of (branch_of (type_at n space)) ds p.known (first + length p.nodes))
       (λ p more. Some (record { it = p.it ∷ more.it; nodes = p.nodes ++ more.nodes; known = more.known })) ps e in
-      let b = bind2 (type_at n space d known first) (λ p. branch_number p.it p.nodes) (λ p number. Some (record { it = (p.it, number); nodes = p.nodes; known = p.known })) q.0 q.2 in
+      let b = bind2 (type_at n space d known first) (λ p. branch_kind_number p.it p.nodes) (λ p number. Some (record { it = (p.it, number); nodes = p.nodes; known = p.known })) q.0 q.2 in
       let is : record { it = (b.0.it, b.1); nodes = b.0.nodes; known = b.0.known } ≡ q.0 = same_Some _ _ b.4 in
       let others = subst (λ (x : Part (ℕ × ℕ)). parts_of (branch_of (type_at n space)) ds x.known (first + length x.nodes) ≡ Some q.1) (sym is) q.3 in
       let whole = subst (λ (x : Part (ℕ × ℕ)). Some (record { it = x.it ∷ q.1.it; nodes = x.nodes ++ q.1.nodes; known = q.1.known }) ≡ Some ps) (sym is) q.4 in
@@ -244,7 +244,7 @@ module _ (n : ℕ) (says : AllSay n) where
   array_says : (space : List ℕ) (ms : Members) (known : Known) (first : ℕ) (p : Part ℕ) → HasTypeKind ms type_kind.Array → container_at container.Items (type_at n space) (inside ms) known first ≡ Some p → Says_ (suc n) space (json.object ms) known first p
   unfolding container_at
   array_says space ms known first p s e =
-      let q = bind4 (room_at first) (λ _. get_member (codes "items") (inside ms)) (λ _ _. bounded (without_all (codes "items" ∷ []) (inside ms))) (λ _ inner _. type_at n space inner known (first + 1))
+      let q = bind4 (next_place first) (λ _. get_member (codes "items") (inside ms)) (λ _ _. bounded (without_all (codes "items" ∷ []) (inside ms))) (λ _ inner _. type_at n space inner known (first + 1))
       (λ place _ extra t. Some (record { it = place; nodes = array t.it extra ∷ t.nodes; known = t.known })) p e in
       let room = room_is first q.0 q.4 in
       subst (λ (x : Part ℕ). Says_ (suc n) space (json.object ms) known first x)
@@ -254,7 +254,7 @@ module _ (n : ℕ) (says : AllSay n) where
   map_says : (space : List ℕ) (ms : Members) (known : Known) (first : ℕ) (p : Part ℕ) → HasTypeKind ms type_kind.Map → container_at container.Values (type_at n space) (inside ms) known first ≡ Some p → Says_ (suc n) space (json.object ms) known first p
   unfolding container_at
   map_says space ms known first p s e =
-      let q = bind4 (room_at first) (λ _. get_member (codes "values") (inside ms)) (λ _ _. bounded (without_all (codes "values" ∷ []) (inside ms))) (λ _ inner _. type_at n space inner known (first + 1))
+      let q = bind4 (next_place first) (λ _. get_member (codes "values") (inside ms)) (λ _ _. bounded (without_all (codes "values" ∷ []) (inside ms))) (λ _ inner _. type_at n space inner known (first + 1))
       (λ place _ extra t. Some (record { it = place; nodes = mapping t.it extra ∷ t.nodes; known = t.known })) p e in
       let room = room_is first q.0 q.4 in
       subst (λ (x : Part ℕ). Says_ (suc n) space (json.object ms) known first x)
@@ -264,7 +264,7 @@ module _ (n : ℕ) (says : AllSay n) where
   union_says : (space : List ℕ) (ds : Items) (known : Known) (first : ℕ) (p : Part ℕ) → union_at (type_at n space) ds known first ≡ Some p → Says_ (suc n) space (json.array ds) known first p
   unfolding union_at
   union_says space ds known first p e =
-      let q = bind2 (room_at first) (λ _. parts_of (branch_of (type_at n space)) ds known (first + 1))
+      let q = bind2 (next_place first) (λ _. parts_of (branch_of (type_at n space)) ds known (first + 1))
       (λ place ps. cond (all_distinct (λ a b. a == b) (map (λ b. b.1) ps.it)) (Some (record { it = place; nodes = union (map (λ b. b.0) ps.it) ∷ ps.nodes; known = ps.known })) None) p e in
       let g = guard_some (all_distinct (λ a b. a == b) (map (λ b. b.1) q.1.it)) (Some (record { it = q.0; nodes = union (map (λ b. b.0) q.1.it) ∷ q.1.nodes; known = q.1.known })) p q.4 in
       let room = room_is first q.0 q.2 in
@@ -280,7 +280,7 @@ module _ (n : ℕ) (says : AllSay n) where
   unfolding record_at
   record_says space ms known first p s e =
       let rest = without_all name_keys (inside ms) in
-      let q = bind5 (room_at first) (λ _. named_in space (inside ms) known) (λ _ _. array_in (codes "fields") rest) (λ _ _ _. bounded (without_all (codes "fields" ∷ []) rest))
+      let q = bind5 (next_place first) (λ _. named_in space (inside ms) known) (λ _ _. array_in (codes "fields") rest) (λ _ _ _. bounded (without_all (codes "fields" ∷ []) rest))
       (λ place named items _. parts_of (field_of (type_at n (namespace_of named.name))) items (defined known named.name place) (first + 1))
       (λ place named _ extra ps. cond (all_distinct bytes_eq (map (λ f. f.name) ps.it)) (Some (record { it = place; nodes = rec named ps.it extra ∷ ps.nodes; known = ps.known })) None) p e in
       let g = guard_some (all_distinct bytes_eq (map (λ f. f.name) q.4.it)) (Some (record { it = q.0; nodes = rec q.1 q.4.it q.3 ∷ q.4.nodes; known = q.4.known })) p q.10 in

@@ -10,7 +10,7 @@ use Rattle.avro_schema.specs.Names.{Known, is_name_sequence, is_namespace, quali
 use Rattle.avro_schema.specs.Attributes.{text_in, array_in, text_of_any, text_if_any, texts_in, texts_if_any}
 use Rattle.avro_schema.specs.Kinds.{BranchKind}
 use Rattle.avro_schema.specs.Denotes.{IsNamed, Denotes, a_primitive, a_reference, primitive_type, reference_type, array_type, map_type, fixed_type, enum_type, record_type, union_type, Branches, no_branch, branch, Fields, no_field, field}
-use Rattle.avro_schema.specs.Inside.Weight.{texts_size, named_size, names_size, map_or_zero, items_weight, full_name_in, alias_weight, namespace_in, names_weight, enum_or_fixed_weight, field_weight, record_weight, object_weight, weight}
+use Rattle.avro_schema.specs.Inside.Weight.{texts_size, named_size, names_size, map_or_zero, items_size, full_name_in, alias_size, namespace_in, definition_names_size, enum_or_fixed_size, field_size, record_size, object_size, weight}
 use Rattle.avro_schema.proofs.Inversion.{bind_some, bind3, guard_some, map_some}
 use Rattle.avro_schema.proofs.FullNames.{joined_space}
 use Rattle.avro_schema.proofs.Sizes.{names_append}
@@ -68,20 +68,20 @@ alias_full space alias name e =
     let g = guard_some (is_name_sequence alias) (cond (has_dot alias) (Some alias) (Some (qualified space alias))) name e in
     alias_at (has_dot alias) space alias name refl g.1
 
-texts_same : (space : List ℕ) (ds : Items) (ts : List (List ℕ)) → texts_in (alias_in space) ds ≡ Some ts → items_weight (alias_weight space) ds ≡ texts_size ts
+texts_same : (space : List ℕ) (ds : Items) (ts : List (List ℕ)) → texts_in (alias_in space) ds ≡ Some ts → items_size (alias_size space) ds ≡ texts_size ts
 unfolding texts_in
 texts_same space no_items ts e = ap texts_size (same_Some _ _ e)
 texts_same space (item d ds) ts e =
     let p = bind3 (as_str d) (λ text. alias_in space text) (λ _ _. texts_in (alias_in space) ds) (λ _ name more. Some (name ∷ more)) ts e in
-    let here : alias_weight space d ≡ length p.1 = ap (map_or_zero (λ alias. length (full_name_in space alias))) p.3 ∙ ap length (alias_full space p.0 p.1 p.4) in
+    let here : alias_size space d ≡ length p.1 = ap (map_or_zero (λ alias. length (full_name_in space alias))) p.3 ∙ ap length (alias_full space p.0 p.1 p.4) in
     omega (arith, here, texts_same space ds p.2 p.5, ap texts_size (same_Some _ _ p.6))
 
-aliases_same : (space : List ℕ) (o : Option Data) (ts : List (List ℕ)) → texts_if_any (alias_in space) o ≡ Some ts → map_or_zero (items_weight (alias_weight space)) (option_and_then as_array o) ≡ texts_size ts
+aliases_same : (space : List ℕ) (o : Option Data) (ts : List (List ℕ)) → texts_if_any (alias_in space) o ≡ Some ts → map_or_zero (items_size (alias_size space)) (option_and_then as_array o) ≡ texts_size ts
 aliases_same space None ts e = ap texts_size (same_Some _ _ e)
-aliases_same space (Some d) ts e = let p = bind_some (as_array d) (λ ds. texts_in (alias_in space) ds) ts e in ap (map_or_zero (items_weight (alias_weight space))) p.1 ∙ texts_same space p.0 ts p.2
+aliases_same space (Some d) ts e = let p = bind_some (as_array d) (λ ds. texts_in (alias_in space) ds) ts e in ap (map_or_zero (items_size (alias_size space))) p.1 ∙ texts_same space p.0 ts p.2
 
-names_same : (space : List ℕ) (ms : Members) (known : Known) (named : NamedView) (n : IsNamed space ms known named) → names_weight (namespace_in space n.text ms) n.text ms ≡ named_size named
-unfolding names_weight array_in
+names_same : (space : List ℕ) (ms : Members) (known : Known) (named : NamedView) (n : IsNamed space ms known named) → definition_names_size (namespace_in space n.text ms) n.text ms ≡ named_size named
+unfolding definition_names_size array_in
 names_same space ms known named n =
     let p = placed space ms known named n in
     rw p.0 (omega (arith, ap length p.1, aliases_same (namespace_of named.name) (get_member (codes "aliases") ms) named.aliases n.aliases))
@@ -89,7 +89,7 @@ names_same space ms known named n =
 -- ---- types
 
 mutual
-  unfolding weight object_weight enum_or_fixed_weight record_weight
+  unfolding weight object_size enum_or_fixed_size record_size
 
   pub weighs : {n : ℕ} {space : List ℕ} {d : Data} {known known2 : Known} {first place : ℕ} {nodes : List NodeView} → Denotes n space d known first place nodes known2 → weight n space d ≡ names_size nodes
   weighs (a_primitive e h) = refl
@@ -101,16 +101,16 @@ mutual
   weighs (fixed_type {space = space} {ms = ms} {known = known} {named = named} s n z o h) = rw (s.1, s.2, n.text_is) (omega (arith, names_same space ms known named n))
   weighs (enum_type {space = space} {ms = ms} {known = known} {named = named} s n e o h) = rw (s.1, s.2, n.text_is) (omega (arith, names_same space ms known named n))
   weighs (record_type {n = m} {space = space} {ms = ms} {items = items} {known = known} {named = named} s n i o h fs d) =
-      let within = ap (λ (x : List ℕ). items_weight (field_weight (weight m x)) items) (placed space ms known named n).0 in
+      let within = ap (λ (x : List ℕ). items_size (field_size (weight m x)) items) (placed space ms known named n).0 in
       rw (s.1, s.2, n.text_is, i) (omega (arith, names_same space ms known named n, within, fields_weigh fs))
   weighs (union_type h bs d) = omega (arith, branches_weigh bs)
 
   branches_weigh : {n : ℕ} {space : List ℕ} {ds : Items} {known known2 : Known} {first : ℕ} {branches : List (ℕ × BranchKind)} {nodes : List NodeView} → Branches n space ds known first branches nodes known2
-      → items_weight (weight n space) ds ≡ names_size nodes
+      → items_size (weight n space) ds ≡ names_size nodes
   branches_weigh no_branch = refl
   branches_weigh (branch {nodes = nodes} {more = more} d k rest) = omega (arith, weighs d, branches_weigh rest, names_append nodes more)
 
   fields_weigh : {n : ℕ} {space : List ℕ} {ds : Items} {known known2 : Known} {first : ℕ} {fields : List FieldView} {nodes : List NodeView} → Fields n space ds known first fields nodes known2
-      → items_weight (field_weight (weight n space)) ds ≡ names_size nodes
+      → items_size (field_size (weight n space)) ds ≡ names_size nodes
   fields_weigh no_field = refl
   fields_weigh (field {nodes = nodes} {more = more} i t d rest) = rw t (omega (arith, weighs d, fields_weigh rest, names_append nodes more))

@@ -4,7 +4,7 @@ ghost use Rattle.std.specs.Prelude.{IsTrue, ◌≡◌, option_map, string_bytes}
 ghost use Rattle.serde_json.specs.Find.{as_str, as_array};
 ghost use Rattle.serde_json.specs.View.{items_view};
 ghost use Rattle.avro_nodes.specs.Nodes.{texts_view};
-ghost use Rattle.avro_schema.specs.Inside.Declarations.{rule_by};
+ghost use Rattle.avro_schema.specs.Inside.Declarations.{listed_name};
 ghost use Rattle.avro_schema.specs.Attributes.{without, text_in, array_in, text_if_any, texts_in, texts_if_any, size_of};
 ghost use Rattle.avro_schema.specs.Inside.Reserved.{is_reserved_name};
 ghost use Rattle.avro_schema.specs.Inside.Borrowed.{value_data, items_data, list_data, members_data};
@@ -129,14 +129,14 @@ pub fn take_items<'a>(attributes: &mut Attributes<'a>, key: &str) -> Result<Item
 /// # Errors
 ///
 /// `BadName` if the text isn't such a name, and `OutOfMemory` if allocation fails.
-#[tactic(auto, unfolding(crate::specs::Inside::Declarations::rule_by))]
+#[tactic(auto, unfolding(crate::specs::Inside::Declarations::listed_name))]
 fn listed_name(
     alloc: Global,
     text: String,
     alias_namespace: Option<&str>,
 ) -> Result<String, SchemaError>
     ensures { Gives string_bytes result
-        (rule_by (option_map (λ s. s.now) alias_namespace.entry) (string_bytes text)) }
+        (listed_name (option_map (λ s. s.now) alias_namespace.entry) (string_bytes text)) }
 {
     let Some(namespace) = alias_namespace else {
         return if names::is_simple(text.as_str()) {
@@ -151,44 +151,45 @@ fn listed_name(
     }
 }
 
-/// `names_in` for items of the tree.
+/// `names_in` for an array of the tree.
 fn names_of(
     alloc: Global,
     items: Vec<Json<'_>>,
-    space: Option<&str>,
+    alias_namespace: Option<&str>,
 ) -> Result<Vec<String>, SchemaError>
     ensures { Gives (λ v. texts_view v.items) result
-        (texts_in (rule_by (option_map (λ s. s.now) space.entry)) (items_data items.entry.items)) }
+        (texts_in (listed_name (option_map (λ s. s.now) alias_namespace.entry)) (items_data items.entry.items)) }
 {
     let mut names = Vec::with_capacity(alloc, items.len())?;
     for item in items {
         let text = string_of(alloc, item)?;
-        names.push(listed_name(alloc, text, space)?)?;
+        names.push(listed_name(alloc, text, alias_namespace)?)?;
     }
     Ok(names)
 }
 
-/// `names_in` for owned values.
+/// `names_in` for an owned array.
 fn names_of_values(
     alloc: Global,
     values: Vec<Value>,
-    space: Option<&str>,
+    alias_namespace: Option<&str>,
 ) -> Result<Vec<String>, SchemaError>
     ensures { Gives (λ v. texts_view v.items) result
-        (texts_in (rule_by (option_map (λ s. s.now) space.entry)) (items_view values.items)) }
+        (texts_in (listed_name (option_map (λ s. s.now) alias_namespace.entry)) (items_view values.items)) }
 {
     let mut names = Vec::with_capacity(alloc, values.len())?;
     for value in values {
         let Some(text) = owning::text_of(value) else {
             return Err(SchemaError::BadShape);
         };
-        names.push(listed_name(alloc, text, space)?)?;
+        names.push(listed_name(alloc, text, alias_namespace)?)?;
     }
     Ok(names)
 }
 
-/// The names that the items of an array give: full names of aliases in the namespace, or simple
-/// names if there is no namespace.
+/// The names in an array. With a namespace (empty for the null namespace), each item is an alias,
+/// and the result has its full name. With `None`, each item must be a simple name: a symbol, or an
+/// alias of a field.
 ///
 /// # Errors
 ///
@@ -197,18 +198,18 @@ fn names_of_values(
 pub fn names_in(
     alloc: Global,
     items: Items<'_>,
-    space: Option<&str>,
+    alias_namespace: Option<&str>,
 ) -> Result<Vec<String>, SchemaError>
     ensures { Gives (λ v. texts_view v.items) result
-        (texts_in (rule_by (option_map (λ s. s.now) space.entry)) (list_data items.entry)) }
+        (texts_in (listed_name (option_map (λ s. s.now) alias_namespace.entry)) (list_data items.entry)) }
 {
     match items {
-        Items::Tree(items) => names_of(alloc, items, space),
-        Items::Owned(values) => names_of_values(alloc, values, space),
+        Items::Tree(items) => names_of(alloc, items, alias_namespace),
+        Items::Owned(values) => names_of_values(alloc, values, alias_namespace),
     }
 }
 
-/// The names that an optional attribute gives. If it is missing, there are none.
+/// The names in an optional attribute, as in `names_in`. If it is missing, there are none.
 ///
 /// # Errors
 ///
@@ -216,13 +217,13 @@ pub fn names_in(
 pub fn names_if_any(
     alloc: Global,
     attribute: Option<Json<'_>>,
-    space: Option<&str>,
+    alias_namespace: Option<&str>,
 ) -> Result<Vec<String>, SchemaError>
     ensures { Gives (λ v. texts_view v.items) result
-        (texts_if_any (rule_by (option_map (λ s. s.now) space.entry)) (option_map value_data attribute.entry)) }
+        (texts_if_any (listed_name (option_map (λ s. s.now) alias_namespace.entry)) (option_map value_data attribute.entry)) }
 {
     match attribute {
-        Some(value) => names_in(alloc, items_of(value)?, space),
+        Some(value) => names_in(alloc, items_of(value)?, alias_namespace),
         None => Ok(Vec::new(alloc)),
     }
 }

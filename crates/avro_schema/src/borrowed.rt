@@ -1,4 +1,5 @@
-//! The tree of a schema text's JSON. Its strings borrow from the text.
+//! The tree of a schema text's JSON. Its strings borrow from the text, or, if they have escapes, from
+//! the reader's buffer of decoded strings.
 
 ghost use Rattle.std.specs.Prelude.{◌≡◌, ◌<◌, None, Some, IsTrue, MatchOption, length, option_map, option_and_then, slice_get, OnOk, not, filter};
 ghost use Rattle.std.specs.List.{list_any};
@@ -13,8 +14,7 @@ use crate::others::OtherMembers;
 use serde_json::{Number, Value};
 use std::alloc::{AllocError, Global};
 
-/// A JSON value. Its strings borrow from the text, except those of `Owned` and of an object's other
-/// members.
+/// A JSON value. Its strings are borrowed, except those of `Owned` and of an object's other members.
 #[derive(Drop)]
 pub enum Json<'a> {
     Null,
@@ -154,13 +154,13 @@ pub fn empty_object<'a>(alloc: Global) -> TreeObject<'a>
     }
 }
 
-/// Reserves room for two values in a list that has no room yet. Most objects have one or two
-/// reserved members, and most unions have two branches.
+/// Reserves room for two values in a list without capacity, and does nothing to another list. Most
+/// objects have one or two reserved members, and most unions have two branches.
 ///
 /// # Errors
 ///
 /// `AllocError` if allocation fails.
-pub fn make_room<T>(list: &mut Vec<T>) -> Result<(), AllocError>
+pub fn reserve_two<T>(list: &mut Vec<T>) -> Result<(), AllocError>
     ensures { list.new.items ≡ list.old.items }
 {
     if list.capacity() == 0 {
@@ -197,7 +197,7 @@ pub fn put_reserved<'a>(
         ≡ put key.now (value_data value.entry) (object_data object.old)) }
 {
     drop_member(object, key);
-    make_room(&mut object.reserved)?;
+    reserve_two(&mut object.reserved)?;
     object.reserved.push((key, value))?;
     Ok(())
 }

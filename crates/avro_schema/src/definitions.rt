@@ -10,7 +10,7 @@ ghost use Rattle.avro_nodes.specs.Nodes.{texts_view, named_view, nodes_view};
 ghost use Rattle.avro_schema.specs.Attributes.{without_all, fallback_in};
 ghost use Rattle.avro_schema.specs.Inside.Borrowed.{members_data};
 ghost use Rattle.avro_schema.specs.Inside.Declarations.{name_keys, if_new, new_name, named_in, symbols_in, enum_at, fixed_at, bounded};
-ghost use Rattle.avro_schema.specs.Inside.ValueReaders.{room_at};
+ghost use Rattle.avro_schema.specs.Inside.ValueReaders.{next_place};
 ghost use Rattle.avro_schema.specs.Inside.ReaderResults.{Gives, ReadsPart};
 ghost use Rattle.avro_schema.specs.Inside.NameTables.{known_in, KeepsNumbers};
 
@@ -32,9 +32,9 @@ use std::alloc::Global;
 /// # Errors
 ///
 /// `TooLarge` if the schema has the maximum number of nodes.
-#[tactic(auto, unfolding(crate::specs::Inside::ValueReaders::room_at))]
+#[tactic(auto, unfolding(crate::specs::Inside::ValueReaders::next_place))]
 pub fn next_place(nodes: &Vec<Node>) -> Result<u32, SchemaError>
-    ensures room { Gives (λ p. p) result (room_at (length nodes.now.items)) }
+    ensures room { Gives (λ p. p) result (next_place (length nodes.now.items)) }
     ensures place { IfOk result (λ p. p ≡ length nodes.now.items) }
 {
     if nodes.len() < MAX_PLACES {

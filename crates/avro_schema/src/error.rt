@@ -15,14 +15,14 @@ pub enum SchemaError {
     #[error("the text is not JSON")]
     NotJson,
     /// A number isn't an integer, has an exponent or a leading zero, or doesn't fit in 64 bits.
-    #[error("a number is not a whole number of 64 bits")]
+    #[error("a number is not a 64-bit integer")]
     BadNumber,
     /// A name, a namespace, an alias or a symbol is malformed, or a definition has the name of a
     /// primitive type.
-    #[error("a name is not well formed")]
+    #[error("a name is malformed")]
     BadName,
     /// A reference names a type that isn't defined before it.
-    #[error("a reference names no definition before it")]
+    #[error("a reference names an undefined type")]
     Undefined,
     /// A full name, a field of a record or a symbol occurs twice.
     #[error("a name is defined twice")]
@@ -38,7 +38,7 @@ pub enum SchemaError {
     #[error("a default does not fit its field")]
     BadDefault,
     /// The text, the nesting depth, the number of nodes or the identity text exceeds its limit.
-    #[error("the schema is past a limit")]
+    #[error("the schema exceeds a limit")]
     TooLarge,
     /// Allocation failed.
     #[error("out of memory")]

@@ -67,21 +67,21 @@ impl NameTable {
         Ok(number)
     }
 
-    /// The place of a name in the namespace with this number.
+    /// The place of a name in the namespace with this number, or `None` if it isn't defined.
     fn place_at(&self, number: usize, name: &str) -> Option<u32>
         ensures { result ≡ in_table (slice_get self.now.tables.items number) name.now }
     {
         self.tables.get(number)?.get(name).copied()
     }
 
-    /// The place of a name in a namespace.
+    /// The place of a name in a namespace, or `None` if it isn't defined.
     fn place_in(&self, space: &str, name: &str) -> Option<u32>
         ensures { result ≡ place_in self.now space.now name.now }
     {
         self.place_at(*self.numbers.get(space)?, name)
     }
 
-    /// The place of the definition with this full name.
+    /// The place of the definition with this full name, or `None` if there is none.
     pub fn place_of(&self, full: &str) -> Option<u32>
         ensures { result ≡ known_in self.now full.now }
     {

@@ -21,7 +21,7 @@ use crate::keywords::{Container, TypeKind, type_kind_of};
 use crate::name_table::{NameTable, Namespace};
 use crate::reading::kinds::{Branch, branch_kind, member_name};
 use crate::reading::names::{name_at, primitive_at, reference_to};
-use crate::reading::nodes::{blank, container_node, field_from, fill_blank};
+use crate::reading::nodes::{container_node, field_from, fill_placeholder, placeholder};
 use avro_nodes::{Field, Node, namespace_of};
 use serde_json::Value;
 use std::alloc::Global;
@@ -78,7 +78,8 @@ pub fn type_at(
     }
 }
 
-/// The same for an owned value. The types inside it nest at most `depth` levels deep.
+/// `type_at` for an owned value whose own level is already counted. The types inside it may nest at
+/// most `depth` levels deep.
 #[cycle(read)]
 fn owned_type_at(
     alloc: Global,
@@ -108,6 +109,7 @@ fn owned_type_at(
     }
 }
 
+/// Reads a type that is declared by an object.
 #[cycle(read)]
 fn object_at(
     alloc: Global,
@@ -151,6 +153,7 @@ fn object_at(
     }
 }
 
+/// Reads an array or a map.
 #[cycle(read)]
 fn container_at(
     alloc: Global,
@@ -175,9 +178,9 @@ fn container_at(
         return Err(SchemaError::BadShape);
     };
     let extra = other_attributes(alloc, rest)?;
-    nodes.push(blank(alloc))?;
+    nodes.push(placeholder(alloc))?;
     let within = type_at(alloc, inner, space, depth, nodes, known)?;
-    fill_blank(nodes, place, container_node(container, within, extra));
+    fill_placeholder(nodes, place, container_node(container, within, extra));
     Ok(place)
 }
 
@@ -197,7 +200,7 @@ fn union_at(
     ensures kept { OnOk result (KeepsNumbers known.old known.new) }
 {
     let place = next_place(nodes)?;
-    nodes.push(blank(alloc))?;
+    nodes.push(placeholder(alloc))?;
     let read = branches_at(alloc, items, space, depth, nodes, known)?;
     let kinds = read
         .iter()
@@ -207,7 +210,7 @@ fn union_at(
         return Err(SchemaError::BadUnion);
     }
     let branches = read.iter().map(|branch| branch.place).collect(alloc)?;
-    fill_blank(nodes, place, Node::Union { branches });
+    fill_placeholder(nodes, place, Node::Union { branches });
     Ok(place)
 }
 
@@ -277,6 +280,7 @@ fn owned_branches_at(
     Ok(branches)
 }
 
+/// Reads a branch of a union: its place and its kind.
 #[cycle(read)]
 fn branch_at(
     alloc: Global,
@@ -320,7 +324,7 @@ fn record_at(
     let named = named_of(alloc, &mut rest, space.text, known)?;
     let items = take_items(&mut rest, "fields")?;
     let extra = other_attributes(alloc, rest)?;
-    nodes.push(blank(alloc))?;
+    nodes.push(placeholder(alloc))?;
     let number = known.define(alloc, named.name.as_str(), place)?;
     let inside = Namespace {
         text: namespace_of(named.name.as_str()),
@@ -335,7 +339,7 @@ fn record_at(
         fields,
         extra,
     };
-    fill_blank(nodes, place, node);
+    fill_placeholder(nodes, place, node);
     Ok(place)
 }
 

@@ -32,8 +32,9 @@ use std::marker::Model;
 /// The maximum nesting depth of the JSON text.
 const MAX_DEPTH: usize = 127;
 
-/// The budget of a text's tree. It is enough for all fields that fit into a text, since a field takes
-/// at least 24 bytes and costs 2. Or it is enough for 2,184 objects or 4,369 strings in arrays.
+/// The budget of a text's tree. It is enough for all fields that fit into a schema's text: a field
+/// costs 2, and takes at least 24 bytes unless its type adds a node. It is also enough for 2,184
+/// objects, or for 4,369 strings in arrays.
 const TREE_BUDGET: usize = MAX_TEXT / 12;
 
 /// An Avro schema: the nodes that its text denotes. A node's place is its index; the root is at

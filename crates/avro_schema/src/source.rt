@@ -8,7 +8,7 @@ ghost use Rattle.serde_json.specs.Read.{of_json, of_items, of_members, converted
 ghost use Rattle.avro_schema.specs.Inside.Borrowed.{value_data, items_data, items_on, object_data};
 
 use crate::borrowed::{
-    Json, TreeObject, empty_object, find, is_reserved, make_room, put_reserved, text_of,
+    Json, TreeObject, empty_object, find, is_reserved, put_reserved, reserve_two, text_of,
 };
 use crate::error::JsonError;
 use crate::owned_values::{number_of, owned_items_at, owned_value_at};
@@ -17,10 +17,10 @@ use json::{Reader, Token};
 use serde_json::Value;
 use std::alloc::Global;
 
-/// Where a value is in the text. An object may be a record if its `type` so far is missing or
-/// `"record"`.
+/// The role of a value, as far as the text before it shows. An object may be a record if its `type`
+/// so far is missing or `"record"`.
 #[derive(Clone, Copy)]
-enum Position {
+enum Role {
     /// the member `fields` of an object that may be a record
     FieldList,
     /// an item of such a list, if all earlier items are objects
@@ -28,55 +28,56 @@ enum Position {
     Elsewhere,
 }
 
-/// The position of the items of an array.
-fn position_of_items(array: Position) -> Position {
+/// The role of the first item of an array with this role.
+fn role_of_items(array: Role) -> Role {
     match array {
-        Position::FieldList => Position::Field,
-        Position::Field | Position::Elsewhere => Position::Elsewhere,
+        Role::FieldList => Role::Field,
+        Role::Field | Role::Elsewhere => Role::Elsewhere,
     }
 }
 
-/// The position of the items after this one.
-fn position_after(position: Position, item: &Json<'_>) -> Position {
+/// The role of the next item: it stays the same after an object, and is `Elsewhere` after any other
+/// item.
+fn role_after(role: Role, item: &Json<'_>) -> Role {
     match item {
-        Json::Object(_) => position,
+        Json::Object(_) => role,
         Json::Null
         | Json::Bool(_)
         | Json::Number(_)
         | Json::Text(_)
         | Json::Array(_)
-        | Json::Owned(_) => Position::Elsewhere,
+        | Json::Owned(_) => Role::Elsewhere,
     }
 }
 
-/// The position of the member `key` of an object whose members so far are `found`.
-fn position_of_member(key: &str, found: &TreeObject<'_>) -> Position {
+/// The role of the member `key` of an object whose members so far are `found`.
+fn role_of_member(key: &str, found: &TreeObject<'_>) -> Role {
     if key != "fields" {
-        return Position::Elsewhere;
+        return Role::Elsewhere;
     }
     match find(found, "type") {
-        None => Position::FieldList,
+        None => Role::FieldList,
         Some(value) => match text_of(value) {
-            Some("record") => Position::FieldList,
-            _ => Position::Elsewhere,
+            Some("record") => Role::FieldList,
+            _ => Role::Elsewhere,
         },
     }
 }
 
-/// What remains of the budget after an object or an item of an array. Fields are cheap, because a
-/// schema may have more fields than other values.
-fn after_value(budget: usize, position: Position) -> usize
+/// What remains of the budget after an object or an item of an array. Fields are cheap, so that all
+/// fields that fit into a text fit into the tree.
+fn after_value(budget: usize, role: Role) -> usize
     ensures { result ≤ budget }
 {
-    match position {
-        Position::Field => budget.saturating_sub(1),
-        Position::FieldList | Position::Elsewhere => budget.saturating_sub(20),
+    match role {
+        Role::Field => budget.saturating_sub(1),
+        Role::FieldList | Role::Elsewhere => budget.saturating_sub(20),
     }
 }
 
 /// Reads a value as a tree. `budget` limits the number of objects and of items of arrays in it: a
-/// field costs 2, another object in an array 40, and any other item or object 20. It changes only how
-/// much reading takes, so no contract mentions it.
+/// field costs 2, another object in an array 40, and any other item or object 20. It affects
+/// only time and memory, so no contract mentions it.
 ///
 /// # Errors
 ///
@@ -94,7 +95,7 @@ pub fn tree_at<'a>(
         → converted of_json (value depth reader.old) ≡ None }
 {
     let mut left = budget;
-    value_at(alloc, reader, depth, Position::Elsewhere, &mut left)
+    value_at(alloc, reader, depth, Role::Elsewhere, &mut left)
 }
 
 #[cycle(source)]
@@ -103,7 +104,7 @@ fn value_at<'a>(
     alloc: Global,
     reader: &mut Reader<'a>,
     depth: usize,
-    position: Position,
+    role: Role,
     budget: &mut usize,
 ) -> Result<Json<'a>, JsonError>
     ensures ok { IfOk result
@@ -129,19 +130,13 @@ fn value_at<'a>(
             if depth == 0 {
                 return Err(JsonError::Invalid);
             }
-            Ok(array_at(
-                alloc,
-                reader,
-                depth - 1,
-                position_of_items(position),
-                budget,
-            )?)
+            Ok(array_at(alloc, reader, depth - 1, role_of_items(role), budget)?)
         }
         Token::BeginObject => {
             if depth == 0 {
                 return Err(JsonError::Invalid);
             }
-            *budget = after_value(*budget, position);
+            *budget = after_value(*budget, role);
             Ok(Json::Object(members_at(alloc, reader, depth - 1, budget)?))
         }
     }
@@ -166,14 +161,14 @@ fn owned_array_at<'a>(
     Ok(Json::Owned(Value::Array(owned_items_at(alloc, before, reader, depth)?)))
 }
 
-/// Reads the rest of an array whose first item has the position `first`.
+/// Reads the rest of an array whose first item has the role `first`.
 #[cycle(source)]
 #[inline(never)]
 fn array_at<'a>(
     alloc: Global,
     reader: &mut Reader<'a>,
     depth: usize,
-    first: Position,
+    first: Role,
     budget: &mut usize,
 ) -> Result<Json<'a>, JsonError>
     ensures ok { IfOk result
@@ -184,17 +179,17 @@ fn array_at<'a>(
         → converted of_items (items (value depth) (length reader.old) reader.old) ≡ None }
 {
     let mut found = Vec::new(alloc);
-    let mut position = first;
+    let mut role = first;
     'items: while !reader.take_end_array() {
         if *budget == 0 {
             return owned_array_at(alloc, found, reader, depth);
         }
-        let item = value_at(alloc, reader, depth, position, budget)?;
-        position = position_after(position, &item);
+        let item = value_at(alloc, reader, depth, role, budget)?;
+        role = role_after(role, &item);
         // `value_at` has already charged for an object. This charges for the item. It costs as little
         // as a field only if it is an object.
-        *budget = after_value(*budget, position);
-        make_room(&mut found)?;
+        *budget = after_value(*budget, role);
+        reserve_two(&mut found)?;
         found.push(item)?;
     }
     Ok(Json::Array(found))
@@ -218,8 +213,8 @@ fn member_at<'a>(
         → converted of_json (value depth reader.old) ≡ None }
 {
     if is_reserved(key) {
-        let position = position_of_member(key, &*found);
-        let member = value_at(alloc, reader, depth, position, budget)?;
+        let role = role_of_member(key, &*found);
+        let member = value_at(alloc, reader, depth, role, budget)?;
         put_reserved(found, key, member)?;
         return Ok(());
     }

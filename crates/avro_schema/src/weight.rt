@@ -9,7 +9,7 @@ ghost use Rattle.avro_schema.specs.Attributes.{text_in, array_in};
 ghost use Rattle.avro_schema.specs.Inside.Reserved.{is_reserved_name};
 ghost use Rattle.avro_schema.specs.Inside.Borrowed.{value_data};
 ghost use Rattle.avro_schema.specs.Inside.References.{ref_data, items_ref_data, object_ref_data};
-ghost use Rattle.avro_schema.specs.Inside.Weight.{map_or_zero, items_weight, full_name_in, alias_weight, namespace_in, names_weight, enum_or_fixed_weight, field_weight, record_weight, object_weight, weight};
+ghost use Rattle.avro_schema.specs.Inside.Weight.{map_or_zero, items_size, full_name_in, alias_size, namespace_in, definition_names_size, enum_or_fixed_size, field_size, record_size, object_size, weight};
 
 use crate::borrowed::Json;
 use crate::keywords::{TypeKind, type_kind_of};
@@ -41,8 +41,8 @@ fn items_at<'t, 'a>(members: ObjectRef<'t, 'a>, key: &str) -> Option<ItemsRef<'t
     }
 }
 
-/// What remains of a budget of bytes after the full name of this name in the namespace. In every
-/// function here, 0 remains if the budget doesn't suffice.
+/// The bytes of a budget that remain after the full name of this name in the namespace. Every
+/// function here returns 0 if the budget is too small.
 #[tactic(auto, unfolding(crate::specs::Inside::Weight::full_name_in, crate::specs::Names::qualified))]
 fn after_name(budget: usize, name: &str, space: &str) -> usize
     ensures { result ≡ budget - length (full_name_in space.now name.now) }
@@ -57,7 +57,7 @@ fn after_name(budget: usize, name: &str, space: &str) -> usize
 
 /// What remains after an alias of a type in the namespace.
 fn after_alias(budget: usize, alias: ValueRef<'_, '_>, space: &str) -> usize
-    ensures { result ≡ budget - alias_weight space.now (ref_data alias.entry) }
+    ensures { result ≡ budget - alias_size space.now (ref_data alias.entry) }
 {
     match text_of(alias) {
         Some(name) => after_name(budget, name, space),
@@ -66,7 +66,7 @@ fn after_alias(budget: usize, alias: ValueRef<'_, '_>, space: &str) -> usize
 }
 
 fn after_aliases(budget: usize, aliases: ItemsRef<'_, '_>, space: &str) -> usize
-    ensures { result ≡ budget - items_weight (alias_weight space.now) (items_ref_data aliases.entry) }
+    ensures { result ≡ budget - items_size (alias_size space.now) (items_ref_data aliases.entry) }
 {
     let mut rest = budget;
     match aliases {
@@ -103,9 +103,9 @@ fn definition_namespace<'t>(
 }
 
 /// What remains after the name and the aliases of a definition in the namespace.
-#[tactic(auto, unfolding(crate::specs::Inside::Weight::names_weight))]
+#[tactic(auto, unfolding(crate::specs::Inside::Weight::definition_names_size))]
 fn after_names(budget: usize, members: ObjectRef<'_, '_>, name: &str, space: &str) -> usize
-    ensures { result ≡ budget - names_weight space.now name.now (object_ref_data members.entry) }
+    ensures { result ≡ budget - definition_names_size space.now name.now (object_ref_data members.entry) }
 {
     let rest = after_name(budget, name, space);
     match items_at(members, "aliases") {
@@ -115,9 +115,9 @@ fn after_names(budget: usize, members: ObjectRef<'_, '_>, name: &str, space: &st
 }
 
 /// What remains after a definition without types inside it.
-#[tactic(auto, unfolding(crate::specs::Inside::Weight::enum_or_fixed_weight))]
+#[tactic(auto, unfolding(crate::specs::Inside::Weight::enum_or_fixed_size))]
 fn after_definition(budget: usize, members: ObjectRef<'_, '_>, enclosing: &str) -> usize
-    ensures { result ≡ budget - enum_or_fixed_weight enclosing.now (object_ref_data members.entry) }
+    ensures { result ≡ budget - enum_or_fixed_size enclosing.now (object_ref_data members.entry) }
 {
     match text_at(members, "name") {
         Some(name) => after_names(
@@ -173,6 +173,7 @@ fn after_owned_type(budget: usize, value: &Value, space: &str, depth: u32) -> us
     }
 }
 
+/// What remains after the type, if there is one.
 #[cycle(weigh)]
 fn after_type_if_any(
     budget: usize,
@@ -190,7 +191,7 @@ fn after_type_if_any(
 
 #[cycle(weigh)]
 fn after_branches(budget: usize, branches: ItemsRef<'_, '_>, space: &str, depth: u32) -> usize
-    ensures { result ≡ budget - items_weight (weight depth space.now) (items_ref_data branches.entry) }
+    ensures { result ≡ budget - items_size (weight depth space.now) (items_ref_data branches.entry) }
 {
     let mut rest = budget;
     match branches {
@@ -209,9 +210,9 @@ fn after_branches(budget: usize, branches: ItemsRef<'_, '_>, space: &str, depth:
 }
 
 #[cycle(weigh)]
-#[tactic(auto, unfolding(crate::specs::Inside::Weight::object_weight))]
+#[tactic(auto, unfolding(crate::specs::Inside::Weight::object_size))]
 fn after_object(budget: usize, members: ObjectRef<'_, '_>, space: &str, depth: u32) -> usize
-    ensures { result ≡ budget - object_weight (weight depth) space.now (object_ref_data members.entry) }
+    ensures { result ≡ budget - object_size (weight depth) space.now (object_ref_data members.entry) }
 {
     let Some(name) = text_at(members, "type") else {
         return budget;
@@ -226,9 +227,9 @@ fn after_object(budget: usize, members: ObjectRef<'_, '_>, space: &str, depth: u
 }
 
 #[cycle(weigh)]
-#[tactic(auto, unfolding(crate::specs::Inside::Weight::record_weight))]
+#[tactic(auto, unfolding(crate::specs::Inside::Weight::record_size))]
 fn after_record(budget: usize, members: ObjectRef<'_, '_>, enclosing: &str, depth: u32) -> usize
-    ensures { result ≡ budget - record_weight (weight depth) enclosing.now (object_ref_data members.entry) }
+    ensures { result ≡ budget - record_size (weight depth) enclosing.now (object_ref_data members.entry) }
 {
     let Some(name) = text_at(members, "name") else {
         return budget;
@@ -243,7 +244,7 @@ fn after_record(budget: usize, members: ObjectRef<'_, '_>, enclosing: &str, dept
 
 #[cycle(weigh)]
 fn after_fields(budget: usize, fields: ItemsRef<'_, '_>, space: &str, depth: u32) -> usize
-    ensures { result ≡ budget - items_weight (field_weight (weight depth space.now)) (items_ref_data fields.entry) }
+    ensures { result ≡ budget - items_size (field_size (weight depth space.now)) (items_ref_data fields.entry) }
 {
     let mut rest = budget;
     match fields {
@@ -263,7 +264,7 @@ fn after_fields(budget: usize, fields: ItemsRef<'_, '_>, space: &str, depth: u32
 
 #[cycle(weigh)]
 fn after_field(budget: usize, field: ValueRef<'_, '_>, space: &str, depth: u32) -> usize
-    ensures { result ≡ budget - field_weight (weight depth space.now) (ref_data field.entry) }
+    ensures { result ≡ budget - field_size (weight depth space.now) (ref_data field.entry) }
 {
     match object_of(field) {
         Some(members) => after_type_if_any(budget, find(members, "type"), space, depth),

@@ -31,7 +31,7 @@ abbrev pub members_before_then : List ℕ → Members → Members → Members
 members_before_then k no_members more = more
 members_before_then k (member l e ms) more = match_ordering (slice_cmp nat_cmp k l) more more (member l e (members_before_then k ms more))
 
--- the members from the first that isn't before the name, without one of that name
+-- drops the leading members that sort before `k`, then a member named `k`
 abbrev pub rest_after : List ℕ → Members → Members
 rest_after k no_members = no_members
 rest_after k (member l e ms) = match_ordering (slice_cmp nat_cmp k l) (member l e ms) ms (rest_after k ms)
@@ -57,7 +57,7 @@ AreJsonOf (json.member k j js) (member l d ms) = (k ≡ l) × IsJsonOf j d × Ar
 abbrev pub EndsObject : Members → List Token → List Token → Type 0
 EndsObject ms old new = (js : json.Members) × (new ≡ old ++ tree.members_tokens js) × AreJsonOf js ms
 
--- tokens that end the object after this member end it, with the member, from `old`
+-- `new` is `old` with this member: tokens that complete `new` with `ms` complete `old` with this member and `ms`
 abbrev pub WritesMember : List ℕ → Data → List Token → List Token → Type 0
 WritesMember k d old new = (ms : Members) (end : List Token) → EndsObject ms new end → EndsObject (member k d ms) old end
 
@@ -85,18 +85,18 @@ AreOrdered (member k d ms) = AllAfter k ms × AreOrdered ms
 
 -- ---- attributes that may be left out
 
-abbrev pub some_texts : List (List ℕ) → Option Data
-some_texts [] = None
-some_texts (t ∷ ts) = Some (array (texts (t ∷ ts)))
+abbrev pub texts_value : List (List ℕ) → Option Data
+texts_value [] = None
+texts_value (t ∷ ts) = Some (array (texts (t ∷ ts)))
 
-abbrev pub order_text : Order → Option Data
-order_text Ascending = None
-order_text Descending = Some (string (codes "descending"))
-order_text Ignore = Some (string (codes "ignore"))
+abbrev pub order_value : Order → Option Data
+order_value Ascending = None
+order_value Descending = Some (string (codes "descending"))
+order_value Ignore = Some (string (codes "ignore"))
 
-abbrev pub null_namespace : List ℕ → List ℕ → Option Data
-null_namespace [] name = None
-null_namespace (c ∷ enclosing) name = if has_dot name then None else Some (string [])
+abbrev pub namespace_value : List ℕ → List ℕ → Option Data
+namespace_value [] name = None
+namespace_value (c ∷ enclosing) name = if has_dot name then None else Some (string [])
 
 -- ---- types that are written in part
 
@@ -110,7 +110,7 @@ array_end = (codes "type", Some (string (codes "array"))) ∷ []
 
 -- the attributes after the fields of a record
 abbrev pub record_end : List ℕ → List ℕ → List Attribute
-record_end enclosing name = (codes "name", Some (string name)) ∷ (codes "namespace", null_namespace enclosing name) ∷ (codes "type", Some (string (codes "record"))) ∷ []
+record_end enclosing name = (codes "name", Some (string name)) ∷ (codes "namespace", namespace_value enclosing name) ∷ (codes "type", Some (string (codes "record"))) ∷ []
 
 -- ---- places
 

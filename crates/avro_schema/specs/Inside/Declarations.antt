@@ -13,7 +13,7 @@ use Rattle.avro_nodes.specs.Names.{namespace_of, last_part}
 use Rattle.avro_schema.specs.Keywords.{kind_of}
 use Rattle.avro_schema.specs.Attributes.{◌>>=◌, without_all, text_in, array_in, text_if_any, texts_in, texts_if_any, size_of, fallback_in, order_in}
 use Rattle.avro_schema.specs.Inside.Distinct.{all_distinct}
-use Rattle.avro_schema.specs.Inside.ValueReaders.{Part, room_at}
+use Rattle.avro_schema.specs.Inside.ValueReaders.{Part, next_place}
 
 -- these attributes, if they nest within the limit
 unfoldable pub bounded : Members → Option Members
@@ -26,10 +26,10 @@ bounded_value (Some d) = if nat_le (depth d) max_nesting then Some (Some d) else
 
 -- ---- names
 
--- the name that an item of a list gives: with a namespace, the full name of an alias; without one, a simple name
-abbrev pub rule_by : Option (List ℕ) → List ℕ → Option (List ℕ)
-rule_by None text = allowed is_simple text
-rule_by (Some space) text = alias_in space text
+-- the name in an item of a list: with a namespace, which may be empty, the full name of an alias; with `None`, a simple name, as of a symbol
+abbrev pub listed_name : Option (List ℕ) → List ℕ → Option (List ℕ)
+listed_name None text = allowed is_simple text
+listed_name (Some space) text = alias_in space text
 
 -- the full name, if it is not defined yet and its last part is not the name of a primitive type
 abbrev pub if_new : Known → List ℕ → Option (List ℕ)
@@ -63,7 +63,7 @@ symbols_in ms = do
 -- the enum that these members declare, if they are valid, with the next place
 unfoldable pub enum_at : List ℕ → Members → Known → ℕ → Option (Part ℕ)
 enum_at space ms known first = do
-  place ← room_at first
+  place ← next_place first
   named ← named_in space ms known
   symbols ← symbols_in (without_all name_keys ms)
   fallback ← fallback_in symbols (get_member (codes "default") (without_all (codes "symbols" ∷ []) (without_all name_keys ms)))
@@ -73,7 +73,7 @@ enum_at space ms known first = do
 -- the fixed type that these members declare, if they are valid, with the next place
 unfoldable pub fixed_at : List ℕ → Members → Known → ℕ → Option (Part ℕ)
 fixed_at space ms known first = do
-  place ← room_at first
+  place ← next_place first
   named ← named_in space ms known
   size ← size_of (get_member (codes "size") (without_all name_keys ms))
   extra ← bounded (without_all (codes "size" ∷ []) (without_all name_keys ms))

@@ -24,17 +24,17 @@ kind_number array_kind = 8
 kind_number map_kind = 9
 kind_number (named_kind place) = 10 + place
 
--- the number of the kind of a branch that has this place and added these nodes
-unfoldable pub branch_number : ℕ → List NodeView → Option ℕ
-branch_number place nodes = option_map kind_number (branch_kind place nodes)
+-- the number of a branch's kind, from the branch's place and the nodes that it added
+unfoldable pub branch_kind_number : ℕ → List NodeView → Option ℕ
+branch_kind_number place nodes = option_map kind_number (branch_kind place nodes)
 
--- the kind of a branch at this place, as the reader has it
-abbrev pub kind_at : ℕ → KindRead → BranchKind
-kind_at place (Primitive kind) = primitive_kind kind
-kind_at place Array = array_kind
-kind_at place Map = map_kind
-kind_at place Named = named_kind place
+-- the kind that a `BranchKind` of the code means; the place identifies a named type
+abbrev pub kind_view : ℕ → KindRead → BranchKind
+kind_view place (Primitive kind) = primitive_kind kind
+kind_view place Array = array_kind
+kind_view place Map = map_kind
+kind_view place Named = named_kind place
 
 -- a branch: its place and the number of its kind
 abbrev pub branch_view : Branch → ℕ × ℕ
-branch_view b = (b.place, kind_number (kind_at b.place b.kind))
+branch_view b = (b.place, kind_number (kind_view b.place b.kind))

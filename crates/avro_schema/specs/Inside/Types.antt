@@ -11,14 +11,14 @@ use Rattle.avro_schema.specs.declared.keywords.TypeKind.{TypeKind}
 use Rattle.avro_schema.specs.declared.keywords.TypeKind.TheVariants as type_kind
 use Rattle.avro_schema.specs.declared.keywords.Container.{Container}
 use Rattle.avro_schema.specs.declared.keywords.Container.TheVariants.{Items as of_items, Values as of_values}
-use Rattle.avro_schema.specs.Inside.KindNumbers.{branch_number}
+use Rattle.avro_schema.specs.Inside.KindNumbers.{branch_kind_number}
 use Rattle.avro_schema.specs.Names.{Known, resolved, defined}
 use Rattle.avro_nodes.specs.Names.{namespace_of}
 use Rattle.avro_schema.specs.Keywords.{kind_of, type_kind_of}
 use Rattle.avro_schema.specs.Attributes.{◌>>=◌, without_all, text_in, array_in}
 use Rattle.avro_schema.specs.Inside.Distinct.{all_distinct}
 use Rattle.avro_schema.specs.Inside.Declarations.{name_keys, named_in, enum_at, fixed_at, FieldAttributesView, field_attributes_in, field_attribute_keys, bounded}
-use Rattle.avro_schema.specs.Inside.ValueReaders.{Part, PartReader, TypeReader, parts_of, room_at}
+use Rattle.avro_schema.specs.Inside.ValueReaders.{Part, PartReader, TypeReader, parts_of, next_place}
 
 -- a reference, which adds no node
 unfoldable pub reference_to : List ℕ → List ℕ → Known → Option (Part ℕ)
@@ -26,7 +26,7 @@ reference_to space name known = option_map (λ p. record { it = p; nodes = []; k
 
 unfoldable pub primitive_at : PrimitiveKind → Members → Known → ℕ → Option (Part ℕ)
 primitive_at kind ms known first = do
-  place ← room_at first
+  place ← next_place first
   extra ← bounded ms
   Some (record { it = place; nodes = primitive kind extra ∷ []; known = known })
 
@@ -50,7 +50,7 @@ container_node of_values place extra = mapping place extra
 
 unfoldable pub container_at : Container → PartReader ℕ → Members → Known → ℕ → Option (Part ℕ)
 container_at container one ms known first = do
-  place ← room_at first
+  place ← next_place first
   inner ← get_member (member_name container) ms
   extra ← bounded (without_all (member_name container ∷ []) ms)
   p ← one inner known (first + 1)
@@ -62,12 +62,12 @@ container_at container one ms known first = do
 unfoldable pub branch_of : PartReader ℕ → PartReader (ℕ × ℕ)
 branch_of one d known first = do
   p ← one d known first
-  number ← branch_number p.it p.nodes
+  number ← branch_kind_number p.it p.nodes
   Some (record { it = (p.it, number); nodes = p.nodes; known = p.known })
 
 unfoldable pub union_at : PartReader ℕ → Items → Known → ℕ → Option (Part ℕ)
 union_at one ds known first = do
-  place ← room_at first
+  place ← next_place first
   ps ← parts_of (branch_of one) ds known (first + 1)
   if all_distinct (λ a b. a == b) (map (λ b. b.1) ps.it) then Some (record { it = place; nodes = union (map (λ b. b.0) ps.it) ∷ ps.nodes; known = ps.known }) else None
 
@@ -87,7 +87,7 @@ field_of one d known first = do
 
 unfoldable pub record_at : TypeReader → List ℕ → Members → Known → ℕ → Option (Part ℕ)
 record_at types space ms known first = do
-  place ← room_at first
+  place ← next_place first
   named ← named_in space ms known
   items ← array_in (codes "fields") (without_all name_keys ms)
   extra ← bounded (without_all (codes "fields" ∷ []) (without_all name_keys ms))

@@ -29,5 +29,5 @@ parts_of one (item d ds) known first = do
   Some (record { it = p.it ∷ more.it; nodes = p.nodes ++ more.nodes; known = more.known })
 
 -- the place of a new node, or `None` if the schema has the maximum number of nodes
-unfoldable pub room_at : ℕ → Option ℕ
-room_at first = if nat_lt first max_places then Some first else None
+unfoldable pub next_place : ℕ → Option ℕ
+next_place first = if nat_lt first max_places then Some first else None

@@ -34,69 +34,69 @@ abbrev pub names_size : List NodeView → ℕ
 names_size [] = 0
 names_size (node ∷ nodes) = node_names_size node + names_size nodes
 
--- ---- the same for a JSON value; the number has no meaning if the value denotes no nodes
+-- ---- the same for a JSON value; the number has no meaning if the value denotes no nodes. A value that nests deeper counts 0
 
 abbrev pub map_or_zero : {A : Type 0} → (A → ℕ) → Option A → ℕ
 map_or_zero one None = 0
 map_or_zero one (Some x) = one x
 
-abbrev pub items_weight : (Data → ℕ) → Items → ℕ
-items_weight one no_items = 0
-items_weight one (item d ds) = one d + items_weight one ds
+abbrev pub items_size : (Data → ℕ) → Items → ℕ
+items_size one no_items = 0
+items_size one (item d ds) = one d + items_size one ds
 
 -- the full name of a name in a namespace; a name with a dot is a full name already
 unfoldable pub full_name_in : List ℕ → List ℕ → List ℕ
 full_name_in space name = if has_dot name then name else qualified space name
 
-abbrev pub alias_weight : List ℕ → Data → ℕ
-alias_weight space d = map_or_zero (λ alias. length (full_name_in space alias)) (as_str d)
+abbrev pub alias_size : List ℕ → Data → ℕ
+alias_size space d = map_or_zero (λ alias. length (full_name_in space alias)) (as_str d)
 
 -- the namespace of a definition, by its name, its attributes and the enclosing namespace
 unfoldable pub namespace_in : List ℕ → List ℕ → Members → List ℕ
 namespace_in enclosing name ms = if has_dot name then namespace_of name else unwrap_or (text_in (codes "namespace") ms) enclosing
 
--- the name and the aliases of a definition in the namespace
-unfoldable pub names_weight : List ℕ → List ℕ → Members → ℕ
-names_weight space name ms = length (full_name_in space name) + map_or_zero (items_weight (alias_weight space)) (array_in (codes "aliases") ms)
+-- the bytes of the full name and the aliases of a definition in the namespace
+unfoldable pub definition_names_size : List ℕ → List ℕ → Members → ℕ
+definition_names_size space name ms = length (full_name_in space name) + map_or_zero (items_size (alias_size space)) (array_in (codes "aliases") ms)
 
--- the bytes of the names of an enum or a fixed, given the enclosing namespace; 0 without a string `name`
-unfoldable pub enum_or_fixed_weight : List ℕ → Members → ℕ
-enum_or_fixed_weight enclosing ms = map_or_zero (λ name. names_weight (namespace_in enclosing name ms) name ms) (text_in (codes "name") ms)
+-- the same of an enum or a fixed, given the enclosing namespace; 0 without a string `name`
+unfoldable pub enum_or_fixed_size : List ℕ → Members → ℕ
+enum_or_fixed_size enclosing ms = map_or_zero (λ name. definition_names_size (namespace_in enclosing name ms) name ms) (text_in (codes "name") ms)
 
--- the bytes of a type, given the namespace
-abbrev pub Weigher : Type 0
-Weigher = List ℕ → Data → ℕ
+-- the bytes of the full names and aliases of all definitions in a type, given the enclosing namespace
+abbrev pub NamesSize : Type 0
+NamesSize = List ℕ → Data → ℕ
 
-abbrev pub field_weight : (Data → ℕ) → Data → ℕ
-field_weight one d = map_or_zero one (option_and_then (get_member (codes "type")) (as_object d))
+abbrev pub field_size : (Data → ℕ) → Data → ℕ
+field_size one d = map_or_zero one (option_and_then (get_member (codes "type")) (as_object d))
 
-unfoldable pub record_weight : Weigher → List ℕ → Members → ℕ
-record_weight types space ms =
-    map_or_zero (λ name. names_weight (namespace_in space name ms) name ms + map_or_zero (items_weight (field_weight (types (namespace_in space name ms)))) (array_in (codes "fields") ms))
+unfoldable pub record_size : NamesSize → List ℕ → Members → ℕ
+record_size types space ms =
+    map_or_zero (λ name. definition_names_size (namespace_in space name ms) name ms + map_or_zero (items_size (field_size (types (namespace_in space name ms)))) (array_in (codes "fields") ms))
     (text_in (codes "name") ms)
 
--- the bytes of an object, by what its `type` declares
-abbrev pub by_type_kind : TypeKind → Weigher → List ℕ → Members → ℕ
+-- the same of an object, by what its `type` declares
+abbrev pub by_type_kind : TypeKind → NamesSize → List ℕ → Members → ℕ
 by_type_kind (type_kind.Primitive kind) types space ms = 0
 by_type_kind type_kind.Array types space ms = map_or_zero (types space) (get_member (codes "items") ms)
 by_type_kind type_kind.Map types space ms = map_or_zero (types space) (get_member (codes "values") ms)
-by_type_kind type_kind.Fixed types space ms = enum_or_fixed_weight space ms
-by_type_kind type_kind.Enum types space ms = enum_or_fixed_weight space ms
-by_type_kind type_kind.Record types space ms = record_weight types space ms
+by_type_kind type_kind.Fixed types space ms = enum_or_fixed_size space ms
+by_type_kind type_kind.Enum types space ms = enum_or_fixed_size space ms
+by_type_kind type_kind.Record types space ms = record_size types space ms
 by_type_kind type_kind.Reference types space ms = 0
 
-unfoldable pub object_weight : Weigher → List ℕ → Members → ℕ
-object_weight types space ms = map_or_zero (λ name. by_type_kind (type_kind_of name) types space ms) (text_in (codes "type") ms)
+unfoldable pub object_size : NamesSize → List ℕ → Members → ℕ
+object_size types space ms = map_or_zero (λ name. by_type_kind (type_kind_of name) types space ms) (text_in (codes "type") ms)
 
-abbrev pub form_weight : Weigher → Weigher
-form_weight types space (json.array ds) = items_weight (types space) ds
-form_weight types space (json.object ms) = object_weight types space ms
-form_weight types space (string s) = 0
-form_weight types space json.null = 0
-form_weight types space (json.boolean b) = 0
-form_weight types space (json.number n) = 0
+abbrev pub form_size : NamesSize → NamesSize
+form_size types space (json.array ds) = items_size (types space) ds
+form_size types space (json.object ms) = object_size types space ms
+form_size types space (string s) = 0
+form_size types space json.null = 0
+form_size types space (json.boolean b) = 0
+form_size types space (json.number n) = 0
 
--- the bytes of a type that nests at most n levels deep
-unfoldable pub weight : ℕ → Weigher
+-- the same of a type, of which at most n levels count
+unfoldable pub weight : ℕ → NamesSize
 weight zero space d = 0
-weight (suc n) space d = form_weight (weight n) space d
+weight (suc n) space d = form_size (weight n) space d

@@ -3,7 +3,7 @@
 ghost use Rattle.std.specs.Prelude.{◌≡◌, ℕ, option_map};
 ghost use Rattle.avro_nodes.specs.Nodes.{nodes_view};
 ghost use Rattle.avro_schema.specs.Kinds.{branch_kind};
-ghost use Rattle.avro_schema.specs.Inside.KindNumbers.{primitive_number, kind_at, branch_view};
+ghost use Rattle.avro_schema.specs.Inside.KindNumbers.{primitive_number, kind_view, branch_view};
 ghost use Rattle.avro_schema.specs.Inside.Types.{member_name};
 
 use crate::keywords::Container;
@@ -57,10 +57,11 @@ impl Branch {
     }
 }
 
-/// The kind of a branch that added these nodes. `None` if the branch is a union.
+/// The kind of a branch, from the nodes that it added. A branch that added none is a reference to a
+/// named type. `None` if the branch is a union.
 #[tactic(auto, unfolding(crate::specs::Kinds::branch_kind))]
 pub fn branch_kind(added: &[Node]) -> Option<BranchKind>
-    ensures { (place : ℕ) → option_map (kind_at place) result ≡ branch_kind place (nodes_view added.now) }
+    ensures { (place : ℕ) → option_map (kind_view place) result ≡ branch_kind place (nodes_view added.now) }
 {
     match added.first() {
         None => Some(BranchKind::Named),

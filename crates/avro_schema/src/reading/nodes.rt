@@ -28,14 +28,14 @@ pub fn container_node(container: Container, place: u32, extra: Members) -> Node
 }
 
 /// A placeholder for a node until the types inside it are read.
-pub fn blank(alloc: Global) -> Node {
+pub fn placeholder(alloc: Global) -> Node {
     Node::Union {
         branches: Vec::new(alloc),
     }
 }
 
 /// Replaces the placeholder at the place by the node.
-pub fn fill_blank(nodes: &mut Vec<Node>, place: u32, node: Node)
+pub fn fill_placeholder(nodes: &mut Vec<Node>, place: u32, node: Node)
     requires { place < length nodes.old.items }
     ensures { nodes_view nodes.new.items
         ≡ slice_set (nodes_view nodes.old.items) place (node_view node) }

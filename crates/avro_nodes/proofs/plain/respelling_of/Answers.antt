@@ -1,6 +1,6 @@
 use Rattle.std.proofs.Common.{◌≡◌, ◌∙◌, ℕ, List, length, take, Some, string_bytes, sym, ap, arith}
 use Rattle.std.proofs.lemmas.List.{append-nil, take_all}
-use Rattle.avro_nodes.specs.Plain.{Outside, before, plain}
+use Rattle.avro_nodes.specs.Plain.{Outside, prepended, plain}
 use Rattle.avro_nodes.proofs.Runs.{front_range, nothing_left, turn_done, turn_fails, run_cut}
 use Rattle.avro_nodes.proofs.plain.respelling_of.Goals as goal
 
@@ -23,7 +23,7 @@ returns-then-at-bytes c =
     let same : c.as_bytes-bytes.result.now ≡ text = c.as_bytes-bytes.ensures.value in
     let whole : at ≡ length text = rw same at c.if-at-bytes.true in
     let over = nothing_left Outside text at (omega (arith, whole)) in
-    ap (λ (s : List ℕ). Some s) (sym (take_all at text (omega (arith, whole))) ∙ sym (append-nil (take at text))) ∙ ap (before (take at text)) (sym over) ∙ c.unchanged_len-at.ensures.kept
+    ap (λ (s : List ℕ). Some s) (sym (take_all at text (omega (arith, whole))) ∙ sym (append-nil (take at text))) ∙ ap (prepended (take at text)) (sym over) ∙ c.unchanged_len-at.ensures.kept
 
 pub returns-in_default : goal.returns-in_default
 returns-in_default c =
@@ -50,4 +50,4 @@ pub returns : goal.returns
 returns c =
     let same = c.as_bytes-bytes.ensures.value in
     let over = nothing_left Outside c.args.text.now c.loop-at.at (rw same at c.loop-at-test.false) in
-    ap (λ (s : List ℕ). Some s) (sym (append-nil (string_bytes c.loop-at.out))) ∙ ap (before (string_bytes c.loop-at.out)) (sym over) ∙ c.loop-at.invariant.text
+    ap (λ (s : List ℕ). Some s) (sym (append-nil (string_bytes c.loop-at.out))) ∙ ap (prepended (string_bytes c.loop-at.out)) (sym over) ∙ c.loop-at.invariant.text

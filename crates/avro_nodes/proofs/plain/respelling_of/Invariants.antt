@@ -1,12 +1,12 @@
 use Rattle.std.proofs.Common.{◌≡◌, ◌-◌, ◌≤◌, drop, length, string_bytes}
 use Rattle.std.specs.Str.{IsCharBoundary}
-use Rattle.avro_nodes.specs.Plain.{Outside, before, joined, pieces, plain}
+use Rattle.avro_nodes.specs.Plain.{Outside, prepended, joined, pieces, plain}
 use Rattle.avro_nodes.proofs.plain.respelling_of.Given as goal
 
 abbrev pub invariant-loop-at : goal.invariant-loop-at
 invariant-loop-at l =
     record {
-      text : before (string_bytes l.out) (joined (pieces Outside (drop l.at l.text))) ≡ plain l.text;
+      text : prepended (string_bytes l.out) (joined (pieces Outside (drop l.at l.text))) ≡ plain l.text;
       bounds : l.at ≤ length l.text;
       cut : IsCharBoundary l.text l.at;
     }

@@ -1,6 +1,6 @@
 use Rattle.std.proofs.Common.{◌+◌, ◌∙◌, ap, sym, refl, get_or, arith}
 use Rattle.std.specs.Prelude.{slice_range}
-use Rattle.avro_nodes.specs.Plain.{Inside, Outside, before}
+use Rattle.avro_nodes.specs.Plain.{Inside, Outside, prepended}
 use Rattle.avro_nodes.proofs.Runs.{inside_next, joined_more, nothing_left, quote_ends}
 use Rattle.avro_nodes.proofs.plain.string_end.Goals as goal
 
@@ -30,4 +30,4 @@ returns-clause-pieces c =
     let bs = c.args.bytes.now in
     let at = c.loop-at.at in
     c.loop-at.invariant.skipped
-    ∙ ap (before (slice_range bs c.args.from at)) (nothing_left Inside bs at c.loop-at-test.false ∙ sym (nothing_left Outside bs at c.loop-at-test.false))
+    ∙ ap (prepended (slice_range bs c.args.from at)) (nothing_left Inside bs at c.loop-at-test.false ∙ sym (nothing_left Outside bs at c.loop-at-test.false))

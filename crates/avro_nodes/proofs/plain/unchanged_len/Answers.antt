@@ -1,13 +1,13 @@
 use Rattle.std.proofs.Common.{◌≡◌, ◌≤◌, ◌∙◌, List, ℕ, ap, sym, take, drop, arith}
 use Rattle.std.specs.Prelude.{slice_range}
 use Rattle.std.proofs.lemmas.Str.{IsCharBoundary-start}
-use Rattle.avro_nodes.specs.Plain.{Outside, before, joined, pieces, plain}
-use Rattle.avro_nodes.proofs.Runs.{before_nothing, turn_done, run_cut, taken_more}
+use Rattle.avro_nodes.specs.Plain.{Outside, prepended, joined, pieces, plain}
+use Rattle.avro_nodes.proofs.Runs.{prepended_nothing, turn_done, run_cut, taken_more}
 use Rattle.avro_nodes.proofs.plain.unchanged_len.Goals as goal
 
 pub loop-at-init : goal.loop-at-init
 loop-at-init c = record {
-  kept = before_nothing (plain c.args.text.now);
+  kept = prepended_nothing (plain c.args.text.now);
   bounds = omega arith;
   cut = IsCharBoundary-start c.args.text.now c.utf8.text;
 }
@@ -29,7 +29,7 @@ loop-at-preserved c =
     let cut = run_cut text c.run_start-start.result c.run_end-end.result c.utf8.text (rw same at c.run_start-start.ensures.bounds.1) (rw same at c.run_start-start.ensures.found) (rw same at c.run_end-end.ensures) in
     let begins : c.run_start-start.result ≤ c.run_end-end.result = omega (arith, c.run_end-end.ensures) in
     record {
-      kept = ap (λ (s : List ℕ). before s (joined (pieces Outside (drop c.run_end-end.result text)))) (sym (taken_more text c.loop-at.at c.run_start-start.result c.run_end-end.result c.run_start-start.ensures.bounds.0 begins)) ∙ done;
+      kept = ap (λ (s : List ℕ). prepended s (joined (pieces Outside (drop c.run_end-end.result text)))) (sym (taken_more text c.loop-at.at c.run_start-start.result c.run_end-end.result c.run_start-start.ensures.bounds.0 begins)) ∙ done;
       bounds = cut.0;
       cut = cut;
     }

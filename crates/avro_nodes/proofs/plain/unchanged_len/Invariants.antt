@@ -1,12 +1,12 @@
 use Rattle.std.proofs.Common.{◌≡◌, ◌-◌, ◌≤◌, take, drop, length}
 use Rattle.std.specs.Str.{IsCharBoundary}
-use Rattle.avro_nodes.specs.Plain.{Outside, before, joined, pieces, plain}
+use Rattle.avro_nodes.specs.Plain.{Outside, prepended, joined, pieces, plain}
 use Rattle.avro_nodes.proofs.plain.unchanged_len.Given as goal
 
 abbrev pub invariant-loop-at : goal.invariant-loop-at
 invariant-loop-at l =
     record {
-      kept : before (take l.at l.text) (joined (pieces Outside (drop l.at l.text))) ≡ plain l.text;
+      kept : prepended (take l.at l.text) (joined (pieces Outside (drop l.at l.text))) ≡ plain l.text;
       bounds : l.at ≤ length l.text;
       cut : IsCharBoundary l.text l.at;
     }

@@ -9,7 +9,7 @@ pub returns : goal.returns
 returns c =
     let left = c.drop_member.new.object in
     let kept = members_view left.others.members.entries in
-    let added = c.in_ok-push.ensures.items ∙ ap (λ (ys : List Entry). ys ++ (c.args.key, c.args.value) ∷ []) c.make_room.ensures in
+    let added = c.in_ok-push.ensures.items ∙ ap (λ (ys : List Entry). ys ++ (c.args.key, c.args.value) ∷ []) c.reserve_two.ensures in
     ap (λ ys. put_all (read_of ys) kept) added
     ∙ pushed left.reserved.items (c.args.key, c.args.value) kept
     ∙ rw (reserved_is c.args.key.now c.requires) (c.drop_member.ensures (value_data c.args.value))

@@ -140,8 +140,8 @@ container_at-returns-in_err-within-clause-read t c =
 pub container_at-take-requires : goal.container_at-take-requires
 container_at-take-requires t c = rw c.member_name.ensures (key_reserved c.args.object.container)
 
-pub container_at-fill_blank-requires : goal.container_at-fill_blank-requires
-container_at-fill_blank-requires t c =
+pub container_at-fill_placeholder-requires : goal.container_at-fill_placeholder-requires
+container_at-fill_placeholder-requires t c =
     let next = one_more _ _ _ c.in_ok-push.ensures.items in
     still_there _ _ _ _ _ c.in_ok-within.ensures.read.after_is next c.in_ok-place.ensures.place
 
@@ -150,7 +150,7 @@ container_at-returns-clause-read t c =
     let holds = rw c.member_name.ensures at (sym c.in-Some.ensures.value) in
     let rest = rw c.member_name.ensures at c.in-Some.ensures.rest in
     let next = one_more _ _ _ c.in_ok-push.ensures.items in
-    rw (c.fill_blank.ensures, c.container_node.ensures)
+    rw (c.fill_placeholder.ensures, c.container_node.ensures)
     (container_done _ _ _ _ _ _ c.in_ok-place.ensures.room _ holds _ (rw rest at c.in_ok-extra.ensures) _ _ _ _ _ _ (c.in_ok-place.ensures.place ∙ sym (length-nodes _)) (nodes_push _ _ _ c.in_ok-push.ensures.items) (rw next at c.in_ok-within.ensures.read))
 
 -- ---- a union
@@ -243,8 +243,8 @@ union_at-returns-then-not-are_numbers_distinct-clause-read t c =
     let alike = ap (all_distinct (λ a b. a == b)) (map-map (λ (b : ℕ × ℕ). b.1) branch_view c.in_ok-read.read.items ∙ sym kinds) ∙ sym c.are_numbers_distinct.ensures ∙ c.if-not-are_numbers_distinct.true in
     branches_alike _ _ _ _ _ c.in_ok-place.ensures.room _ _ _ _ (rw next at c.in_ok-read.ensures.read) alike
 
-pub union_at-fill_blank-requires : goal.union_at-fill_blank-requires
-union_at-fill_blank-requires t c =
+pub union_at-fill_placeholder-requires : goal.union_at-fill_placeholder-requires
+union_at-fill_placeholder-requires t c =
     let next = one_more _ _ _ c.in_ok-push.ensures.items in
     still_there _ _ _ _ _ c.in_ok-read.ensures.read.after_is next c.in_ok-place.ensures.place
 
@@ -255,7 +255,7 @@ union_at-returns-clause-read t c =
     let differ = ap (all_distinct (λ a b. a == b)) (map-map (λ (b : ℕ × ℕ). b.1) branch_view c.in_ok-read.read.items ∙ sym kinds) ∙ sym c.are_numbers_distinct.ensures ∙ c.if-not-are_numbers_distinct.false in
     let places : c.in_ok-branches.branches.items ≡ map (λ b. b.place) c.in_ok-read.read.items = search rules in
     let branches = places ∙ sym (map-map (λ (b : ℕ × ℕ). b.0) branch_view c.in_ok-read.read.items) in
-    rw (c.fill_blank.ensures, branches)
+    rw (c.fill_placeholder.ensures, branches)
     (union_done _ _ _ _ _ c.in_ok-place.ensures.room _ _ _ _ _ _ (c.in_ok-place.ensures.place ∙ sym (length-nodes _)) (nodes_push _ _ _ c.in_ok-push.ensures.items) (rw next at c.in_ok-read.ensures.read) differ)
 
 -- ---- a field
@@ -401,8 +401,8 @@ record_at-returns-then-not-branch-clause-read t c =
     let alike = rw c.deref.ensures.value at (sym c.in_ok-are_names_distinct.ensures ∙ c.if-not-branch.true) in
     fields_alike _ _ _ _ _ _ c.in_ok-place.ensures.room _ c.in_ok-named.ensures.named _ listed _ (rw rest at c.in_ok-extra.ensures) _ _ _ _ (rw (inside, known, next) at c.in_ok-fields.ensures.read) (ap (all_distinct bytes_eq) (field_names c.in_ok-fields.fields.items) ∙ alike)
 
-pub record_at-fill_blank-requires : goal.record_at-fill_blank-requires
-record_at-fill_blank-requires t c =
+pub record_at-fill_placeholder-requires : goal.record_at-fill_placeholder-requires
+record_at-fill_placeholder-requires t c =
     let next = one_more _ _ _ c.in_ok-push.ensures.items in
     still_there _ _ _ _ _ c.in_ok-fields.ensures.read.after_is next c.in_ok-place.ensures.place
 
@@ -414,7 +414,7 @@ record_at-returns-clause-read t c =
     let inside : c.namespace_of.result.now ≡ namespace_of (string_bytes c.in_ok-named.named.name) = c.namespace_of.ensures ∙ ap namespace_of c.as_str-2.ensures.value in
     let known = rw c.as_str.ensures.value at c.in_ok-number.ensures.defined in
     let differ = rw c.deref.ensures.value at (sym c.in_ok-are_names_distinct.ensures ∙ c.if-not-branch.false) in
-    rw c.fill_blank.ensures
+    rw c.fill_placeholder.ensures
     (record_done _ _ _ _ _ _ c.in_ok-place.ensures.room _ c.in_ok-named.ensures.named _ listed _ (rw rest at c.in_ok-extra.ensures) _ _ _ _ _ _ (c.in_ok-place.ensures.place ∙ sym (length-nodes _)) (nodes_push _ _ _ c.in_ok-push.ensures.items) (rw (inside, known, next) at c.in_ok-fields.ensures.read) (ap (all_distinct bytes_eq) (field_names c.in_ok-fields.fields.items) ∙ differ))
 
 pub record_at-returns-clause-kept : goal.record_at-returns-clause-kept

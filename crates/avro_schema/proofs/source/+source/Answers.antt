@@ -124,7 +124,7 @@ array_at-items-preserved t c =
       n - 1,
       omega (arith, l.invariant.1),
       l.invariant.2 ∙ ap (parse_map (items_on (items_data l.found.items))) turn ∙ one_more_item l.found.items v _
-          ∙ ap (λ vs. parse_map (items_on (items_data vs)) (converted of_items (items p (n - 1) r))) (sym (c.in_ok-push.ensures.items ∙ ap (λ vs. vs ++ v ∷ []) c.make_room.ensures)),
+          ∙ ap (λ vs. parse_map (items_on (items_data vs)) (converted of_items (items p (n - 1) r))) (sym (c.in_ok-push.ensures.items ∙ ap (λ vs. vs ++ v ∷ []) c.reserve_two.ensures)),
       omega (arith, l.invariant.3),
     )
 

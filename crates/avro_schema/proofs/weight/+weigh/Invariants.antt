@@ -1,7 +1,7 @@
 use Rattle.std.proofs.Common.{◌≡◌, ◌+◌, ◌*◌, ◌-◌, drop}
 use Rattle.serde_json.specs.View.{items_view}
 use Rattle.avro_schema.specs.Inside.Borrowed.{items_data}
-use Rattle.avro_schema.specs.Inside.Weight.{items_weight, field_weight, weight}
+use Rattle.avro_schema.specs.Inside.Weight.{items_size, field_size, weight}
 use Rattle.avro_schema.proofs.weight.+weigh.Given as goal
 
 abbrev pub decreases-after_owned_type : goal.decreases-after_owned_type
@@ -32,15 +32,15 @@ abbrev pub decreases-after_object : goal.decreases-after_object
 decreases-after_object l = 8 * l.depth + 7
 
 abbrev pub invariant-after_branches-tree : goal.invariant-after_branches-tree
-invariant-after_branches-tree l = l.rest - items_weight (weight l.depth l.space) (items_data (drop l.item-index l.item-items)) ≡ l.budget - items_weight (weight l.depth l.space) (items_data l.item-items)
+invariant-after_branches-tree l = l.rest - items_size (weight l.depth l.space) (items_data (drop l.item-index l.item-items)) ≡ l.budget - items_size (weight l.depth l.space) (items_data l.item-items)
 
 abbrev pub invariant-after_branches-owned : goal.invariant-after_branches-owned
-invariant-after_branches-owned l = l.rest - items_weight (weight l.depth l.space) (items_view (drop l.value-index l.value-items)) ≡ l.budget - items_weight (weight l.depth l.space) (items_view l.value-items)
+invariant-after_branches-owned l = l.rest - items_size (weight l.depth l.space) (items_view (drop l.value-index l.value-items)) ≡ l.budget - items_size (weight l.depth l.space) (items_view l.value-items)
 
 abbrev pub invariant-after_fields-tree : goal.invariant-after_fields-tree
 invariant-after_fields-tree l =
-    l.rest - items_weight (field_weight (weight l.depth l.space)) (items_data (drop l.item-index l.item-items)) ≡ l.budget - items_weight (field_weight (weight l.depth l.space)) (items_data l.item-items)
+    l.rest - items_size (field_size (weight l.depth l.space)) (items_data (drop l.item-index l.item-items)) ≡ l.budget - items_size (field_size (weight l.depth l.space)) (items_data l.item-items)
 
 abbrev pub invariant-after_fields-owned : goal.invariant-after_fields-owned
 invariant-after_fields-owned l =
-    l.rest - items_weight (field_weight (weight l.depth l.space)) (items_view (drop l.value-index l.value-items)) ≡ l.budget - items_weight (field_weight (weight l.depth l.space)) (items_view l.value-items)
+    l.rest - items_size (field_size (weight l.depth l.space)) (items_view (drop l.value-index l.value-items)) ≡ l.budget - items_size (field_size (weight l.depth l.space)) (items_view l.value-items)
