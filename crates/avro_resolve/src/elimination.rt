@@ -165,8 +165,9 @@ fn examine_unions(
     Ok(())
 }
 
-/// Propagates a run to the unions of both schemas. If the run is at least as long as the list of
-/// the reader's unions, checks all of them, else those that have one of its places as a branch.
+/// Propagates a run to the writer's unions that have the row as a branch. If the row isn't a union,
+/// also propagates it to the reader's unions. If the run is at least as long as the list of these,
+/// checks all of them, else those that have one of the run's places as a branch.
 fn propagate_to_unions(
     schemas: &SchemaPair,
     dependents: &Dependents,

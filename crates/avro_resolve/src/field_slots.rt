@@ -12,8 +12,9 @@ use crate::schemas::{Fields, RankMap, SchemaPair};
 use avro_schema::FieldRanks;
 use std::alloc::Global;
 
-/// Puts the index of each field into the slot of its name's rank. It begins with the last field, so
-/// that the first of a name remains.
+/// Puts the index of each field into the slot of its name's rank in the reader's schema. Skips a
+/// field if the reader lacks its name. It begins with the last field, so that the first of a name
+/// remains.
 pub fn fill_slots(slots: &mut [Option<usize>], rank_map: &RankMap, fields: &[FieldRanks])
     requires clear { IsClear slots.old }
     requires has_slots { HasSlots slots.old rank_map.now.ranks.items }

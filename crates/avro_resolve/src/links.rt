@@ -41,7 +41,7 @@ pub struct Links {
     pub unions: Vec<Vec<u32>>,
     /// for each place, the links of arrays, maps and records to it
     pub lists: Vec<Vec<Link>>,
-    /// the fields with aliases; a field's number is its index
+    /// the reader's fields with aliases; a field's number is its index; empty for the writer
     pub aliased: Vec<Aliased>,
 }
 

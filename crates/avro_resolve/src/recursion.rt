@@ -49,15 +49,17 @@ pub struct Walk {
     pub meter: WorkMeter,
 }
 
-/// The work limit, once a thousand pairs were opened. Beyond it elimination is cheaper: it examines
-/// each pair once, while the recursion opens a pair again after its assumption was withdrawn.
+/// The work limit, once a thousand pairs were opened. Beyond it elimination is cheaper: after two
+/// passes over all pairs, it examines only the dependents of eliminated pairs. The recursion opens
+/// a pair again after its assumption was withdrawn.
 const MAX_WORK: u64 = 4_000_000;
 
 /// The maximum number of pairs that are open at once.
 const MAX_OPEN: usize = 1000;
 
 /// The answer for a pair: `Yes` if it is assumed, `No` if it failed. Any other pair is opened and
-/// assumed. If it then isn't supported, it fails, and the assumptions made since are withdrawn.
+/// assumed, or at a limit the answer is `Unfinished`. If an opened pair isn't supported, it fails,
+/// and the assumptions made since are withdrawn.
 #[cycle(walk)]
 pub fn check_pair(
     schemas: &SchemaPair,

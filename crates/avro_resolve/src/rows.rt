@@ -128,7 +128,7 @@ fn examine_row(schemas: &SchemaPair, row: &WriterPlace, progress: &mut Progress)
     Ok(())
 }
 
-/// Examines all rows, from the first on, since most references are to earlier definitions. Returns
+/// Examines all rows, from the first on, since a reference by name is to an earlier place. Returns
 /// the source entries of the reader's fields with aliases, for each of the writer's places.
 pub fn examine_all(
     alloc: Global,

@@ -64,7 +64,8 @@ impl WorkMeter {
         self.work = self.work.saturating_add(symbols).saturating_add(PAIR);
     }
 
-    /// For each field of a reader's record, the place of its source's type or `None`.
+    /// Returns the place of the source's type, or `None`, for each field of the reader's record at
+    /// j. Counts both records' fields, and the aliases of the reader's.
     pub fn sources(
         &mut self,
         alloc: Global,

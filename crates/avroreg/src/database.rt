@@ -31,7 +31,7 @@ enum FileState {
     /// A log with frames whose database file is missing or has no byte. An open would create a new
     /// database, and empty the log.
     OrphanedLog,
-    /// Anything else. An open would overwrite the file.
+    /// Anything else: no regular file, or one that an open would overwrite.
     Other,
 }
 
@@ -180,8 +180,8 @@ fn connect_existing(rt: &HostRuntime, file: &str) -> Result<Opened<FileDatabase>
     }
 }
 
-/// Opens the database in a file for a job that creates no registry. It creates no file, and doesn't
-/// open one that is empty, unfinished, or lost next to its log.
+/// Opens the database in a file for a job that creates no registry. It creates no file. It opens
+/// nothing if the file is empty or unfinished, or if only its log is left.
 ///
 /// # Errors
 ///
@@ -202,8 +202,8 @@ pub fn open_existing_database(
 }
 
 /// Closes a database F: copies its log into F, and removes the log. If the copy fails, F and F-wal
-/// together have the committed state. If there is no registry yet, both files stay, so that the
-/// next start can create the registry.
+/// together have the committed state. If there is no registry yet, or the check for one fails, both
+/// files stay, so that the next start can create the registry.
 pub fn close(rt: &HostRuntime, file: &str, mut connection: Connection<FileDatabase>) {
     if let Ok(false) = has_no_registry(rt, file, false, &mut connection)
         && let Ok(files) = connection.close_files()

@@ -36,7 +36,7 @@ pub record IsAddition (g : Registry) (command : Command) (after : Registry) (key
   pub has_schema : schema_at after.schemas version.id ≡ Some admitted.new
   pub live : version.deleted ≡ false
 
--- Schema Registry API reference, Subjects: an earlier version had this key and the same id; if it was soft-deleted, so is this one
+-- Schema Registry API reference, Subjects: `rows` already had a version with this key and this id; if that was soft-deleted, so is this one
 pub record IsRetained (rows : Rows) (key : RowKey) (version : Version) : Type 0 where
   pub old : Version
   pub there : get rows key ≡ Some old

@@ -17,6 +17,6 @@ command_data (SetGlobalMode mode) = Some (array (item (string (codes "set-global
 command_data (SetMode subject mode) = Some (array (item (string (codes "set-mode")) (item (string subject) (item (string mode) no_items))))
 command_data _ = None
 
--- the compact text of a write; a read has none
+-- the compact text of a write; the empty text for a read
 unfoldable pub command_text : Command → List ℕ
 command_text command = option_map_or compact_text (command_data command) []

@@ -32,7 +32,7 @@ is_transitive Full = false
 is_transitive Off = false
 
 -- Schema Evolution and Compatibility, Compatibility Types: the new schema reads what the earlier one wrote (backward), the earlier one reads what
--- the new one writes (forward), or both (full)
+-- the new one writes (forward), or both (full); NONE sets no condition
 abbrev pub Compatible : Level → List NodeView → List NodeView → Type 0
 Compatible Backward earlier new = Resolves earlier new
 Compatible BackwardTransitive earlier new = Resolves earlier new

@@ -25,7 +25,7 @@ require_live row = if row.1.deleted then Err VersionSoftDeleted else Ok row
 abbrev pub require_deleted : Row → Result Row Code
 require_deleted row = if row.1.deleted then Ok row else Err VersionNotSoftDeleted
 
--- a version that was found, if it passes a test
+-- the test's result for a version that was found; the code if none was found
 abbrev pub found_and : (Row → Result Row Code) → Result Row Code → Result Row Code
 found_and test (Err code) = Err code
 found_and test (Ok row) = test row

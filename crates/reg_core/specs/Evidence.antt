@@ -53,7 +53,7 @@ kept_or_new before None had own = None
 kept_or_new (Some version) (Some after) had own = had
 kept_or_new None (Some after) had own = Some own
 
--- `new` is the evidence once the first registry became the second: each new version has the `next_evidence` of the first
+-- `new` is the evidence after registry `g` changed to `after` (`kept_or_new`): each new version has the `next_evidence` of `g`
 abbrev pub IsEvidenceUpdate : Registry → Registry → EvidenceMap → EvidenceMap → Type 0
 IsEvidenceUpdate g after old new = (key : RowKey) → get new key ≡ kept_or_new (get g.rows key) (get after.rows key) (get old key) (next_evidence g key.0)
 

@@ -52,7 +52,7 @@ subject_of (SetMode subject mode) = Some subject
 subject_of GlobalMode = None
 subject_of (ModeOf subject default_to_global) = Some subject
 
--- Schema Registry API reference, Subjects and Compatibility: whether a command sends the text of a schema whose type is supported
+-- Schema Registry API reference, Subjects and Compatibility: whether a command sends a supported schema (Avro, without references)
 abbrev pub sends_schema : Command → Bool
 sends_schema (Register subject text supported) = supported
 sends_schema (Lookup subject text supported deleted) = supported
@@ -60,8 +60,8 @@ sends_schema (Check subject version text supported) = supported
 sends_schema (CheckAll subject text supported) = supported
 sends_schema _ = false
 
--- Schema Registry API reference, Subjects and Compatibility: the schema that a command's text denotes; `None` if the command sends no text, the
--- text's type isn't supported, or the text denotes no schema
+-- Schema Registry API reference, Subjects and Compatibility: the schema that a command's text denotes; `None` if the command sends none,
+-- the schema isn't supported (Avro, without references), or the text denotes no schema
 abbrev pub command_schema : Command → Option (List NodeView)
 command_schema (Register subject text supported) = supported_schema text supported
 command_schema (Lookup subject text supported deleted) = supported_schema text supported

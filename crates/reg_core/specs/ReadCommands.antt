@@ -16,7 +16,7 @@ use Rattle.reg_core.specs.Bodies.{strings_body, numbers_body, subject_versions_b
 abbrev pub types_reply : ReplyView
 types_reply = success (strings_body (codes "AVRO" ∷ []))
 
--- Schema Registry API reference, GET /subjects: the subjects of these versions, each once, in the order of their bytes
+-- Schema Registry API reference, GET /subjects: the subjects of these versions, in their order; each once if its versions are adjacent
 abbrev pub subjects_reply : List Row → ReplyView
 subjects_reply rows = success (strings_body (dedup bytes_eq (map (λ (row : Row). row.0.0) rows)))
 
@@ -58,7 +58,7 @@ id_reply texts (Some id) [] = fault SchemaNotFound
 id_reply texts (Some id) (row ∷ rows) = text_reply schema_body (texts id)
 
 -- Schema Registry API reference, GET /schemas/ids/{id}/versions: the shown versions of the id. (This project's choice: the list is empty if all of
--- them are soft-deleted and `deleted` is off; only an id that no version has is rejected.)
+-- them are soft-deleted and `deleted` is off; an id that no version has is rejected, and so is a text that is no id.)
 abbrev pub id_versions_reply : Option ℕ → Bool → List Row → ReplyView
 id_versions_reply None deleted rows = fault SchemaNotFound
 id_versions_reply (Some id) deleted [] = fault SchemaNotFound

@@ -16,7 +16,8 @@ use Rattle.reg_core.specs.ReadCommands.{rows_with_id, found_row}
 use Rattle.reg_core.specs.Bodies.{id_body, verdict_body}
 use Rattle.reg_core.specs.Verdicts.{is_admitted}
 
--- Schema Registry API reference, Subjects: the schema that a text denotes; `None` if its type isn't supported, or it denotes none
+-- Schema Registry API reference, Subjects: the schema that a text denotes; `None` if it isn't `supported` (Avro, without references), or
+-- denotes none
 unfoldable pub supported_schema : List ℕ → Bool → Option (List NodeView)
 supported_schema text supported = if supported then denoted_nodes text else None
 
@@ -91,7 +92,8 @@ abbrev pub verdict_reply : Registry → List ℕ → List NodeView → Result Ro
 verdict_reply g subject new (Err code) = fault code
 verdict_reply g subject new (Ok row) = success (verdict_body (is_admitted_after g.schemas (level_in g subject) (row ∷ []) new))
 
--- Schema Registry API reference, POST /compatibility/subjects/{subject}/versions/{version}: by the subject's level, against only that live version
+-- Schema Registry API reference, POST /compatibility/subjects/{subject}/versions/{version}: whether the level would admit the schema,
+-- compared with that live version only
 abbrev pub check_reply : Registry → List ℕ → Option VersionChoice → Option (List NodeView) → ReplyView
 check_reply g subject None schema = fault InvalidVersion
 check_reply g subject (Some choice) None = fault InvalidSchema

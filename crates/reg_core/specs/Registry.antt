@@ -48,7 +48,7 @@ max_number = 2 ^ 31 - 1
 abbrev pub Schemas : Type 0
 Schemas = List (List NodeView)
 
--- this project's choice: the id of a schema is its position, counted from 1
+-- this project's choice: the schema with this id, or `None`; an id is a position in the list, counted from 1
 abbrev pub schema_at : Schemas → ℕ → Option (List NodeView)
 schema_at schemas zero = None
 schema_at schemas (suc n) = slice_get schemas n

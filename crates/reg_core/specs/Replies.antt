@@ -22,7 +22,7 @@ IsStatus n = IsTrue (list_any (λ status. n == status) statuses)
 abbrev pub kept_statuses : List ℕ
 kept_statuses = 200 ∷ 404 ∷ 409 ∷ 422 ∷ []
 
--- this project's choice: the status is one of the four of replies that are kept
+-- this project's choice: the number is one of the four `kept_statuses`
 abbrev pub IsKeptStatus : ℕ → Type 0
 IsKeptStatus n = IsTrue (list_any (λ status. n == status) kept_statuses)
 

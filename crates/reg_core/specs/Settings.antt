@@ -28,16 +28,18 @@ pub record Setting (A : Type 0) : Type 0 where
 abbrev pub setting_object : List ℕ → List ℕ → List ℕ
 setting_object name text = compact_text (object (member name (string text) no_members))
 
--- Schema Registry API reference, PUT /config and PUT /config/{subject}: sets the value and replies with it; rejects a text that spells no value
+-- Schema Registry API reference, PUT /config, /config/{subject}, /mode and /mode/{subject}: sets the value and replies with it; rejects a
+-- text that spells no value
 abbrev pub set : {A : Type 0} → Setting A → Registry → Option (List ℕ) → Option A → Registry × ReplyView
 set s g subject None = (g, fault s.unknown)
 set s g subject (Some value) = (s.put g subject value, success (setting_object s.member_in_put (s.text_of value)))
 
--- Schema Registry API reference, GET /config: the reply that shows the value
+-- Schema Registry API reference, GET /config and GET /mode: the reply that shows the value
 abbrev pub setting_reply : {A : Type 0} → Setting A → A → ReplyView
 setting_reply s value = success (setting_object s.member_in_get (s.text_of value))
 
--- Schema Registry API reference, GET /config/{subject}: the subject's own value; if it has none, the global one with `defaultToGlobal`, else `None`
+-- Schema Registry API reference, GET /config/{subject} and GET /mode/{subject}: the subject's own value; if it has none, the global one
+-- with `defaultToGlobal`, else `None`
 abbrev pub own_or_global : {A : Type 0} → Option A → A → Bool → Option A
 own_or_global own global default_to_global = option_or own (if default_to_global then Some global else None)
 

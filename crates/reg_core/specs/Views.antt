@@ -60,7 +60,7 @@ rows_to_read _ view = []
 abbrev pub view_text : View → ℕ → Option (List ℕ)
 view_text view id = option_map string_bytes (tree.get nat_cmp view.texts id)
 
--- this project's choice: if the command sends a text of a supported type, this is the identity text of its schema
+-- this project's choice: if the command sends a supported schema, this is its identity text, or `None` if the text denotes no schema
 abbrev pub IsCommandIdentity : Command → Option (List ℕ) → Type 0
 IsCommandIdentity command text = IsTrue (sends_schema command) → text ≡ option_map identity (command_schema command)
 
@@ -80,7 +80,7 @@ pub record IsDecisionInput (g : Registry) (command : Command) (schema : Option (
   pub sent : schema ≡ command_schema command
   pub shows : IsViewOf view g command
 
--- this project's choice: the schema passed next to a command; `None` if the command sends no text of a supported type
+-- this project's choice: the schema passed next to a command; `None` if the command sends no supported schema
 abbrev pub used_schema : Command → Option (List NodeView) → Option (List NodeView)
 used_schema command schema = if sends_schema command then schema else None
 

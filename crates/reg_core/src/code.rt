@@ -13,10 +13,10 @@ pub enum Code {
     NotFound,
     /// 40401: the subject has no version that the request may see.
     SubjectNotFound,
-    /// 40402: the subject has no such version.
+    /// 40402: the subject has no such version that the request may see.
     VersionNotFound,
-    /// 40403: no version of the subject that the request may see has the schema, or no version has
-    /// the id.
+    /// 40403: no version of the subject that the request may see has the schema, no version has the
+    /// id, or the text is no id.
     SchemaNotFound,
     /// 40404: all versions of the subject are soft-deleted.
     SubjectSoftDeleted,

@@ -169,7 +169,7 @@ impl Command {
         }
     }
 
-    /// Whether the command sends the text of a schema whose type is supported.
+    /// Whether the command sends a supported schema: its type is Avro, and it has no references.
     pub(crate) fn sends_schema(&self) -> bool
         ensures { result ≡ sends_schema self.now }
     {
@@ -182,8 +182,8 @@ impl Command {
         }
     }
 
-    /// The schema's text that the command sends, or `None` if it sends no schema, or one of another
-    /// type.
+    /// The text of the schema that the command sends, or `None` if it sends no schema, or one that
+    /// isn't supported.
     #[tactic(auto, unfolding(crate::specs::RegisterCommands::supported_schema))]
     pub fn schema_text(&self) -> Option<&Text>
         ensures { option_and_then denoted_nodes (option_copied result) ≡ command_schema self.now }

@@ -62,7 +62,8 @@ pub struct View {
     pub own_mode: Option<Mode>,
     /// The global mode.
     pub global_mode: Mode,
-    /// The id of the schema that the command sends; `None` if it isn't registered.
+    /// The id of the schema that the command sends; `None` if it isn't registered, or the text
+    /// denotes no schema.
     pub known: Option<u32>,
     /// The number of schemas, which is the greatest id.
     pub count: u32,
@@ -108,8 +109,7 @@ pub struct Decision {
 ///
 /// # Errors
 ///
-/// `OutOfMemory` if an allocation for the changes, the reply, an earlier schema or a comparison
-/// fails.
+/// `OutOfMemory` if an allocation fails.
 pub fn decide(
     alloc: Global,
     view: &View,
@@ -126,8 +126,7 @@ pub fn decide(
 ///
 /// # Errors
 ///
-/// `OutOfMemory` if an allocation for the changes, the reply, an earlier schema or a comparison
-/// fails. Even then, the cache may have changed.
+/// `OutOfMemory` if an allocation fails. Even then, the cache may have changed.
 pub fn decide_with_cache(
     alloc: Global,
     view: &View,
@@ -143,7 +142,7 @@ pub fn decide_with_cache(
     decide_permitted(alloc, view, command, schema_if_sent(command, schema), cache)
 }
 
-/// The schema, or `None` if the command sends no schema, or one of another type.
+/// The schema, or `None` if the command sends no schema, or one that isn't supported.
 fn schema_if_sent<'a>(command: &Command, schema: Option<&'a Schema>) -> Option<&'a Schema>
     ensures { option_map nodes_view (option_copied result)
         ≡ used_schema command.now (option_map nodes_view (option_copied schema.entry)) }

@@ -40,7 +40,7 @@ pub enum SubjectRows {
     ToLookUp {
         deleted: bool,
     },
-    /// Compares the sent schema with the versions that the level names.
+    /// Compares the sent schema with live versions: the latest, all or none, as the level requires.
     ToCompare,
     /// The same, and adds the schema as the next version unless a live version has it.
     ToRegister,

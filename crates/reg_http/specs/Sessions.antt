@@ -37,6 +37,7 @@ EndsAs reader xs rest out Malformed = EndsFaulty xs rest out ⊎ EndsInside read
 EndsAs reader xs rest out ReadFailed = StayOpen xs × (Follows rest End ⊎ Follows rest Part) × (out ≡ responses xs)
 -- only a beginning of the last response, or of the response to a fault, was written; it may be empty or whole
 EndsAs reader xs rest out WriteFailed = IsCutShort xs rest out
+-- each processed message got its response, or the output is cut short as for `WriteFailed`
 EndsAs reader xs rest out Memory = (StayOpen xs × (out ≡ responses xs)) ⊎ IsCutShort xs rest out
 
 -- A session. `reader` and `writer` are what the reader has left and what the writer contains, before and after it. `AreServed` is true of

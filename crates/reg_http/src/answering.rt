@@ -31,7 +31,8 @@ pub enum Stop {
     AtFault,
     /// A response wasn't written in full.
     NotWritten,
-    /// Allocating a response failed, or there were more header fields than slots for them.
+    /// Allocating a response failed. `answer_front` also returns it for `TooManyFields`, which
+    /// doesn't happen.
     OutOfMemory,
 }
 
@@ -119,7 +120,8 @@ fn answer_front<W: Write, S: Alter>(
     }
 }
 
-/// Processes each complete message in the buffer, in order, and removes it from the buffer.
+/// Processes the complete messages in the buffer, in order, until it must stop, and returns why.
+/// Removes each message after which the connection stays open.
 pub fn answer_buffered<W: Write, S: Alter>(
     alloc: Global,
     routes: &Routes,

@@ -1,5 +1,5 @@
-//! The buffers of a connection. A reader fills the buffer of bytes, and messages are removed from its
-//! front.
+//! The buffers of a connection. A reader fills the buffer of bytes, and messages are removed from
+//! its front.
 
 ghost use Rattle.std.specs.Prelude.{◌≡◌, ◌≤◌, ◌<◌, ◌+◌, ◌-◌, ◌++◌, [], ℕ, List, length, take, drop, IfOk, OnErr, slice_range, vec_len};
 ghost use Rattle.std.specs.Io.KnownBytes.{Consumes, IsAtEnd, Keeps};

@@ -28,7 +28,7 @@ pub enum Ended {
     ReadFailed,
     /// A write failed, or took no byte. The last command has the effect that its reply reports.
     WriteFailed,
-    /// The input is no message, or it ended inside one.
+    /// A fault in the input got its error response, or the input ended inside a message.
     Malformed,
     /// Allocating the table of paths, the buffers or a response failed.
     Memory,
@@ -68,7 +68,8 @@ fn end_of(held: &[u8]) -> Ended
     }
 }
 
-/// Processes the messages in the buffer if it has at least `needs` bytes. Fewer are no whole message.
+/// Processes the messages in the buffer if it has at least `needs` bytes. Fewer bytes have no whole
+/// message, so it only returns `Waiting(needs)`.
 fn answer_more<W: Write, S: Alter>(
     alloc: Global,
     routes: &Routes,

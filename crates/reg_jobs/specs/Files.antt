@@ -19,7 +19,7 @@ abbrev pub FileHolds : Option (List ℕ) → List NodeView → Type 0
 FileHolds None nodes = ⊥
 FileHolds (Some bytes) nodes = IsUtf8 bytes × TextDenotes bytes nodes
 
--- why a file has no schema
+-- why no schema was obtained from a file; `OutOfMemory` says nothing of the file
 abbrev pub FailsAs : Option (List ℕ) → FileFault → Type 0
 FailsAs file CannotRead = file ≡ None
 FailsAs file NotSchema = IsSome file × ((nodes : List NodeView) → ¬ (FileHolds file nodes))

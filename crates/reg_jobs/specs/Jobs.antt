@@ -207,7 +207,7 @@ ListsOn g opened kind returned writer writer' (ListEnded listed) = OverDatabase 
 ListsOn g opened kind returned writer writer' (MigrateEnded migrated) = ⊥
 ListsOn g opened kind returned writer writer' (AuditEnded audited) = ⊥
 
--- an audit of the stored state of a database, which the tables still spell
+-- an audit of the stored state of a database; if the connection is still open, the tables still spell it
 pub record AuditsOver (old : State) (writer writer' : Option (List ℕ)) (audited : AuditOutcome) (new : State) : Type 0 where
   pub was : Stored
   pub begins : SpellsUnopened old.now was

@@ -23,6 +23,6 @@ escape_of byte =
 abbrev pub shown_byte : ℕ → List ℕ
 shown_byte byte = if is_ascii_control byte then escape_of byte else byte ∷ []
 
--- this project's choice: a name is shown with each control character as its escape, so that a line stays one line
+-- this project's choice: a name is shown with each ASCII control character as its escape, so that the name has no line feed
 abbrev pub shown_name : List ℕ → List ℕ
 shown_name name = flat_map shown_byte name

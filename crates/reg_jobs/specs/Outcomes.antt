@@ -28,7 +28,7 @@ fault_of_file CannotRead = FaultCannotRead
 fault_of_file NotSchema = FaultNotSchema
 fault_of_file OutOfMemory = FaultOutOfMemory
 
--- the fault for a database without a registry
+-- the fault for an error of the store: when it opens the database, or while it reads the registry
 abbrev pub fault_of_database : StoreError → Fault
 fault_of_database NoMemory = FaultOutOfMemory
 fault_of_database Disk = FaultCannotOpen

@@ -11,7 +11,7 @@ use std::alloc::Global;
 use std::io::Write;
 use std::str;
 
-/// Why a file has no schema.
+/// Why no schema was obtained from a file.
 #[derive(Clone, Copy, Debug, PartialEq, Eq)]
 pub enum FileFault {
     /// It couldn't be read.
@@ -27,7 +27,7 @@ pub enum FileFault {
 pub enum TextOutcome {
     /// The identity text was printed, with a line end.
     Whole,
-    /// The file has no schema, and nothing was printed.
+    /// The file has no schema, or an allocation failed. Nothing was printed.
     Nothing(FileFault),
     /// A write failed. A beginning of the line was written.
     NotWritten,
@@ -81,9 +81,10 @@ pub fn print_text<W: Write>(alloc: Global, file: Option<&[u8]>, writer: &mut W) 
 pub enum CheckOutcome {
     /// Whether the reader's schema can read what the writer's writes; this was printed.
     Verdict(bool),
-    /// The reader's file has no schema, and nothing was printed.
+    /// The reader's file has no schema, or an allocation for it failed. Nothing was printed.
     Reader(FileFault),
-    /// The reader's file has a schema, the writer's has none, and nothing was printed.
+    /// The reader's file has a schema. The writer's has none, or an allocation for it failed.
+    /// Nothing was printed.
     Writer(FileFault),
     /// An allocation failed, and nothing was printed.
     OutOfMemory,

@@ -32,7 +32,8 @@ pub enum Opened<S: Alter> {
     Texts(Vec<Option<Vec<u8>>>),
     /// The database of the job can't be opened.
     Failed,
-    /// A file that has no contents yet, for a job that creates no registry. It isn't opened.
+    /// A file without a byte, or a database whose creation was interrupted, for a job that creates
+    /// no registry. It isn't opened.
     Empty,
     /// A log whose database is missing or has no byte. It isn't opened.
     OrphanedLog,
@@ -98,7 +99,8 @@ impl<S: Alter> Opened<S> {
     }
 }
 
-/// Runs a session over a new registry in memory.
+/// Runs a session over a new registry in memory. If the registry can't be created, the outcome is
+/// `Session(Memory)`, and nothing was read.
 fn run_in_memory<R: Read, W: Write>(alloc: Global, reader: &mut R, writer: &mut W) -> Outcome
     ensures { RunsInMemory (R.remaining reader.old) (R.remaining reader.new)
         (W.contents writer.old) (W.contents writer.new) result }
@@ -143,7 +145,8 @@ fn open_existing_store<S: Alter + Drop>(
 /// # Errors
 ///
 /// `Disk` if no database was opened. `NotARegistry` for a file that has no contents yet, and for a
-/// log without its database. Otherwise why the database has no registry, with the connection.
+/// log without its database. With the connection: `Disk` inside a transaction, and the errors of
+/// `Store::create` for an empty database or of `Store::open` for any other.
 pub fn open_store<S: Alter + Drop>(
     alloc: Global,
     opened: Opened<S>,

@@ -21,11 +21,11 @@ use std::io::Write;
 pub enum ListOutcome {
     /// All of it was printed.
     Whole,
-    /// The registry couldn't be read to its end. Some whole lines were printed, from the header on.
+    /// The registry couldn't be read to its end. The first lines were printed whole, perhaps none.
     Unread(StoreError),
     /// A write or the final flush failed.
     NotWritten,
-    /// An allocation failed. Some whole lines were printed, from the header on.
+    /// An allocation failed. The first lines were printed whole, perhaps none.
     OutOfMemory,
 }
 

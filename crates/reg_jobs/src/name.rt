@@ -34,7 +34,8 @@ fn put_byte<E: Write + Drop>(errors: &mut Errors<E>, byte: u8)
     }
 }
 
-/// Writes a file's name, with each control character as its escape, so that a line stays one line.
+/// Writes a file's name, with each ASCII control character as its escape, so that the name has no
+/// line feed.
 pub fn put_name<E: Write + Drop>(errors: &mut Errors<E>, name: &str)
     ensures puts { Puts E.contents errors.old errors.new (shown_name name.now) }
     ensures no_control { HasNoControl (shown_name name.now) }

@@ -14,7 +14,8 @@ pub trait Opener<S: Alter> {
     ghost use Rattle.std.specs.Prelude.{IfOk};
     ghost use Rattle.reg_jobs.specs.Opening.{OpensExisting, OpensOrCreates};
 
-    /// Opens the database in a file, and creates it if it is missing or empty.
+    /// Opens the database in a file, and creates it if it is missing or empty. If only its log is
+    /// left, the result is `Opened::OrphanedLog`.
     ///
     /// # Errors
     ///
@@ -22,7 +23,9 @@ pub trait Opener<S: Alter> {
     fn open_or_create(&self, file: &str) -> Result<Opened<S>, OutOfMemory>
         ensures { IfOk result OpensOrCreates };
 
-    /// Opens the database in a file for a job that creates no registry. It creates no file.
+    /// Opens the database in a file for a job that creates no registry. It creates no file. If the
+    /// file has no contents yet, the result is `Opened::Empty`; if only its log is left,
+    /// `Opened::OrphanedLog`.
     ///
     /// # Errors
     ///

@@ -77,7 +77,7 @@ fn fault_of_file(fault: FileFault) -> Fault
     }
 }
 
-/// The fault for a database without a registry.
+/// The fault for an error of the store: when it opens the database, or while it reads the registry.
 fn fault_of_database(error: StoreError) -> Fault
     ensures { result ≡ fault_of_database error }
 {
@@ -91,8 +91,8 @@ fn fault_of_database(error: StoreError) -> Fault
 }
 
 /// The result for an outcome: the program's status, or an error. The status is 1 for incompatible
-/// schemas and for evidence that isn't true. The error is about the writer's file if that file has
-/// no schema.
+/// schemas and for evidence that isn't true. The error is about the writer's file if only that file
+/// gave no schema.
 ///
 /// # Errors
 ///

@@ -5,7 +5,7 @@ use Rattle.reg_messages.specs.declared.request.Request.{Request}
 use Rattle.reg_messages.specs.Fields.{HeaderField}
 use Rattle.reg_messages.specs.Messages.{Message, fields_of}
 
--- the names and values of its fields
+-- the names and values of a borrowed request's fields
 abbrev pub fields_in : Request → List HeaderField
 fields_in r = map (header_bytes r.head.now) r.fields.now
 

@@ -8,5 +8,6 @@ use Rattle.reg_messages.specs.Messages.{Message, fields_of}
 unfoldable pub closes_by : ℕ → List HeaderField → Bool
 closes_by minor fields = minor == 0 || has_option (codes "close") (elements_named (codes "connection") fields)
 
+-- whether the connection ends after the response to this message
 abbrev pub closes : Message → Bool
 closes message = closes_by message.head.minor (fields_of message.head)

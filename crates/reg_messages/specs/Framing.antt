@@ -22,7 +22,7 @@ body_length text =
     then (if nat_le (digits_value 10 text) max_body then Ok (digits_value 10 text) else Err BodyTooLarge)
     else Err MalformedRequest
 
--- The length by the values of the Content-Length fields: none means no body, and two are rejected.
+-- The length by the values of the Content-Length fields: none means no body, and more than one is rejected.
 abbrev pub length_of : List (List ℕ) → Result ℕ Code
 length_of [] = Ok 0
 length_of (text ∷ []) = body_length text
@@ -33,6 +33,6 @@ abbrev pub length_unless_transfer_coded : List (List ℕ) → List (List ℕ) �
 length_unless_transfer_coded [] lengths = length_of lengths
 length_unless_transfer_coded (coding ∷ more) lengths = Err TransferCodingNotSupported
 
--- the body's length, or the code of the first fault in the fields
+-- the body's length, or the code of a fault; Transfer-Encoding is checked before Content-Length, whatever their order in the head
 unfoldable pub framing : List HeaderField → Result ℕ Code
 framing fields = length_unless_transfer_coded (values_named (codes "Transfer-Encoding") fields) (values_named (codes "Content-Length") fields)

@@ -82,7 +82,7 @@ Follows bytes (Faulty code) = ((code ≡ MalformedRequest) × NeverHasHead bytes
 abbrev pub IsAmbiguous : List ℕ → Tail → Tail → Type 0
 IsAmbiguous bytes t u = EndsInTarget bytes × (t ≡ Part) × (u ≡ Faulty MalformedRequest)
 
--- two readings of the remainder are equal, except in that case
+-- two readings of the remainder are equal, unless it is ambiguous (`IsAmbiguous`)
 abbrev pub Agree : List ℕ → Tail → Tail → Type 0
 Agree bytes t u = (t ≡ u) ⊎ (IsAmbiguous bytes t u ⊎ IsAmbiguous bytes u t)
 

@@ -9,7 +9,7 @@ use Rattle.reg_core.specs.Replies.{ReplyView, fault}
 abbrev pub line_end : List ℕ
 line_end = 13 ∷ 10 ∷ []
 
--- a status's reason phrase, from the table of `http`
+-- a status's reason phrase, from the table of `http`; no bytes if the table has none
 unfoldable pub reason_phrase_of : ℕ → List ℕ
 reason_phrase_of status = unwrap_or (reason_phrase status) []
 

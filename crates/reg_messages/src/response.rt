@@ -11,7 +11,7 @@ use std::alloc::Global;
 /// The line with the body's media type.
 const CONTENT_TYPE_LINE: &str = "Content-Type: application/vnd.schemaregistry.v1+json\r\n";
 
-/// The reason phrase of a status, from the table of `http`.
+/// The reason phrase of a status, from the table of `http`. Empty if the table has none.
 fn reason_phrase_of(status: u16) -> &'static str
     requires { IsStatusCode status }
     ensures { result.now ≡ reason_phrase_of status }

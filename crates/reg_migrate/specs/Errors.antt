@@ -49,7 +49,7 @@ IsErrorForLayout number _ = ⊥
 abbrev pub ReportsNewer : State → MigrateError → Type 0
 ReportsNewer s e = (number : ℕ) → IsTrue s.is_open → 1 < number → HasReadableMeta s.now → NamesLayout s.now number → IsErrorForLayout number e ⊎ IsTrue (is_fault e)
 
--- After an error other than `Disk`, a crash leaves only what it left before. If an allocation fails, the disk may fail too; then this says nothing.
+-- after an error other than `Disk`, a crash leaves only what it left before, unless the disk failed together with an allocation
 abbrev pub KeepsCrashStates : State → State → MigrateError → Type 0
 KeepsCrashStates old new Disk = Unit {0}
 KeepsCrashStates old new Memory = AddsNoCrashState old new ⊎ MoreFaults old.faults new.faults

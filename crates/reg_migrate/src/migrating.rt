@@ -63,8 +63,8 @@ fn migrate_connection<S: Alter>(
 /// contents of the other tables. `NotARegistry` if the tables spell no registry in layout 1.
 /// `Memory` if an allocation fails, `Disk` if the disk fails or the file reaches a limit.
 ///
-/// The database stays as it was. But if layout 1 spelled a registry, a crash may leave layout 2
-/// after `Disk`, or after `Memory` if the disk failed too.
+/// The database stays as it was. But if its tables spelled a registry in layout 1, a crash may
+/// leave layout 2 after `Disk`, or after `Memory` if the disk failed too.
 pub fn migrate<S: Alter>(
     alloc: Global,
     connection: Connection<S>,

@@ -25,6 +25,7 @@ is_avro (Some null) = true
 is_avro (Some (string text)) = bytes_eq text (codes "AVRO")
 is_avro (Some other) = false
 
+-- whether a JSON list is empty
 abbrev pub is_no_item : Items → Bool
 is_no_item no_items = true
 is_no_item (item value values) = false
@@ -36,10 +37,11 @@ has_no_references (Some null) = true
 has_no_references (Some (array values)) = is_no_item values
 has_no_references (Some other) = false
 
+-- whether the schema of this object is supported, by its `schemaType` and `references`
 abbrev pub is_supported : Data → Bool
 is_supported value = is_avro (get (codes "schemaType") value) && has_no_references (get (codes "references") value)
 
--- the member `schema` of an object, and whether its type is supported
+-- the text of the member `schema` of an object, and whether the schema is supported; `None` without such a string member
 abbrev pub schema_member : Data → Option SentSchema
 schema_member value = option_map (λ text. record { text = text; supported = is_supported value }) (string_member (codes "schema") value)
 

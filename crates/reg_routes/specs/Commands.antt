@@ -31,7 +31,7 @@ for_level = for_string (codes "compatibility")
 abbrev pub for_mode : List ℕ → (List ℕ → Command) → Option Command
 for_mode = for_string (codes "mode")
 
--- a command with the schema in the body, and whether its type is supported
+-- a command with the schema in the body, and whether the schema is supported: its type is Avro, and it has no references
 abbrev pub for_schema : List ℕ → (List ℕ → Bool → Command) → Option Command
 for_schema body then = option_map (λ schema. then schema.text schema.supported) (body_schema body)
 

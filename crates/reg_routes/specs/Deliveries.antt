@@ -29,7 +29,7 @@ with_retry_key command (Ok key) = Ok (record { key = key; command = command })
 abbrev pub keys_in : List HeaderField → List (List ℕ)
 keys_in fields = values_named (codes "Registry-Retry-Key") fields
 
--- the delivery of a command, or MalformedRequest if there is no command
+-- the delivery of a command with its retry key; MalformedRequest if there is no command, or if a write's retry key is invalid or repeated
 abbrev pub delivery_from : Option Command → List HeaderField → Result Delivery Code
 delivery_from None fields = Err MalformedRequest
 delivery_from (Some command) fields = with_retry_key command (retry_key_for command (keys_in fields))
@@ -39,12 +39,12 @@ abbrev pub without_allow : Result Delivery Code → Result Delivery Rejection
 without_allow (Ok delivery) = Ok delivery
 without_allow (Err code) = Err (code, None)
 
--- the delivery of an operation on a resource, or MethodNotAllowed
+-- the result of `delivery_from` for an operation on a resource; MethodNotAllowed with the resource's methods if there is no operation
 abbrev pub by_method : Resource → Option Operation → List ℕ → List HeaderField → List ℕ → Result Delivery Rejection
 by_method resource None target fields body = Err (MethodNotAllowed, Some (allow_of resource))
 by_method resource (Some operation) target fields body = without_allow (delivery_from (command_from operation (path_of target) (query_of target) body) fields)
 
--- the delivery of a method on a resource, or NotFound
+-- the result of `by_method` for a method on a resource; NotFound if there is no resource
 abbrev pub by_resource : Option Resource → List ℕ → List ℕ → List HeaderField → List ℕ → Result Delivery Rejection
 by_resource None method target fields body = Err (NotFound, None)
 by_resource (Some resource) method target fields body = by_method resource (operation_for method (methods_of resource)) target fields body
@@ -65,7 +65,7 @@ requested_by r = requested r.method.now r.target.now (fields_in r) r.body.now
 abbrev pub IsRejected : Result Delivery Rejection → Code → Option (List ℕ) → Type 0
 IsRejected what code allow = ((code ≡ BackendFault) × (allow ≡ None)) ⊎ (what ≡ Err (code, allow))
 
--- the `Allow` field of the reply to a message: the path's methods if it has another method (RFC 9110, section 15.5.6)
+-- the `Allow` field of the reply to a message: the path's methods, if the reply is 405 (RFC 9110, section 15.5.6)
 abbrev pub allow_field : Result Delivery Rejection → ReplyView → Option (List ℕ)
 allow_field (Ok delivery) reply = None
 allow_field (Err rejection) reply = if reply.status == 405 then rejection.1 else None

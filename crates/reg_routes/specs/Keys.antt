@@ -7,11 +7,11 @@ use Rattle.reg_core.specs.declared.command.Command.{Command}
 use Rattle.reg_core.specs.Keys.{is_key_byte, max_key_length}
 use Rattle.reg_core.specs.Machine.{is_write}
 
--- a valid retry key has 1 to 64 bytes of those that keys may have
+-- whether the text is a valid retry key: 1 to 64 bytes, each an ASCII letter, an ASCII digit, `.`, `_` or `-`
 abbrev pub is_key : List ℕ → Bool
 is_key text = nat_lt 0 (length text) && nat_le (length text) max_key_length && list_all is_key_byte text
 
--- the retry key by the values of its field: no value, or one valid key
+-- the retry key by the values of its field: `None` without a value, or one valid key; otherwise MalformedRequest
 abbrev pub retry_key_field : List (List ℕ) → Result (Option (List ℕ)) Code
 retry_key_field [] = Ok None
 retry_key_field (text ∷ []) = if is_key text then Ok (Some text) else Err MalformedRequest

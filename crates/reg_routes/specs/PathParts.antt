@@ -10,7 +10,7 @@ before_slash bytes = before_first (λ byte. byte == 47) bytes
 abbrev pub after_slash : List ℕ → List ℕ
 after_slash bytes = after_first (λ byte. byte == 47) bytes
 
--- the part after this number of slashes
+-- the part after this number of slashes; no bytes if there are fewer
 abbrev pub part_at : ℕ → List ℕ → List ℕ
 part_at zero bytes = before_slash bytes
 part_at (suc n) bytes = part_at n (after_slash bytes)

@@ -20,6 +20,7 @@ abbrev pub with_read : Result Scan InsertError → Resource → RowsOf (RouteOf 
 with_read (Ok scan) value rows = placed (scan.pattern, route_from scan value) rows
 with_read (Err error) value rows = rows
 
+-- the routes with one more path, by its text
 abbrev pub with_path : List ℕ → Resource → RowsOf (RouteOf Resource) → RowsOf (RouteOf Resource)
 with_path path value rows = with_read (parse_route path) value rows
 

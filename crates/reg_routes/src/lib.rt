@@ -1,4 +1,5 @@
-//! Turns a request into a command: by its path, method, query, retry key and body.
+//! Turns a request into a delivery, by its path, method, query, retry key and body. A delivery is a
+//! command with its retry key.
 
 #![tactic(auto)]
 

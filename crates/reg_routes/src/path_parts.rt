@@ -5,7 +5,7 @@ ghost use Rattle.reg_routes.specs.PathParts.{part_at};
 
 use crate::split_at_byte::split_at_byte;
 
-/// The part of the path after `count` slashes.
+/// The part of the path after `count` slashes. Empty if the path has fewer.
 pub fn part_at(path: &[u8], count: u32) -> &[u8]
     ensures { result.now ≡ part_at count path.entry.now }
 {

@@ -105,7 +105,8 @@ impl Routes {
         }
     }
 
-    /// The resource of a path as sent, without decoding, or `None`. It allocates nothing.
+    /// The resource of a path as sent, without decoding. `None` if no path of the API matches, or
+    /// if the path isn't UTF-8. It allocates nothing.
     pub fn resource_of(&self, path: &[u8]) -> Option<Resource>
         ensures { result ≡ resource_of path.now }
     {

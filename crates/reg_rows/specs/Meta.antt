@@ -40,7 +40,7 @@ abbrev pub has_mode : Option (List ℕ) → Bool
 has_mode None = false
 has_mode (Some value) = is_some (mode_of value)
 
--- a number from 1 to 999,999,999 in decimal digits without a leading zero
+-- the number from 1 to 999,999,999 that a text writes in decimal digits without a leading zero; else `None`
 abbrev pub number_in : List ℕ → Option ℕ
 number_in text = parse_number 999999999 text
 

@@ -1,5 +1,6 @@
 -- Which rows of the tables spell a registry and its kept replies. This project's choice, except where a public document is named. The tables
--- themselves enforce that keys are unique, and that each id belongs to a text.
+-- themselves enforce that keys and texts are unique, that each id belongs to a text, and that each row of `evidence` and `against` has its
+-- version.
 use Rattle.std.specs.Prelude.{◌≡◌, ◌⊎◌, ℕ, ◌+◌, ◌<◌, ◌≤◌, Bool, IsTrue, List, [], ◌∷◌, length, map, is_some, String, string_bytes, ⊤}
 use Rattle.std.specs.declared.alloc.Global.{Global}
 use Rattle.std.specs.List.{AllByRecursion}
@@ -92,9 +93,11 @@ IsModeRow row = FitsModes (string_bytes row.0) (string_bytes row.1)
 abbrev pub IsEvidenceRow : Text × ℕ × Text → Type 0
 IsEvidenceRow row = IsLevelName (string_bytes row.2)
 
+-- the version (subject and number) of a row of `evidence`
 abbrev pub version_of : Text × ℕ × Text → RowKey
 version_of row = (string_bytes row.0, row.1)
 
+-- the version and the position of a row of `against`
 abbrev pub version_position : Text × ℕ × ℕ × ℕ → VersionPosition
 version_position row = ((string_bytes row.0, row.1), row.2)
 

@@ -7,7 +7,7 @@ ghost use Rattle.reg_rows.specs.Spelling.{meta_pair};
 
 use reg_core::{Level, Mode, parse_number};
 
-/// The value of the first row with this name.
+/// The value of the first row with this name, or `None` if there is none.
 fn value_of<'a>(rows: &'a [(String, String)], name: &str) -> Option<&'a str>
     ensures { option_map (λ value. value.now) result ≡ value_at name.now (map meta_pair rows.now) }
 {

@@ -41,8 +41,8 @@ fn contains_version_of_each<'a>(
     true
 }
 
-/// Whether each version with a position is one with a row of evidence. Both lists may be in any
-/// order.
+/// Whether each version in `version_positions` is also in `versions_with_evidence`. Both lists may
+/// be in any order.
 pub fn have_evidence<'a>(
     versions_with_evidence: Vec<(&'a str, u32)>,
     version_positions: &[(&'a str, u32, u32)],
@@ -81,8 +81,8 @@ fn have_predecessors(sorted: &[(&str, u32, u32)]) -> bool
     true
 }
 
-/// Whether the positions of each version are 1, 2, .. up to their number, in any order. An item is
-/// a subject, a version's number, and a position. Duplicates aren't detected.
+/// Whether the positions of each version are 1, 2, .. without a gap, in any order. An item is a
+/// subject, a version's number, and a position. Duplicates aren't detected.
 pub fn are_contiguous(version_positions: Vec<(&str, u32, u32)>) -> bool
     ensures { IsTrue result ↔ AreContiguous (map position_view version_positions.entry.items) }
 {

@@ -1,4 +1,4 @@
--- Deliveries and their retries: which deliveries are executed, and the reply to each. Every definition is about a whole list. The Schema
+-- Deliveries and their retries: which deliveries are executed, and the reply to each. The guarantees are about whole lists. The Schema
 -- Registry API reference has no retry keys, so each definition here is this project's choice.
 use Rattle.std.specs.Prelude.{◌≡◌, ◌≢◌, ℕ, ◌==◌, Bool, true, false, not, ◌&&◌, IsTrue, IsFalse, List, [], ◌∷◌, ◌++◌, filter, find, map, bytes_eq, Option, Some, None, is_none, option_map, if◌then◌else◌}
 use Rattle.std.specs.List.{list_any}
@@ -80,8 +80,8 @@ IsEvidenceAfterAll g [] old new = new ≡ old
 IsEvidenceAfterAll g (command ∷ commands) old new =
     (mid : EvidenceMap) × IsEvidenceAfter g command old mid × IsEvidenceAfterAll (step g command).0 commands mid new
 
--- The exchanges lead from `was` to `now`. The registry is the abstract machine's after the first deliveries, each applied once, and their
--- replies are kept. The evidence of versions is what the registry named when each of them was executed.
+-- The exchanges lead from `was` to `now`. The registry is the abstract machine's after the first deliveries, each applied once. The replies to
+-- those with a key are kept. The evidence of versions is what the registry named when each first delivery was executed.
 pub record LeadsTo (was : Stored) (xs : List Exchange) (now : Stored) : Type 0 where
   pub registry : now.registry ≡ run_commands was.registry (firsts was.replies xs)
   pub kept : now.replies ≡ kept_after was.replies xs

@@ -35,9 +35,9 @@ impl SchemaCaches {
         }
     }
 
-    /// The schema that the command sends, if the type that it names is supported, and its text
-    /// denotes a schema. A cached schema isn't parsed again. It is taken out of the cache; `keep`
-    /// puts it into a cache again.
+    /// The schema that the command sends. `None` if it sends none, or one that isn't supported, or
+    /// if the text denotes no schema. A cached schema isn't parsed again: it leaves the cache, and
+    /// `keep` stores it again. If a step before `keep` fails, the schema is dropped.
     pub fn take(&mut self, alloc: Global, command: &Command) -> Result<Option<Schema>, OutOfMemory>
         ensures { IfOk result (λ schema. option_map nodes_view schema ≡ command_schema command.now) }
     {

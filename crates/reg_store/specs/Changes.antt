@@ -59,7 +59,7 @@ pub record HoldsAfterChanges (changes : List Change) (keep : Option Keep) (was :
 abbrev pub RecoversToEither : State → State → List Change → Option Keep → Stored → Type 0
 RecoversToEither old new changes keep was = (db : Trees) → new.may_leave db → (old.may_leave db × (IsTrue old.is_open → RecoversTo db was)) ⊎ HoldsAfterChanges changes keep was (RecoversTo db)
 
--- while the connection is open in a transaction, its tables spell the stored state
+-- while the connection is open, its tables, with uncommitted changes, spell the stored state
 abbrev pub SpellsInTransaction : State → Stored → Type 0
 SpellsInTransaction s was = IsTrue s.is_open → Spells s.now was
 

@@ -7,11 +7,11 @@ use Rattle.reg_store.specs.Failures.{IsFaultBy, HasDiskCause}
 use Rattle.reg_store.specs.Opening.{HasMetaNumberOf, ReportsOther, HasMetaNumber, ReportsLayout}
 use Rattle.reg_store.specs.Spells.{SpellsLayoutOne, SpellsUnopened}
 
--- if the tables spell a registry in layout 2, only failed allocation or a disk fault is the cause
+-- if the connection was closed, or the tables spelled a registry in layout 2, only failed allocation or a disk fault is the cause
 abbrev pub IsFaultOverLayoutTwo : State → State → StoreError → Type 0
 IsFaultOverLayoutTwo old new e = (was : Stored) → (IsTrue old.is_open → SpellsUnopened old.now was) → IsFaultBy old new e
 
--- the same of layout 1
+-- if the connection was closed, or the tables spelled a registry in layout 1, only failed allocation or a disk fault is the cause
 abbrev pub IsFaultOverLayoutOne : State → State → StoreError → Type 0
 IsFaultOverLayoutOne old new e = (was : Stored) → (IsTrue old.is_open → SpellsLayoutOne old.now was) → IsFaultBy old new e
 

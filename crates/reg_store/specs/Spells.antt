@@ -38,7 +38,8 @@ pub record CanBeKept (key : List ℕ) (entry : KeptEntry) : Type 0 where
   pub text : IsUtf8 entry.command
   pub body : IsUtf8 entry.reply.body
 
--- This project's choice: the five tables of both layouts spell these schemas, versions, levels and kept replies. Modes and `meta` are left to each layout.
+-- This project's choice: `texts`, `versions`, `levels` and `kept` spell these schemas, versions, own levels and kept
+-- replies. Modes and `meta`, which has the global level, are left to each layout.
 pub record IsSpelled (contents : Contents) (g : Registry) (k : Kept) : Type 0 where
   pub registry : IsRegistry g
   -- the text of an id is the identity text of its schema
@@ -102,7 +103,7 @@ pub record SpellsIn (IsAllowed : Schema → Type 0) (Spelled : Contents → Stor
   pub holds : HoldsContents schema db contents
   pub spelled : Spelled contents was
 
--- this project's choice: the tables are those of layout 2 and spell the stored state
+-- this project's choice: the tables are those of layout 2 with its index, and spell the stored state
 abbrev pub Spells : Database → Stored → Type 0
 Spells = SpellsIn IsLayoutTwo IsSpelledLayoutTwo
 
@@ -129,17 +130,17 @@ RecoversToLayoutOne = RecoversToIn IsLayoutOne IsSpelledLayoutOne
 
 -- ---- connections
 
--- SQLite, transactions: the connection is open outside a transaction, and its last commit spells the stored state
+-- SQLite, transactions: the connection is open and shows its last commit, which spells the stored state
 pub record IsOpenIn (Spelled : Database → Stored → Type 0) (s : State) (was : Stored) : Type 0 where
   pub is_open : IsTrue s.is_open
   pub settled : s.committed ≡ s.now
   pub spells : Spelled s.now was
 
--- SQLite, transactions: the connection is open outside a transaction, and its last commit spells the stored state in layout 2
+-- SQLite, transactions: the connection is open and shows its last commit, which spells the stored state in layout 2
 abbrev pub IsOpenOver : State → Stored → Type 0
 IsOpenOver = IsOpenIn Spells
 
--- SQLite, transactions: the connection is open outside a transaction, and its last commit spells the stored state in layout 1
+-- SQLite, transactions: the connection is open and shows its last commit, which spells the stored state in layout 1
 abbrev pub IsOpenOverLayoutOne : State → Stored → Type 0
 IsOpenOverLayoutOne = IsOpenIn SpellsLayoutOne
 

@@ -20,8 +20,9 @@ pub enum StoreError {
     /// `Lines` that returned this error returns it too.
     #[error("the disk failed")]
     Disk,
-    /// A table or a column is missing or unknown, or the rows don't spell a registry. `create` and
-    /// `create_first` return it for a database that isn't empty.
+    /// A table or a column is missing or unknown, the database has a view, or the rows don't spell
+    /// a registry. `create` and `create_first` return it for a database that isn't empty. `apply`
+    /// may also return it if a change doesn't fit the registry, or the key has a reply.
     #[error("not a registry")]
     NotARegistry,
     /// The database has an older layout, of this number.

@@ -155,8 +155,8 @@ fn check_kept<S: Alter>(alloc: Global, db: &mut Conn<S>) -> Result<(), StoreErro
     require(pass(alloc, &lines)?)
 }
 
-/// Reads and checks the tables of both layouts except `meta`, and returns the number of rows of
-/// `versions`.
+/// Reads and checks `versions`, `texts`, `levels` and `kept`, which both layouts have. Returns the
+/// number of rows of `versions`.
 fn check_rest<S: Alter>(alloc: Global, db: &mut Conn<S>) -> Result<u64, StoreError>
     ensures tests { ChecksSpelledBase db.old db.new result (λ count db. RestPasses db × HasVersionRows db count) }
     ensures plain { IfErr result HasNoLayoutNumber }

@@ -12,7 +12,7 @@ use std::marker::Model;
 use std::num::NonZeroUsize;
 
 /// The maximum length of all cached texts together: 384 KiB. Parsed texts full of small objects
-/// take about 130 times their length, so a cache takes at most 50 MB.
+/// take about 130 times their length, so a cache of them takes about 51 MB.
 pub const MAX_TEXT_BYTES: usize = 393216;
 
 /// The maximum number of entries.
@@ -119,7 +119,8 @@ impl LruEntries {
     }
 
     /// Adds the entry under the id, in place of any other one of the id. First evicts entries until
-    /// there is room for one more. Returns the entry if an allocation fails.
+    /// there is room for one more. Returns the entry if an allocation fails; what was evicted is
+    /// gone all the same.
     pub fn add(&mut self, id: u32, entry: Entry) -> Result<(), Entry>
         ensures ok { OnOk result (lookup (nat_eq id) self.new ≡ Some entry) }
         ensures err { IfErr result (λ back. back ≡ entry) }

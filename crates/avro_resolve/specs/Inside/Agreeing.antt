@@ -8,8 +8,8 @@ use Rattle.avro_schema.specs.declared.index.Ranks.TheVariants.{Unnamed, Fixed, E
 use Rattle.avro_schema.specs.Index.{AreSortedRanks}
 use Rattle.avro_resolve.specs.Resolution.{NameMatch, Promotes}
 
--- The nodes agree in their kinds, and in names and sizes if their kind has these (Avro 1.11 specification, Schema Resolution). A union agrees with
--- every node.
+-- The nodes agree in their kinds, and in names and sizes if their kind has these (Avro 1.11 specification, Schema Resolution). Two
+-- primitive types agree if the first is read as the second (Promotes). A union agrees with every node.
 abbrev pub IsAlike : NodeView → NodeView → Type 0
 IsAlike (union _) b = Unit {0}
 IsAlike a (union _) = Unit {0}

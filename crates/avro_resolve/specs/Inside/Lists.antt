@@ -10,7 +10,7 @@ list_at {X} lists place = slice_index_or (map (λ (v : Vec X Global). v.items) l
 abbrev pub IsListedAt : {X : Type 0} → List (Vec X Global) → X → ℕ → Type 0
 IsListedAt lists x place = Contains (list_at lists place) x
 
--- only such items were added to the lists of such places
+-- nothing was removed from the lists, and each item that was added to the list of a place is related to the place by `Such`
 pub record OnlyAdds {X : Type 0} (Such : X → ℕ → Type 0) (old new : List (Vec X Global)) : Type 0 where
   pub long : length new ≡ length old
   pub kept : (x : X) (place : ℕ) → IsListedAt old x place → IsListedAt new x place

@@ -112,7 +112,8 @@ pub record IsNodeLinked (names : List (List ℕ)) (rank_map : Option (List (Opti
 abbrev pub IsPlaceLinked : List (List ℕ) → Option (List (Option ℕ)) → Links → ℕ → NodeView → Type 0
 IsPlaceLinked names rank_map links referrer a = (ranks : List FieldRanks) × IsNodeLinked names rank_map links referrer a ranks
 
--- The field at this index gives its record a link of this kind: by its own name, if the label is its, or by an alias, with the field's number.
+-- The field at this index gives its record a link of this kind: by name, if the link's label is that of the field's own name; by alias, if
+-- the kind has the number of the field; never by element.
 abbrev pub GivenBy : Option (List (Option ℕ)) → List Aliased → ℕ → FieldRanks → Link → LinkKind → Type 0
 GivenBy rank_map numbered index ranks x ByElement = ⊥
 GivenBy rank_map numbered index ranks x ByName = own_label rank_map ranks.name ≡ Some x.label
@@ -167,6 +168,6 @@ CanMatchKinds sources writer_place referrer _ _ = ⊥
 abbrev pub LinkKindsMatch : List (Vec ℕ Global) → ℕ → Link → Link → Type 0
 LinkKindsMatch sources writer_place writer_link reader_link = CanMatchKinds sources writer_place writer_link.referrer writer_link.kind reader_link.kind
 
--- each two such links with the same label have their referrers in the relation
+-- if a link of each list have the same label and matching kinds, their referrers are in the relation
 abbrev pub Joins : List (Vec ℕ Global) → ℕ → (ℕ → ℕ → Type 0) → List Link → List Link → Type 0
 Joins sources place Looked xs ys = (x y : Link) → Contains xs x → Contains ys y → x.label ≡ y.label → LinkKindsMatch sources place x y → Looked x.referrer y.referrer

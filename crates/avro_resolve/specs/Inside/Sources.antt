@@ -26,11 +26,11 @@ field_at nodes aliased = option_and_then (λ a. slice_get (fields_of a) aliased.
 abbrev pub IsSourceEntry : List NodeView → List FieldView → Aliased → ℕ → Type 0
 IsSourceEntry nodes fields aliased entry = (f : FieldView) → field_at nodes aliased ≡ Some f → entry ≡ source_entry (source_place fields f)
 
--- it has the place of the field's type, whether the field has a default, and the ranks of its names
+-- the description has the place of the field's type, whether the field has a default, and the ranks of its names
 abbrev pub Describes : List (List ℕ) → ReaderField → FieldView → Type 0
 Describes names wanted f = (wanted.place ≡ f.place) × (IsTrue wanted.has_default ↔ IsSome f.value) × IsFieldRanked names f wanted.names.now
 
--- it describes some field unless it is `None`, and it describes the aliased field if the schema has this field
+-- a description, if there is one, is that of some field; if the schema has the aliased field, there is one, and it is that field's
 pub record IsReaderField (indexed : IndexedSchema) (aliased : Aliased) (wanted : Option ReaderField) : Type 0 where
   pub some : IfSome wanted (λ w. (f : FieldView) × Describes (names_of indexed) w f)
   pub known : (f : FieldView) → field_at (nodes_of indexed) aliased ≡ Some f → IsSomeAnd wanted (λ w. Describes (names_of indexed) w f)

@@ -56,6 +56,7 @@ pub record CanContinue (w r : List NodeView) (depth : ℕ) (ps qs : List Pair) (
   pub assumed : Represents (length r) s ps
   pub failed : Represents (length r) t qs
 
+-- the recursion may continue from this state, at this depth
 abbrev pub IsReady : List NodeView → List NodeView → ℕ → Walk → Type 0
 IsReady w r depth s = CanContinue w r depth s.assumed.items s.failed.items s.assumed_set s.failed_set s.visits
 

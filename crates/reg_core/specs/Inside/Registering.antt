@@ -28,11 +28,11 @@ has_numbers_by_view view = nat_le (next_number view.rows.items) max_number && na
 abbrev pub row_by_view : View → List ℕ → Row
 row_by_view view subject = ((subject, next_number view.rows.items), record { id = id_by_view view; deleted = false })
 
--- this project's choice: its evidence, after these live versions
+-- this project's choice: the evidence of the subject's next version, which follows these live versions
 abbrev pub evidence_by_view : View → List Row → Evidence
 evidence_by_view view live = record { level = level_of_view view; against = map (λ (row : Row). row.1.id) (named_versions (level_of_view view) live) }
 
--- this project's choice: the change that registers the schema under this id; none if it has an id
+-- this project's choice: the change that registers a new schema under this id; no change if the schema already has an id
 abbrev pub text_added : Option ℕ → ℕ → List NodeView → List Change
 text_added None id new = change.AddText id (identity new) ∷ []
 text_added (Some known) id new = []

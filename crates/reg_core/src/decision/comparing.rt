@@ -91,8 +91,8 @@ fn read_earlier<'a>(
 }
 
 /// Whether the level admits the new schema after these versions, in order of number. It parses one
-/// version's text at a time, and stops at the first version that isn't compatible. The result is no
-/// if the view has no text of a version that the level names, or the text denotes no schema.
+/// version's text at a time, and stops at the first version that isn't compatible. It also returns
+/// `false` if the view lacks the text of a compared version, or that text denotes no schema.
 ///
 /// # Errors
 ///

@@ -85,7 +85,7 @@ fn ids_for_check_all(alloc: Global, view: &View) -> Result<Vec<u32>, OutOfMemory
     ids_of(alloc, named(level_in_force(view), &live))
 }
 
-/// The id that Check compares with, if the version is found.
+/// The id that Check compares with; none if no version is found, or the level compares with none.
 fn ids_for_check(alloc: Global, view: &View, version: &str) -> Result<Vec<u32>, OutOfMemory>
     ensures { IfOk result (λ ids. ids.items ≡ map (λ row. row.1.id) (named_versions (level_of_view view.now)
         (found_as_list (found_row (parse_choice version.now) (live_rows view.now.rows.items))))) }

@@ -52,7 +52,7 @@ fn subjects_of<'a>(alloc: Global, rows: &[&'a Row]) -> Result<Vec<&'a str>, OutO
     Ok(subjects)
 }
 
-/// The reply with the numbers of the subject's shown versions.
+/// The reply with the numbers of the subject's shown versions, or a fault if there are none.
 pub fn versions(alloc: Global, shows_deleted: bool, rows: &[Row]) -> Result<Reply, OutOfMemory>
     ensures { IfOk result (λ reply. reply ≡ versions_reply (visible_rows shows_deleted rows.now)) }
 {

@@ -6,7 +6,7 @@ use Rattle.reg_http.specs.declared.serving.ReadOutcome.TheVariants.{Bytes, End, 
 use Rattle.reg_http.specs.declared.serving.Ended.{Ended}
 use Rattle.reg_http.specs.declared.serving.Ended.TheVariants.{Closed, Malformed}
 
--- the bytes that were read are appended to the buffer
+-- the effect of a read: its bytes are appended to the buffer; there are none at the end of the input, or if the read failed
 abbrev pub ReadsAs : Option (List ℕ) → Option (List ℕ) → List ℕ → List ℕ → ReadOutcome → Type 0
 ReadsAs old new held held' Bytes = (more : List ℕ) × (held' ≡ held ++ more) × Consumes old new more
 ReadsAs old new held held' End = (held' ≡ held) × Consumes old new [] × IsAtEnd new

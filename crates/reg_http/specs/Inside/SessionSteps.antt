@@ -69,7 +69,7 @@ step_outcome Whole false message_size = AnsweredStep message_size
 step_outcome CutShort close message_size = Stopped NotWritten
 step_outcome NoMemory close message_size = Stopped OutOfMemory
 
--- what was written of the response to a fault, at each stop
+-- what was written of the response to a fault, at each stop; `AtClose` and `Waiting` don't occur
 abbrev pub FaultAs : Option (List ℕ) → Option (List ℕ) → Code → Stop → Type 0
 FaultAs old new code AtFault = Appends old new (fault_response code)
 FaultAs old new code NotWritten = (part : List ℕ) × IsPrefix part (fault_response code) × Appends old new part

@@ -52,8 +52,9 @@ fn discard_rest<C: Clock>(clock: &C, mut stream: &TcpStream) {
     }
 }
 
-/// Whether a client may still be sending: it got a fault before its input ended, or bytes of it
-/// arrived that weren't read. A client whose request closed the connection sends nothing after it.
+/// Whether a client may still be sending. After malformed input: if the input hasn't ended. After a
+/// failed write: no. Otherwise: if the input hasn't ended and unread bytes have arrived. A client
+/// whose request closed the connection normally sends nothing after it.
 fn may_be_sending(ended: Ended, has_ended: bool, has_more: bool) -> bool {
     match ended {
         Ended::Malformed => !has_ended,
@@ -62,7 +63,8 @@ fn may_be_sending(ended: Ended, has_ended: bool, has_more: bool) -> bool {
     }
 }
 
-/// Ends a connection. If its client may still be sending, the server closes its writing half first.
+/// Ends a connection. If its client may still be sending, the server first closes its writing half,
+/// and discards what the client sends.
 pub fn end<C: Clock>(clock: &C, stream: &TcpStream, ended: Ended, has_ended: bool, has_more: bool) {
     if may_be_sending(ended, has_ended, has_more) && stream.shutdown(Shutdown::Write).is_ok() {
         discard_rest(clock, stream);

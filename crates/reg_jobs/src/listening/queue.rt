@@ -29,6 +29,7 @@ impl<'a> Queue<'a> {
 
     /// Whether a connection waits; if so, it is accepted. It doesn't block. It returns true if the
     /// accept fails: a connection may wait, and can be accepted once the current one is closed.
+    /// Without polling, it returns only whether one was accepted already.
     pub fn has_next(&mut self) -> bool {
         if self.polls && self.found.is_none() {
             match self.listener.accept() {

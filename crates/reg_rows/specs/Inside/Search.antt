@@ -23,7 +23,7 @@ AreSortedPositions = IsSorted (on position_view position_order)
 abbrev pub HasVersion : List (Bor (List ℕ) × ℕ) → Bor (List ℕ) × ℕ × ℕ → Type 0
 HasVersion versions position = Contains (map version_view versions) (position.0.now, position.1)
 
--- the position is 1, or the list contains its predecessor
+-- the position isn't 0, and it is 1 or the list contains its predecessor
 abbrev pub HasPredecessor : List VersionPosition → VersionPosition → Type 0
 HasPredecessor positions position = (0 < position.1) × ((position.1 ≡ 1) ⊎ Contains positions (position.0, position.1 - 1))
 

@@ -58,10 +58,12 @@ abbrev pub RecoversCommand : {X E : Type 0} → Result X E → State → Trees �
 RecoversCommand (Ok x) old db was command kept = HoldsAfterCommand was command kept (RecoversTo db)
 RecoversCommand (Err e) old db was command kept = old.may_leave db ⊎ HoldsAfterCommand was command kept (RecoversTo db)
 
--- the command is executed, and its reply is kept under the key, if any; or it fails, and the tables still spell what they spelled
+-- If no reply is kept under the key, the command is executed, and its reply is kept under the key, if any. Or the command fails, and the tables
+-- still spell what they spelled.
 pub record ExecutesCommand {E : Type 0} (old new : State) (command : Command) (under : KeyAndText) (result : Result ReplyView E) : Type 0 where
   pub done : IfOk result (λ reply. (was : Stored) → SpellsWhileOpen old was → IsUnused under was.replies
       → (reply ≡ (step was.registry command).1) × HoldsAfterCommand was command (kept_under under reply was.replies) (SpellsWhileOpen new))
+  -- the reply is a command's: neither 50001 nor the reply for a reused key
   pub own : IfOk result (λ reply. IsCommandReply reply)
   pub fails : OnErr result (StillSpells old new)
   pub crash : (was : Stored) → SpellsWhileOpen old was → IsUnused under was.replies → (db : Trees) → new.may_leave db

@@ -34,15 +34,15 @@ StoresChanges old new changes = (was : Stored) → Spells old.now was → Change
 abbrev pub StoresReply : State → State → Option Keep → Type 0
 StoresReply old new keep = (was : Stored) → Spells old.now was → IsNewTo was.replies keep → Spells new.now (stored_after_apply [] keep was)
 
--- a change that fits the registry fails only for a reason that every write has
+-- a change that fits the registry fails only for a reason that an insert can have
 abbrev pub IsFaultOfChange : State → State → Change → Error → Type 0
 IsFaultOfChange old new change e = (was : Stored) → SpellsInTransaction old was → ChangeFits change was.registry → IsInsertFault old new e
 
--- changes that fit the registry, one after another, fail only for a reason that every write has
+-- changes that fit the registry, one after another, fail only for a reason that an insert can have
 abbrev pub IsFaultOfChanges : State → State → List Change → Error → Type 0
 IsFaultOfChanges old new changes e = (was : Stored) → SpellsInTransaction old was → ChangesFit changes was.registry → IsInsertFault old new e
 
--- a reply with a new key fails only for a reason that every write has
+-- storing a reply with a new key fails only for a reason that an insert can have
 abbrev pub IsFaultOfReply : State → State → Option Keep → Error → Type 0
 IsFaultOfReply old new keep e = (was : Stored) → SpellsInTransaction old was → IsNewTo was.replies keep → IsInsertFault old new e
 
@@ -71,7 +71,7 @@ pub record PutsIds (old new : State) (key : RowKey) (ids : List ℕ) : Type 0 wh
   pub few : length ids < 2 ^ 32
   pub puts : (schema : Schema) → IsLayoutTwo schema → (contents : Contents) → HoldsContents schema old.now contents → HasNoPositions contents key → HoldsContents schema new.now (with_ids key 1 ids contents)
 
--- adding the ids fails only for a reason that every write has
+-- if the version had no ids, and it and the texts exist, adding the ids fails only for a reason that an insert can have
 abbrev pub IsFaultOfIds : State → State → RowKey → List ℕ → Error → Type 0
 IsFaultOfIds old new key ids e = (schema : Schema) → IsLayoutTwo schema → (contents : Contents) → HoldsContents schema old.now contents → HasNoPositions contents key → HasTexts contents key ids → IsInsertFault old new e
 
@@ -80,13 +80,13 @@ pub record PutsEvidence (old new : State) (key : RowKey) (evidence : Evidence) :
   pub few : length evidence.against < 2 ^ 32
   pub puts : (schema : Schema) → IsLayoutTwo schema → (contents : Contents) → HoldsContents schema old.now contents → get contents.evidence key ≡ None → HasNoPositions contents key → HoldsContents schema new.now (with_level_and_ids key evidence contents)
 
--- adding the evidence fails only for a reason that every write has
+-- if the version had no evidence, and it and the texts exist, adding the evidence fails only for a reason that an insert can have
 abbrev pub IsFaultOfEvidence : State → State → RowKey → Evidence → Error → Type 0
 IsFaultOfEvidence old new key evidence e = (schema : Schema) → IsLayoutTwo schema → (contents : Contents) → HoldsContents schema old.now contents → get contents.evidence key ≡ None → HasNoPositions contents key → HasTexts contents key evidence.against → IsInsertFault old new e
 
 -- ---- adding the index
 
--- the trees hold the same contents as the tables without the index, for any contents
+-- with the index, the trees hold whatever contents the tables held without it
 abbrev pub HoldsWithIndex : Database → Trees → Type 0
 HoldsWithIndex before db = (held : Contents) → HoldsContents layout_two_unindexed before held → HoldsContents layout_two_indexed_last (record { schema = layout_two_indexed_last; trees = db }) held
 

@@ -17,7 +17,8 @@ use Rattle.reg_store.specs.Failures.{IsFaultBy}
 abbrev pub shown : {S : Type 0} {g : Ghosts S} → Conn S g → State
 shown {S} {g} db = state g db.idle.conn
 
--- the five tables of both layouts come first, can be read, and spell kept replies and a registry without its modes
+-- The five tables of both layouts come first and can be read. All but `meta` spell the kept replies, and the registry without
+-- its modes and its global level.
 pub record SpellsBase (db : Database) (was : Stored) : Type 0 where
   pub schema : Schema
   pub first : HasFiveTables schema

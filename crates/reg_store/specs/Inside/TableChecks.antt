@@ -80,7 +80,7 @@ pub record MetaPass (layout : Layout) (db : Database) : Type 0 where
   pub apart : AreDistinct (map (λ (line : RawMeta). line.rowid) lines)
   pub fit : IsTrue (is_meta_of layout (pairs_of lines))
 
--- the rows of `texts` in the order of their ids
+-- `texts` passes: its ids are 1, 2, .. in this order, up to the maximum, and each text is the identity text of a schema
 pub record TextsPass (db : Database) : Type 0 where
   pub lines : List RawText
   pub lists : ListsTexts db lines
@@ -89,6 +89,7 @@ pub record TextsPass (db : Database) : Type 0 where
 abbrev pub VersionsPass : Database → Type 0
 VersionsPass = Passes ListsVersions (λ line. line.rowid) version_fits
 
+-- `texts`, `versions`, `levels` and `kept` pass their checks
 pub record RestPasses (db : Database) : Type 0 where
   pub texts : TextsPass db
   pub versions : VersionsPass db
@@ -192,6 +193,7 @@ pub record JudgesIds (versions : List RowKey) (db : Database) (rowids : List ℤ
 
 -- ---- verdicts
 
+-- the rows have distinct rowids, and are valid rows of `meta` in this layout
 abbrev pub PassesMeta : Layout → List RawMeta → Type 0
 PassesMeta layout lines = AreDistinct (map (λ (line : RawMeta). line.rowid) lines) × IsTrue (is_meta_of layout (pairs_of lines))
 
@@ -225,8 +227,8 @@ SpellsAs Two = SpellsSome SpellsUnopened
 
 -- ---- a check
 
--- A call that changes nothing. It returns facts about tables declared as expected. If the tables spell the expected state, only a fault makes it fail. `Disk`
--- has a disk fault as its cause.
+-- A call that changes nothing. It returns facts about tables declared as expected. If the tables spell the expected state, only a fault
+-- makes it fail. If they are declared as expected, `Disk` has a disk fault as its cause. Over closed connections, both always hold.
 pub record Checks {S X : Type 0} (Declared : Schema → Type 0) (Spelled : Database → Type 0) (g : Ghosts S) (old new : Held S) (result : Result X StoreError) (IsAnswer : X → Database → Type 0) : Type 0 where
   pub frame : ReadsInAutocommit g old new result
   pub tells : HasCleanDisk (state g new) → IfOk result (λ x. Declared (state g old).now.schema → IsAnswer x (state g old).now)

@@ -40,6 +40,7 @@ pub record AreSome (rows all : List Row) : Type 0 where
   pub each : (row : Row) → Contains rows row → Contains all row
   pub few : length rows < versions_limit → (row : Row) → Contains all row → Contains rows row
 
+-- the version is of the subject, and is live unless soft-deleted versions are shown too
 abbrev pub is_shown_of : Bool → List ℕ → Row → Bool
 is_shown_of shows_deleted subject row = bytes_eq row.0.0 subject && (shows_deleted || not row.1.deleted)
 

@@ -70,8 +70,8 @@ impl<S: Alter> Store<S> {
         ensures before { HasCleanDisk (state_of self.new) → IfErr result (λ e.
             IsTrue (state_of self.old).is_open → KeepsCrashStates (state_of self.old) (state_of self.new) e) }
 
-        // A crash leaves the state before or after the call. If there was something to do, this is
-        // true even if a fault had closed the connection before the call.
+        // A crash leaves the state before or after the call. If a fault had closed the connection
+        // and there is work, a crash leaves the state after the call, or what it left before.
         ensures crash { HasCleanDisk (state_of self.new) → WhenApplicable (state_of self.old) changes.now keep.entry (λ was.
             IsTrue (state_of self.old).is_open ⊎ HasWork changes.now keep.entry
             → RecoversToEither (state_of self.old) (state_of self.new) changes.now keep.entry was) }

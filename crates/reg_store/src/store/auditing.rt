@@ -172,7 +172,7 @@ fn evidence_level<S: Alter>(db: &mut Conn<S>, row: &Row) -> Result<Option<Level>
     }
 }
 
-/// The id at the position, counted from 1, in the version's evidence.
+/// The id at the position, counted from 1, in the version's evidence, or `None`.
 fn evidence_id<S: Alter>(
     db: &mut Conn<S>,
     row: &Row,

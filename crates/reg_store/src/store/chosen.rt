@@ -1,4 +1,5 @@
-//! One version instead of all: the chosen one of a subject, or one of an id.
+//! Reads one version instead of all: the chosen one of a subject, or one of an id. A version is
+//! shown if it is live, or if `deleted` is set.
 
 ghost use Rattle.std.specs.Prelude.{◌≡◌, ◌||◌, [], ◌∷◌, None, Some, IfOk, IfErr, MatchOption, false, true, not, map, option_map, option_to_list};
 ghost use Rattle.std.specs.FinMap.{entries, get};

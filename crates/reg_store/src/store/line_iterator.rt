@@ -80,7 +80,8 @@ impl<S: Alter> Lines<'_, S> {
     /// # Errors
     ///
     /// `Memory` or `Disk`, or `NotARegistry` if the tables no longer hold a registry. Every later
-    /// call returns the same error. No call changes the store, which doesn't remember the error.
+    /// call returns the same error. No call changes the registry. The store doesn't remember the
+    /// error, but a disk fault may close its connection.
     pub fn next(&mut self) -> Result<Option<Vec<String>>, StoreError>
         ensures same_reference { self.new.store.ghost_name ≡ self.old.store.ghost_name }
         ensures frame { LinesKeepStore (store_of self.old) (store_of self.new) result }

@@ -15,7 +15,8 @@ use reg_core::{Row, Subject};
 use reg_tables::{first_version_after, next_version_of};
 use sqlite::Alter;
 
-/// The first version of the next subject after that of `last`, or the first version of all.
+/// The first version of the next subject after that of `last`. If `last` is `None`, the first
+/// version of all. `None` if there is no such version.
 pub(crate) fn next_subject<S: Alter>(
     db: &mut Conn<S>,
     last: Option<&Row>,
@@ -29,7 +30,8 @@ pub(crate) fn next_subject<S: Alter>(
     }
 }
 
-/// The next version after `last`, or the first of all.
+/// The next version after `last`. If `last` is `None`, the first of all. `None` if there is no such
+/// version.
 pub(crate) fn next_version<S: Alter>(
     db: &mut Conn<S>,
     last: Option<&Row>,
@@ -60,7 +62,7 @@ fn version_after<S: Alter>(db: &mut Conn<S>, last: &Row) -> Result<Option<Row>, 
     }
 }
 
-/// The version of the subject with the least number above this one.
+/// The version of the subject with the least number above this one, or `None`.
 fn number_after<S: Alter>(
     db: &mut Conn<S>,
     subject: &Subject,
@@ -75,7 +77,7 @@ fn number_after<S: Alter>(
     }
 }
 
-/// The first version of the next subject after this one.
+/// The first version of the next subject after this one, or `None`.
 fn first_after<S: Alter>(db: &mut Conn<S>, subject: &str) -> Result<Option<Row>, StoreError>
     ensures { Reads db.old db.new result (λ was found.
         found ≡ find (λ row. is_gt (text_cmp row.0.0 subject.now)) (entries was.registry.rows)) }

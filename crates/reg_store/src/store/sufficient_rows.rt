@@ -21,7 +21,7 @@ use sqlite::Alter;
 use std::alloc::Global;
 
 /// The version to delete, if any; otherwise one that shows why there is none, if the subject has
-/// versions.
+/// versions. Without a valid choice, no version is needed.
 pub(crate) fn deleted_rows<S: Alter>(
     alloc: Global,
     db: &mut Conn<S>,
@@ -93,7 +93,7 @@ pub(crate) fn rows_to_register<S: Alter>(
     }
 }
 
-/// The same if the schema has this id.
+/// The versions that suffice to register a schema that has this id.
 fn known_schema_rows<S: Alter>(
     alloc: Global,
     db: &mut Conn<S>,

@@ -52,7 +52,7 @@ impl CheckedRow for RawEvidence {
 impl CheckedRow for RawAgainst {
     ghost rowid_of = { λ line. line.rowid };
 
-    // The other columns are checked for all rows together.
+    // The positions are checked for the rows of a version together (`are_in_order`).
     ghost fits_table = { against_fits };
 
     fn rowid(&self) -> i64 {
@@ -146,7 +146,7 @@ fn count_against<S: Alter>(db: &mut Conn<S>) -> Result<u64, StoreError>
     Ok(count)
 }
 
-/// The relevant facts about `against`.
+/// What `read_ids` found in `against`.
 #[derive(Drop)]
 struct Ids {
     /// The rowids of the ids of all versions with evidence.
@@ -157,7 +157,8 @@ struct Ids {
     count: u64,
 }
 
-/// Reads the ids of each version with evidence, one version at a time.
+/// Reads the ids of each version with evidence, one version at a time, and counts the rows of
+/// `against`.
 fn read_ids<S: Alter>(
     alloc: Global,
     db: &mut Conn<S>,

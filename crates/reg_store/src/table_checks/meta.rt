@@ -97,7 +97,8 @@ fn has_no_views<S: Alter>(db: &Conn<S>) -> bool
     db.idle.conn.schema().views.as_slice().is_empty()
 }
 
-/// Fails: with `NotARegistry` over an open connection, else with a fault.
+/// Always fails: with `Memory` or `Disk` if the connection is closed or a fault occurs, otherwise
+/// with `NotARegistry`.
 fn reject<S: Alter>(db: &mut Conn<S>) -> Result<(), StoreError>
     ensures frame { ReadsInAutocommit S.Store db.old.idle.conn db.new.idle.conn result }
     ensures fails { IsErrAnd result (λ e. HasCleanDisk (shown db.new)

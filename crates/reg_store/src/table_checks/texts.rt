@@ -32,7 +32,7 @@ fn are_identities(alloc: Global, lines: &[RawText]) -> Result<bool, OutOfMemory>
     Ok(true)
 }
 
-/// The number of texts, if their ids are the numbers from 1 on.
+/// The number of texts, if their ids are the numbers from 1 on; otherwise `NotARegistry`.
 fn count_texts<S: Alter>(alloc: Global, db: &mut Conn<S>) -> Result<u32, StoreError>
     ensures tests { ChecksSpelledBase db.old db.new result (λ count db. NumbersTexts db count) }
     ensures few { IfOk result (λ count. count ≤ max_number) }

@@ -9,7 +9,7 @@ returns-in-Some-clause-pieces c =
     let bs = c.args.bytes.now in
     let from = c.args.from in
     let end : from + c.in-Some.skipped < length bs = omega (arith, length_from bs from, c.in-Some.ensures.0.high) in
-    marks_skipped bs from c.in-Some.skipped (omega (arith, end)) (λ k below. plain_from bs from k (omega (arith, end, below)) (c.in-Some.ensures.0.prepended k (omega arith) below))
+    marks_skipped bs from c.in-Some.skipped (omega (arith, end)) (λ k below. plain_from bs from k (omega (arith, end, below)) (c.in-Some.ensures.0.before k (omega arith) below))
 
 pub returns-in-None-clause-pieces : goal.returns-in-None-clause-pieces
 returns-in-None-clause-pieces c =
