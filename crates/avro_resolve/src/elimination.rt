@@ -167,7 +167,7 @@ fn examine_unions(
 
 /// Propagates a run to the writer's unions that have the row as a branch. If the row isn't a union,
 /// also propagates it to the reader's unions. If the run is at least as long as the list of these,
-/// checks all of them, else those that have one of the run's places as a branch.
+/// it checks all of them. Otherwise it checks those that have one of the run's places as a branch.
 fn propagate_to_unions(
     schemas: &SchemaPair,
     dependents: &Dependents,

@@ -83,8 +83,8 @@ impl SchemaCache {
 
     /// Returns the schema that is cached under the id, if it was parsed from this text, and makes
     /// it the most recently used. Otherwise parses the text as `Schema::read` does, and caches the
-    /// schema in place of any other one of the id. A schema isn't cached if its text has more than
-    /// 64 KiB, if the policy is `NeverEvict` and there is no room, or if an allocation fails.
+    /// schema in place of any other one of the id. A text of more than 64 KiB isn't cached. Nor is
+    /// any if the policy is `NeverEvict` and there is no room, or if an allocation fails.
     ///
     /// # Errors
     ///

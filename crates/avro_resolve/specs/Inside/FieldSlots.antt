@@ -17,7 +17,7 @@ names_in fields = map (λ f. f.name) fields
 abbrev pub HasRank : List (Option ℕ) → List ℕ → ℕ → ℕ → Type 0
 HasRank rank_map names k rank = (name : ℕ) × (slice_get names k ≡ Some name) × (mapped_rank rank_map name ≡ Some rank)
 
--- the field at the index k has this rank, and no field from the index n on and before k has it (k may be below n)
+-- the field at the index k has this rank, and no field at or after the index n and before k has it; k may be below n
 abbrev pub IsFirst : List (Option ℕ) → List ℕ → ℕ → ℕ → ℕ → Type 0
 IsFirst rank_map names n k rank = HasRank rank_map names k rank × ((j : ℕ) → n ≤ j → j < k → HasRank rank_map names j rank → ⊥)
 

@@ -112,8 +112,8 @@ pub record IsNodeLinked (names : List (List ℕ)) (rank_map : Option (List (Opti
 abbrev pub IsPlaceLinked : List (List ℕ) → Option (List (Option ℕ)) → Links → ℕ → NodeView → Type 0
 IsPlaceLinked names rank_map links referrer a = (ranks : List FieldRanks) × IsNodeLinked names rank_map links referrer a ranks
 
--- The field at this index gives its record a link of this kind: by name, if the link's label is that of the field's own name; by alias, if
--- the kind has the number of the field; never by element.
+-- The field at this index gives its record a link of this kind. By name: if the link's label is that of the field's own name. By alias: if
+-- the kind has the number of the field. By element: never.
 abbrev pub GivenBy : Option (List (Option ℕ)) → List Aliased → ℕ → FieldRanks → Link → LinkKind → Type 0
 GivenBy rank_map numbered index ranks x ByElement = ⊥
 GivenBy rank_map numbered index ranks x ByName = own_label rank_map ranks.name ≡ Some x.label
