@@ -55,7 +55,7 @@ impl<T: Drop> From<AllocFailed<T>> for StartError {
 }
 
 /// The message for an argument that isn't UTF-8.
-const NOT_UTF8: &str = "error: a word is not UTF-8\n\nFor more information, try '--help'.\n";
+const NOT_UTF8: &str = "error: an argument is not UTF-8\n\nFor more information, try '--help'.\n";
 
 /// The arguments after the program's name. Each must be UTF-8.
 fn arguments_of<R: Env + AllocGlobal>(rt: &R) -> Result<Vec<String>, StartError> {
