@@ -1,6 +1,6 @@
 #!/usr/bin/env bash
-# Runs each script of this folder. It prints whether the script passed, how long it took, and which Debian packages it needs.
-# It installs missing packages. The status is 0 if all scripts passed.
+# Runs the tests of the examples, but of replicas/ only trial.sh. It prints whether each test passed, how long it took, and
+# which Debian packages it needs. It installs missing packages. The status is 0 if all tests passed.
 #
 #   AVROREG=PROGRAM examples/all.sh [NAME]..     NAME is in the first column; default: all
 #

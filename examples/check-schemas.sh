@@ -13,9 +13,10 @@
 # The lines `second opinion` are python3-avro's reasons, if it is installed. Only avroreg's verdict counts. If python3-avro calls
 # the schemas compatible, a line reports this.
 #
-# Status 0 if each schema would be accepted, 1 if one wouldn't. Status 2 if the registry doesn't respond or there is no schema,
-# 64 for wrong arguments. curl reads the user and the password from ~/.netrc, and its own environment (CURL_CA_BUNDLE,
-# https_proxy). Needs curl and jq.
+# Status 0 if each schema would be accepted, 1 if one wouldn't. Status 2 if the registry doesn't respond, returns another error
+# (such as 401 or 413), or there is no schema. Status 64 for wrong arguments. The script ignores modes: a read-only subject
+# rejects new schemas that pass here. curl reads the user and the password from ~/.netrc, and its own environment
+# (CURL_CA_BUNDLE, https_proxy). Needs curl and jq.
 set -u
 why=$(cd "$(dirname "$0")" && pwd)/why.py
 scratch=$(mktemp -d)

@@ -7,18 +7,18 @@
 FROM is a running registry with Confluent's REST interface, or a running avroreg. The script only reads it. TO is an avroreg
 with a new file. The script needs only Python's standard library.
 
-It reads FROM until two readings in a row are equal. If FROM lists its schemas (GET /schemas), a reading takes one request
-for 1,000 versions and two for each subject; otherwise it also takes one for each version. It writes nothing before it knows
-that it can copy everything. A subject keeps its version numbers, and a schema its id. If something can't be copied
-unchanged, it prints the reason, and writes nothing without an option that says how to continue:
+It reads FROM until two readings in a row are equal. If FROM lists its schemas (GET /schemas), a reading takes two requests
+for 1,000 versions and two for each subject; otherwise one for each version and four for each subject. It writes nothing
+until it knows that it can copy everything. A subject keeps its version numbers, and a schema its id. If something can't be
+copied unchanged, it prints the reason, and writes nothing without an option that says how to continue:
 
   --skip           leaves out what avroreg doesn't accept: other types than Avro, references, metadata, rule sets, schemas
                    that avroreg rejects (such as one with a non-integer number), a second live version with the schema of
                    an earlier one, subjects of a context, and attributes of a level. Version numbers that are left out
                    stay unused, and so do their ids, which then need one of the next three options.
-  --fill-ids       keeps ids that wouldn't be given as 1, 2, 3.. otherwise: a schema whose id no version has any more, or
-                   whose id comes after a later one, is registered under a subject that is deleted afterwards. An id that
-                   no version has is used up then, as at FROM. This takes one write for each such id.
+  --fill-ids       keeps all ids, even if avroreg wouldn't assign them as 1, 2, 3.. in the order of the versions. For an id
+                   that comes later, it registers the schema early; for an id that no version has, a placeholder. Both
+                   get a subject that it deletes at the end, and the ids stay used up. This takes a write for each such id.
   --used-ids N     expects that the ids 1 to N are used up in the file of TO, which takes no writes. Make that file with
                    from-confluent/used-ids.py. Confluent Cloud's ids begin at 100,001: use 100000.
   --new-ids        gives new ids, and prints each change. Messages that were written with the old ids become unreadable.
@@ -40,12 +40,13 @@ changed since, or the options differ, use another new file.
 If somebody writes to FROM, the script copies its state at one moment, without later writes. So stop the writers first, or
 set FROM's mode to READONLY. The mode is copied too: set TO's to READWRITE afterwards. HTTP doesn't return some things, so
 they aren't copied: levels and modes of subjects without versions, kept replies of retry keys, and schemas that no version
-has. Nor is the number of ids after the last visible one.
+has. Ids after the last one in use aren't copied either.
 
 Passwords come from the environment: FROM_PASSWORD for --from-user, TO_PASSWORD for --to-user.
 
 Status: 0  everything is copied, or with --dry-run: can be
-        1  it can't be copied with these options; it prints the reasons and the options to use, and writes nothing
+        1  it can't be copied with these options, or TO isn't a new, writable avroreg; it prints the reasons and the options
+           to use, and writes nothing
         2  a registry can't be read, or FROM keeps changing; run it again
         3  TO gave another response than expected, or differs at the end: use a new file
         64 wrong arguments

@@ -131,10 +131,12 @@ stop_server() {
 
 # try NAME PACKAGES COMMAND..: if $chosen is empty or has the name, installs these Debian packages and runs the command.
 chosen=()
+known=()
 failed=()
 try() {
   local name=$1 needs=$2 start=$SECONDS outcome=passed
   shift 2
+  known+=("$name")
   [ ${#chosen[@]} = 0 ] || [[ " ${chosen[*]} " == *" $name "* ]] || return 0
   # shellcheck disable=SC2086
   packages $needs
@@ -145,12 +147,16 @@ try() {
   printf '%-14s %-7s %4d s   needs %s\n' "$name" "$outcome" $((SECONDS - start)) "$needs"
 }
 
-# Prints the last lines of each failed script. Returns 1 if a script failed.
+# Prints the last lines of each failed script. Returns 1 if a script failed, or if $chosen has a name that no script has.
 sum_up() {
-  local name
+  local name unknown=()
+  for name in ${chosen[@]+"${chosen[@]}"}; do
+    [[ " ${known[*]} " == *" $name "* ]] || unknown+=("$name")
+  done
+  [ ${#unknown[@]} = 0 ] || printf 'unknown: %s. The names are: %s\n' "${unknown[*]}" "${known[*]}" >&2
   for name in ${failed[@]+"${failed[@]}"}; do
     printf '\n%s:\n' "$name"
     tail -n 5 "$scratch/$name.log"
   done
-  [ ${#failed[@]} = 0 ]
+  [ ${#failed[@]} = 0 ] && [ ${#unknown[@]} = 0 ]
 }

@@ -10,11 +10,12 @@ version=$(sed -n '1s/.*(\(.*\)).*/\1/p' "$here/deb/changelog")
 if [ "$(stat -fc %T /sys/fs/cgroup)" != cgroup2fs ]; then
   umount -R /sys/fs/cgroup && mount -t cgroup2 cgroup2 /sys/fs/cgroup
 fi
-# A second address, as other machines use it.
+# A second address of this machine: requests to it take the place of requests from other machines.
 other=10.79.0.1
 ip link set lo up && ip addr add "$other/32" dev lo
 mkdir -p /var/lib/cni && mount -t tmpfs tmpfs /var/lib/cni
-# For the devices of a cgroup crun raises a limit, which a container may not. So this crun makes no cgroup.
+# To filter a cgroup's devices, crun raises a resource limit. It may not do this if the trial runs in a container. So this wrapper of
+# crun makes no cgroup.
 cat >"$scratch/crun" <<'CRUN'
 #!/usr/bin/env bash
 for argument; do

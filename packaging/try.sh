@@ -3,7 +3,8 @@
 # package under systemd, kills the program, and waits for the next response. It builds the images and starts both pods.
 #
 #   AVROREG=PROGRAM packaging/try.sh [deb|systemd|oci]..     default: all
-#   BASE      a tree of Debian 12 to copy; by default debootstrap makes one, which needs the network
+#   BASE      a tree of Debian 12 to copy, with the packages that make_tree names; by default debootstrap makes one, which needs
+#             the network
 #
 # Needs root, and Debian's debootstrap, systemd-container, lintian, mandoc, dpkg-dev, binutils, buildah, podman, crun,
 # containernetworking-plugins, iptables, catatonit, nginx, openssl, curl, jq, python3 and iproute2. Prints a line for each check,

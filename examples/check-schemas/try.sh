@@ -123,6 +123,12 @@ check_versions orders-value '[1]'
 register 0 "$scratch/good" "$url" --commit abc124
 check_versions orders-value '[1,3]'
 
+# Only %2F and %25 are escapes, as in check-schemas.sh.
+mkdir "$scratch/escaped"
+echo '"int"' >"$scratch/escaped/a%20b%2Fc%25.avsc"
+register 0 "$scratch/escaped" "$url" --commit abc123
+check_versions a%2520b%2Fc%25 '[1]'
+
 # After a rejection it registers nothing.
 mkdir "$scratch/mixed"
 cp "$schemas"/{orders,payments}-value.avsc "$scratch/mixed"

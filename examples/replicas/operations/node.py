@@ -123,7 +123,10 @@ class Node:
         print(f"{self.config.node} began from {database}, digest {base.digest}")
 
     async def upgrade(self, program: pathlib.Path, is_migrated: bool) -> None:
-        """Replaces this node's avroreg. Writes must be paused on all nodes, so that two versions never apply the same entry."""
+        """Replaces this node's avroreg. Writes must be paused on all nodes, so that two versions never apply the same entry. If the
+        new program can't be installed, or can't migrate the database, the old one runs on."""
+        if not program.is_file():
+            raise Failed(f"{program} is no file")
         if not await self.cluster.log.value(log.PAUSE):
             raise Failed("writes aren't paused: avroreg-cluster pause")
         newest = await self.cluster.log.newest()
@@ -133,16 +136,18 @@ class Node:
             self.run(*self.config.services.start_relay)
             raise Failed(f"this node is at revision {at.revision}, and the log at {newest}")
         self.run(*self.config.services.stop_registry)
-        self.merge(self.config.database)
-        shutil.copyfile(self.config.database, self.config.database.with_name("registry.db.before-upgrade"))
-        new = self.config.program.with_name(self.config.program.name + ".new")
-        shutil.copyfile(program, new)
-        os.chmod(new, 0o755)
-        shutil.copyfile(self.config.program, self.config.program.with_name(self.config.program.name + ".before-upgrade"))
-        os.replace(new, self.config.program)
-        if is_migrated:
-            self.run(str(self.config.program), "migrate", "--db", str(self.config.database))
-        self.start()
+        try:
+            self.merge(self.config.database)
+            shutil.copyfile(self.config.database, self.config.database.with_name("registry.db.before-upgrade"))
+            new = self.config.program.with_name(self.config.program.name + ".new")
+            shutil.copyfile(program, new)
+            os.chmod(new, 0o755)
+            shutil.copyfile(self.config.program, self.config.program.with_name(self.config.program.name + ".before-upgrade"))
+            if is_migrated:
+                self.run(str(new), "migrate", "--db", str(self.config.database))
+            os.replace(new, self.config.program)
+        finally:
+            self.start()
         print(f"{self.config.node} has the new program, at revision {at.revision}")
 
     async def show_fingerprint(self) -> None:

@@ -13,7 +13,7 @@ from relay.faults import Unavailable
 from relay.http1 import Response
 
 LIMIT = 65536  # a response head is far shorter
-SECONDS = 60.0  # a check of two large schemas takes six
+SECONDS = 60.0  # a check of two large schemas can take seconds
 TURN_SECONDS = 0.01  # the longest use of one connection while messages follow; reads of nginx wait for it
 BACKEND_FAULT = 500
 

@@ -133,11 +133,14 @@ class Operations(ThroughNginx):
 
         reader = threading.Thread(target=read)
         check("aren't paused" in self.command(self.nodes[1], "upgrade", new, fails=True), "upgrade fails unless writes are paused")
+        check("is no file" in self.command(self.nodes[1], "upgrade", self.folder / "missing", fails=True), "upgrade needs a program")
         reader.start()
         try:
             self.command(self.nodes[1], "pause")
             status, body = ask(self.nodes[0], "PUT", "/config", b'{"compatibility":"FULL"}')
             check((status, json.loads(body)["error_code"]) == (503, 50304), "a write gets 503 with 50304")
+            self.command(self.nodes[1], "upgrade", "--migrate", shutil.which("false"), fails=True)
+            self.wait_for(lambda: self.nodes[1].is_up("relay"), "n2 answers after a program that can't migrate")
             for node in self.nodes:
                 before = node.process("registry")
                 self.command(node, "upgrade", new)
