@@ -106,8 +106,8 @@ touch -d '2 days ago' "$scratch/bad"/unfinished-*
 "$here/nightly" "$scratch/registry.db" "$scratch/bad" || fail "no nightly backup after a killed run"
 [ "$(ls "$scratch/bad" | tr -d '0-9\n')" = last-good.jsonregistry-TZ.db ] || fail "a killed run's copy was left: $(ls "$scratch/bad")"
 "$here/nightly" "$scratch/registry.db" "$scratch/none" 2>"$scratch/error" && fail "a missing folder wasn't noticed"
-"$here/nightly" --keep 0 "$scratch/registry.db" "$scratch/nights" 2>"$scratch/error" && fail "nightly accepts --keep 0"
 grep -q 'there is no folder' "$scratch/error" || fail "no message about a missing folder: $(cat "$scratch/error")"
+"$here/nightly" --keep 0 "$scratch/registry.db" "$scratch/nights" 2>"$scratch/error" && fail "nightly accepts --keep 0"
 
 fullest=$(ls "$scratch/nights"/registry-*.db)
 # The server still writes to removed files. After a thousand writes, a copy of its descriptor 3 is the registry.
