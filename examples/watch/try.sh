@@ -52,6 +52,12 @@ check 'requests{user="ci",status="409"}' 1
 check 'requests{user="-",status="401"}' 1
 check 'requests{user="-",status="403"}' 1
 check 'file_bytes{file="database"}' "$(stat -c %s "$scratch/registry.db")"
+for log in "$scratch/missing.log" "$scratch/backups"; do # a log that nginx hasn't written yet, and one that can't be read
+  python3 "$here/watch" "$url" "$scratch/registry.db" "$metrics" --access-log "$log" 2>"$scratch/message" || fail "watch failed without a log"
+  check up 1
+  check 'requests{user="ci",status="200"}' none
+done
+grep -q 'Is a directory' "$scratch/message" || fail "watch doesn't report a log that it can't read"
 AVROREG=$avroreg "$examples/backup/nightly" "$scratch/registry.db" "$scratch/backups" || fail "no backup"
 watch "$scratch/registry.db"
 check backup_subjects 2
@@ -59,12 +65,6 @@ check backup_versions 2
 check backup_schemas 1
 [ "$(age)" -lt 3600 ] || fail "the new backup is $(age) seconds old"
 echo "up: the metrics are right"
-for log in "$scratch/missing.log" "$scratch/backups"; do # a log that nginx hasn't written yet, and one that can't be read
-  python3 "$here/watch" "$url" "$scratch/registry.db" "$metrics" --access-log "$log" 2>"$scratch/message" || fail "watch failed without a log"
-  check up 1
-  check 'requests{user="ci",status="200"}' none
-done
-grep -q 'Is a directory' "$scratch/message" || fail "watch doesn't report a log that it can't read"
 python3 "$here/watch" "$url" "$scratch/registry.db" "$scratch/named.prom" --backups "$scratch/backups" --registry orders || fail "watch failed"
 [ "$(grep -c '^avroreg_[a-z_]*{registry="orders"' "$scratch/named.prom")" = "$(grep -vc '^#' "$scratch/named.prom")" ] &&
   grep -q '^avroreg_file_bytes{registry="orders",file="log"} ' "$scratch/named.prom" || fail "a metric lacks the registry's name"
