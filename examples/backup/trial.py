@@ -115,12 +115,13 @@ class SlowCopy:
             os.fsync(out.fileno())
 
 
-def copy_file_of(number: int, database: Path):
-    """The function with which a copy reads: a slow one for every second copy."""
+def copy_file_of(number: int, attempt: int, database: Path):
+    """The function with which a copy reads: a slow one for every second copy, less slow after each rejection. On a quick machine
+    a new log begins several times a second, and a slow copy never succeeds."""
     if number % 2 == 0:
         return HOT_COPY.copy_file
     blocks = sum(file.stat().st_size for file in (database, HOT_COPY.log_of(database))) // HOT_COPY.BLOCK_BYTES + 2
-    return SlowCopy(random.uniform(0, SLOWEST_SECONDS) / blocks)
+    return SlowCopy(random.uniform(0, SLOWEST_SECONDS) / (attempt + 1) / blocks)
 
 
 def copy_under_load(load: Load, copy: Path, number: int, counts: Counts) -> str:
@@ -128,10 +129,10 @@ def copy_under_load(load: Load, copy: Path, number: int, counts: Counts) -> str:
     database = load.server.file
     load.runs.set()
     load.wait_for(WRITES_BETWEEN_COPIES)
-    for _ in range(TRIES):
+    for attempt in range(TRIES):
         acknowledged = load.writes_so_far()
         load.copying = True
-        with mock.patch.object(HOT_COPY, "copy_file", copy_file_of(number, database)):
+        with mock.patch.object(HOT_COPY, "copy_file", copy_file_of(number, attempt, database)):
             accepted = HOT_COPY.copy_once(database, copy)
         load.copying = False
         if accepted:
