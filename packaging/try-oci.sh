@@ -59,6 +59,8 @@ are_closed() {
     grep -E '^(CapEff|CapBnd):\s0+$' "/proc/$(pid_of "$container")/status" | grep -c . | grep -qx 2 || return 1
   done
 }
+# has_file CONTAINER PATH FILE: whether the container has this file at this path.
+has_file() { podman cp "$1:$2" "$scratch/copied" && cmp "$3" "$scratch/copied"; }
 pid_of() { podman inspect -f '{{.State.Pid}}' "$1"; }
 is_new() { [ "$(pid_of "$1")" -gt 1 ] && [ "$(pid_of "$1")" != "$2" ]; }
 # is_closed_port CURL'S ARGUMENT..: whether nothing listens there.
@@ -74,6 +76,9 @@ url=http://127.0.0.1:8080
 check "pod.yaml starts" podman kube play "$here/oci/pod.yaml"
 check "it answers on the published port" eventually 120 answers 200 BACKWARD "$url/config"
 check "the containers are read-only, without capabilities" are_closed
+check "the image of avroreg has its licence" has_file avroreg-registry /usr/share/doc/avroreg/LICENSE "$here/../LICENSE"
+licences=${COPYRIGHTS:-/usr/share/doc}
+check "the image of nginx has nginx's licence" has_file avroreg-nginx /usr/share/doc/nginx/copyright "$licences/nginx/copyright"
 check "other machines don't reach it" is_closed_port "http://$other:8080/config"
 check "nobody reaches avroreg without nginx" is_closed_port http://127.0.0.1:8081/config
 check "a write is acknowledged" answers 200 '{"id":1}' -d '{"schema":"\"int\""}' "$url/subjects/orders/versions"

@@ -91,6 +91,7 @@ try_deb() {
   check "it goes back to the older package" inside debian apt-get install -y -q --allow-downgrades -o Dpkg::Options::=--force-confold \
     /tmp/older.deb
   check "the older version is there" grep -qx 0.0.9 <(inside debian dpkg-query -W -f '${Version}\n' avroreg)
+  check "timers and another registry are enabled" inside debian systemctl enable avroreg-backup.timer avroreg-watch@orders.timer avroreg@orders
   check "it is removed" inside debian dpkg -r avroreg
   check "a removal keeps the settings" test -f "$scratch/debian/etc/default/avroreg"
   check "a purge says that it keeps the registry" grep -q "kept /var/lib/avroreg" <(inside debian dpkg -P avroreg 2>&1)

@@ -48,7 +48,7 @@ func main() {
 		checkEqual("a chunked body is accepted", false, err == nil)
 		_, err = client.Versions(subject)
 		checkRejected("no versions after the rejection", 40401, err)
-		fmt.Println("lensesio/schema-registry: avroreg rejected the chunked body and responded correctly to all other requests")
+		fmt.Println("lensesio/schema-registry: avroreg rejected the chunked body, and registered nothing")
 		return
 	}
 	one, err := client.RegisterNewSchema(subject, first)
