@@ -1,6 +1,6 @@
-//! Random pairs of schemas. Both schemas draw the same random numbers, and each differs
-//! occasionally. All kinds of types occur, also in arrays, maps and unions, and refer to records
-//! around them.
+//! Random pairs of schemas. Both schemas draw the same random numbers. Each also draws its own, by
+//! which it differs occasionally. All kinds of types occur. A type may refer to a record that is
+//! around it or before it, so records can be recursive.
 
 use crate::text::{Placeholders, push_template};
 use rand_pcg::Pcg32;
@@ -19,7 +19,7 @@ static PRIMITIVES: [(&str, &str); 8] = [
     ("string", r#""b""#),
 ];
 
-/// Types that contain another type, with defaults: `@` is the inner type, and `$` a record. The
+/// Types, each with a default. In a type, `@` is the inner type and `$` the name of a record. The
 /// default `@` is that of the inner type, and an empty text means no default.
 static TYPES: [(&str, &str); 8] = [
     (r#"{"type":"array","items":@}"#, "[]"),
@@ -50,7 +50,7 @@ struct Draft {
     own: Pcg32,
 }
 
-/// A field, by its record's level and its index there, and the random numbers for its type.
+/// What decides a type: the level and the index for the names in it, and random numbers.
 #[derive(Clone, Copy)]
 struct FieldDraw {
     level: u32,
@@ -103,7 +103,8 @@ fn push_fixed(text: &mut String, drawn: FieldDraw) -> Result<&'static str, Alloc
     Ok(BYTES[size as usize])
 }
 
-/// Adds a type that contains no other type, and returns its default.
+/// Adds the name of a record, a primitive type, an enum or a fixed type. Returns its default, or an
+/// empty text for a record.
 fn push_inner(
     text: &mut String,
     names: &[String],
@@ -131,7 +132,7 @@ fn push_inner(
     }
 }
 
-/// Adds a type, and returns its default.
+/// Adds a type. Returns its default, or an empty text if it has none.
 fn push_type(
     alloc: Global,
     draft: &mut Draft,
@@ -183,7 +184,7 @@ fn push_field(alloc: Global, draft: &mut Draft, level: u32, index: u32) -> Resul
     draft.text.push_str("}")
 }
 
-/// Adds three fields after others.
+/// Adds the fields at three indexes, from this one on, after others. Each may be left out.
 fn push_fields(alloc: Global, draft: &mut Draft, level: u32, from: u32) -> Result<(), AllocError> {
     for index in from..from.saturating_add(3) {
         push_field(alloc, draft, level, index)?;
@@ -191,7 +192,8 @@ fn push_fields(alloc: Global, draft: &mut Draft, level: u32, from: u32) -> Resul
     Ok(())
 }
 
-/// Adds the beginning of a record. Occasionally its name has another namespace, or aliases.
+/// Adds the beginning of a record, with one field. Occasionally the record has another namespace,
+/// or another name with aliases.
 fn open_record(alloc: Global, draft: &mut Draft, level: u32) -> Result<(), AllocError> {
     let (space, letter) = match draft.own.next_u32() % 16 {
         0 => ("m", "R"),

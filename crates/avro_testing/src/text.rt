@@ -1,15 +1,16 @@
 //! Templates of long texts.
 //!
 //! Each line of a template is a part: a name for numbers, a space, and the text that is written for each number. In
-//! this text, placeholders are replaced by numbers and by other texts (`Placeholders`). The numbers are
+//! this text, placeholders are replaced by numbers and by other texts (`Placeholders`). A line without a space adds
+//! nothing. The numbers are
 //!
-//! - `once`: a single one;
+//! - `once`: only 0;
 //! - `each`: from 0 up to the count, without the count;
 //! - `later`: from 1 up to the count, without the count, and `down`: the same in reverse;
 //! - `last`: only the count;
 //! - `A..B`: from A up to B, or down to B if B is less than A, in both cases without B;
-//! - `N`: from 0 on until the text nearly has its maximum length, if this part has one byte and the other parts have N
-//!   bytes for each number of the count.
+//! - `N`, a number: from 0 on, as many as nearly fill the text to its maximum length. This part must have one byte, and
+//!   the other parts N bytes for each number of the count and at most 200 more.
 
 use std::alloc::{AllocError, Global};
 
@@ -34,7 +35,7 @@ const MAX_LETTERS: u32 = 4;
 /// The values of the placeholders of a template.
 #[derive(Clone, Copy)]
 pub struct Placeholders<'a> {
-    /// `#`; `<` is the number before it, `>` the number after it, and `~` its symbol
+    /// `#`; `<` is the number before it (for 0 it is 0), `>` the number after it, and `~` its symbol
     pub number: u32,
     /// whether `;` is nothing; else it is a comma
     pub is_first: bool,
@@ -95,8 +96,8 @@ pub fn push_template(
     Ok(())
 }
 
-/// The numbers from `from` up or down to `to`, without `to`: the least one, the greatest one plus 1, and whether they
-/// go down.
+/// The numbers from `from` up or down to `to`, without `to`, as a range: its start, its end, which isn't in it, and
+/// whether the numbers go down. If there are none, the end isn't above the start.
 fn range(from: u32, to: u32) -> (u32, u32, bool) {
     if to < from {
         (to.saturating_add(1), from.saturating_add(1), true)
@@ -105,7 +106,7 @@ fn range(from: u32, to: u32) -> (u32, u32, bool) {
     }
 }
 
-/// The numbers of a part: the least one, the greatest one plus 1, and whether they go down.
+/// The numbers of a part, as such a range. In the part's name, a number that can't be parsed counts as 0.
 fn bounds(numbers: &str, count: u32) -> (u32, u32, bool) {
     match numbers {
         "once" => (0, 1, false),
@@ -124,7 +125,7 @@ fn bounds(numbers: &str, count: u32) -> (u32, u32, bool) {
     }
 }
 
-/// Adds a part for each of its numbers.
+/// Adds the text of a part for each of its numbers. A line without a space adds nothing.
 fn push_part(
     text: &mut String,
     line: &str,

@@ -4,13 +4,15 @@ use crate::resolution::{CYCLE, ENUMS, ONE_NAME};
 use crate::shape::{HOLES, Shape, TWO_HOLES};
 use avro_testing::Template;
 
-/// Records with a field of the same record, which has an int, and unions of these records.
+/// Records that each have a field of one record, which has an int. Fields with unions of these
+/// records follow.
 const WRITTEN: &str =
     r##"once {"type":"record","name":"T","fields":[{"name":"written","default":null,"type":["null",{"type":"record","name":"n.Z","fields":[{"name":"f","type":"int"}]}
 each ,{"type":"record","name":"n#.A","fields":[{"name":"f","type":"n.Z"}]}
 once ]}@]}"##;
 
-/// The same with a string, and a record that can read each of these records.
+/// The same with a string for the int, and with a record that can read each of the writer's
+/// records.
 const READ: &str =
     r##"once {"type":"record","name":"T","fields":[{"name":"read","default":null,"type":["null",{"type":"record","name":"n.Z","fields":[{"name":"f","type":"string"}]},{"type":"record","name":"e.A","fields":[]}
 each ,{"type":"record","name":"n#.A","fields":[{"name":"f","type":"n.Z"}]}
@@ -18,8 +20,9 @@ once ]}@]}"##;
 
 /// The shapes of hostile pairs.
 static HOSTILE: [Shape; 9] = [
-    // Many records of the reader depend on one record, and fail after it. Each time, forty unions
-    // of 3,000 branches that failed before are examined.
+    // Many records of the reader refer to one record, which resolves, and fail at their next field.
+    // For each of them, the forty unions of that record are examined again, each with 3,000
+    // branches that failed before.
     Shape {
         name: "rescans",
         counts: &[70, 700],
@@ -63,7 +66,7 @@ once ,"d.W"]}]}"##,
 once ]}]}"##,
         },
     },
-    // the same with 140,000 different aliases
+    // the same chain, with a record of two fields; the second has 139,948 different aliases
     Shape {
         name: "distinct-aliases",
         counts: &[400, 4000],
@@ -125,7 +128,7 @@ once ]}]}"##,
             parts: READ,
         },
     },
-    // enums of 46 symbols and one last name, with the same number of enums with one more symbol
+    // enums of 46 symbols and one last name; the reader has as many enums, of 47 symbols
     Shape {
         name: "more-symbols",
         counts: &[400, 3900],
@@ -161,7 +164,7 @@ once ]"##,
 once ]"##,
         },
     },
-    // a chain of records, with one recursive record of 26,000 fields, whose sources are kept for
+    // a chain of records, with one recursive record of 25,950 fields, whose sources are kept for
     // each open pair
     Shape {
         name: "deep",

@@ -1,14 +1,19 @@
 //! Measures how long it takes to read and to resolve schemas.
 //!
-//! The arguments are `read`, `resolve` or `behind`; the name of a shape, or `all`; and optionally a
-//! count of the shape's parts. `read` reads a text by `Schema::read`, which makes its identity
-//! text, and by `serde_json` into a `Value`. It prints the length, the times and their ratio.
+//! The arguments are `read`, `resolve` or `behind`, then the name of a shape or `all`, and
+//! optionally a count of the shape's parts. Without a count, each of the shape's own counts is
+//! measured; for `behind` there is one or none.
+//!
+//! `read` reads a text by `Schema::read`, which makes its identity text, and by `serde_json` into a
+//! `Value`. It prints the length, the times, their ratio, and `refused` if the text is no schema.
 //! `resolve` resolves a writer's and a reader's text by `resolves` and by `resolves_plain`. It
-//! prints the numbers of their places, the verdicts and the times. `behind` does the same with each
-//! text after a cycle of records, for which `resolves` stops and eliminates pairs. `files W R`
-//! resolves the texts of two files. Each time is that of the shortest of many calls; calls below 10
-//! microseconds are timed in runs of 16. Each measurement ends with the peak memory of the process
-//! so far.
+//! prints the numbers of their places, the verdicts, the visits and the times. `behind` does the
+//! same with each text after a cycle of records. There the recursion of `resolves` goes too deep,
+//! and elimination decides. `files W R` resolves the texts of two files.
+//!
+//! Each time is that of the shortest of up to 2,000 runs. A call whose runs took over 0.2 seconds
+//! in all isn't run again. A run has one call, or 16 if a call takes less than 10 microseconds;
+//! then the time is their mean. Each measurement ends with the peak memory of the process so far.
 //!
 //! `random` resolves 2,000 random pairs, always the same ones, and fails if the two ways disagree.
 //! Without arguments the program does nothing.
@@ -83,7 +88,7 @@ fn print_time(rt: &HostRuntime, way: &str, timing: Timing) -> Result<()> {
     Ok(())
 }
 
-/// The writer's and the reader's text of a shape.
+/// The writer's and the reader's text of a shape, after a cycle of records if `is_after_cycle`.
 fn pair_of(
     alloc: Global,
     shape: &Shape,
@@ -172,7 +177,8 @@ fn measure(rt: &HostRuntime, measured: Measurement, shape: &Shape, count: u32) -
     }
 }
 
-/// Measures a shape with this count, or with each of the shape's counts.
+/// Measures a shape with this count. If it is `None`, measures the shape with each of its counts;
+/// after a cycle only with `after_cycle`, or not at all if that is 0.
 fn measure_shape(
     rt: &HostRuntime,
     measured: Measurement,
@@ -194,7 +200,7 @@ fn measure_shape(
     Ok(())
 }
 
-/// Measures the shapes of this name.
+/// Measures the shape of this name, or every shape for `all`. It is an error if there is none.
 fn measure_all(
     rt: &HostRuntime,
     measured: Measurement,
@@ -216,7 +222,7 @@ fn measure_all(
     Ok(())
 }
 
-/// Parses the count in an argument.
+/// The count in an argument, or `None` if there is no argument.
 fn count_of(word: Option<&String>) -> Result<Option<u32>> {
     match word {
         Some(word) => Ok(Some(word.parse()?)),
@@ -224,7 +230,7 @@ fn count_of(word: Option<&String>) -> Result<Option<u32>> {
     }
 }
 
-/// Runs the measurement that the arguments describe.
+/// Runs the measurement that the arguments describe. Without arguments it does nothing.
 fn run_command(rt: &HostRuntime, arguments: &[String]) -> Result<()> {
     let Some(word) = arguments.first() else {
         return Ok(());

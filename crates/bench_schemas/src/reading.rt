@@ -28,12 +28,13 @@ once ]}"##,
         writer: Template {
             word: "",
             parts: r##"once {"type":"record","name":"Order","namespace":"shop.orders","doc":"An order of a shop.","fields":[
-each ;{"name":"field_#","type":"string","doc":"What field # of an order holds, in a few arguments."}
+each ;{"name":"field_#","type":"string","doc":"What field # of an order holds, in a few words."}
 once ]}"##,
         },
         reader: NO_TEXT,
     },
-    // a tree: records of ten records of a long, a string and a union, each with a doc
+    // a tree: branches of a long and ten leaves, and leaves of a long, a string and a union; a doc
+    // for each record, and for each field whose type isn't a record
     Shape {
         name: "tree",
         counts: &[1, 10, 30],
@@ -61,7 +62,7 @@ once ]}"##,
         },
         reader: NO_TEXT,
     },
-    // fields with aliases, of records with aliases in a namespace
+    // fields with aliases, whose types are records with aliases in their own and another namespace
     Shape {
         name: "aliased",
         counts: &[1, 10, 100, 1000],
@@ -89,8 +90,8 @@ once ]"##,
         },
         reader: NO_TEXT,
     },
-    // fields with defaults of a record, and the same number of empty objects of this record in an
-    // array's default
+    // an array of a record, whose fields have defaults; the array's default has as many empty
+    // objects as the record has fields
     Shape {
         name: "defaults",
         counts: &[3, 10, 100, 1000],
@@ -151,7 +152,7 @@ once ]}]"##,
         reader: NO_TEXT,
     },
     // Branches of a union that name the record around it, whose namespace fills the text. The text
-    // is no schema, which is found only after all branches are read.
+    // is no schema, since the branches are equal. They are compared only after all are read.
     Shape {
         name: "branches",
         counts: &[100, 1000, 10000, 100000, 187000],
@@ -167,7 +168,7 @@ once ]}]}"##,
         },
         reader: NO_TEXT,
     },
-    // objects in another attribute
+    // objects in a doc
     Shape {
         name: "objects",
         counts: &[10, 1000, 140000],
@@ -181,7 +182,7 @@ once ]}"##,
         },
         reader: NO_TEXT,
     },
-    // nested objects, 20 deep, in another attribute
+    // nested objects, 20 deep, in a doc
     Shape {
         name: "chains",
         counts: &[1, 100, 9000],

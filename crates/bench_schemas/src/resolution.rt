@@ -1,4 +1,4 @@
-//! The pairs of texts that are resolved.
+//! The pairs of texts that are resolved, without the hostile ones.
 
 use crate::shape::Shape;
 use avro_testing::Template;
@@ -24,7 +24,8 @@ pub const ONE_NAME: &str =
 later ,{"type":"record","name":"n#.A","fields":[{"name":"f","type":"n<.A"}]}
 once ]"##;
 
-/// A record with a chain of records of one last name, each with a field of the next one.
+/// A record with a chain of records of one last name, each with a field of the next one. The last
+/// record of the chain has a field of the type `$`.
 pub const CYCLE: &str = r##"once {"type":"record","name":"c.A","fields":[{"name":"d","type":["null"
 last ,{"type":"record","name":"n#.A","fields":[{"name":"f","type":$}]}
 down ,{"type":"record","name":"n#.A","fields":[{"name":"f","type":"n>.A"}]}
@@ -143,7 +144,7 @@ down {"name":"f#","type":$},
 once {"name":"f0","type":$}]}"##,
         },
     },
-    // the same, but the reader has strings
+    // as `fields`, but the reader has strings
     Shape {
         name: "other-types",
         counts: &[10, 100, 1000, 4095],
@@ -233,8 +234,8 @@ once {"name":"f0","type":$}]}"##,
             parts: ENUMS,
         },
     },
-    // enums of 340 symbols and one last name, with the same number of enums with another last
-    // symbol, and a last one that has a default
+    // enums of 340 symbols and one last name; the reader has as many enums with another last
+    // symbol, and one more enum, which has a default
     Shape {
         name: "last-symbols",
         counts: &[100, 499],
@@ -266,7 +267,7 @@ once ,{"type":"enum","name":"z.A","symbols":["other"],"default":"other"}]"##,
             parts: CHAIN,
         },
     },
-    // the same, but the first record has an int, and the reader's first record a string
+    // the same, but the reader's first record has a string in place of the int
     Shape {
         name: "broken-chain",
         counts: &[100, 1000, 4000],
@@ -429,8 +430,8 @@ once ],"default":null},{"name":"f","type":["x.A1","y.A1"]}]}"##,
             parts: UNIONS,
         },
     },
-    // eleven records of one last name, with one field for each of many records of one last name and
-    // different fields, with themselves
+    // Eleven records of one last name, with themselves. Each has one field for each of many
+    // records, which have another last name and different fields.
     Shape {
         name: "wide",
         counts: &[200, 2000],
@@ -445,7 +446,7 @@ once ],"default":null},{"name":"f","type":["x.A1","y.A1"]}]}"##,
             parts: WIDE,
         },
     },
-    // records, with themselves after a record of 100,000 aliases
+    // records, with the same records after a record of 100,000 aliases
     Shape {
         name: "aliases",
         counts: &[200, 2000],
@@ -540,7 +541,7 @@ once ]"##,
     },
 ];
 
-/// The shapes that are resolved.
+/// The shapes that are resolved, without the hostile ones.
 pub fn resolution() -> &'static [Shape] {
     &RESOLUTION
 }

@@ -24,24 +24,24 @@ pub const NO_TEXT: Template = Template {
 };
 
 /// The first record of a cycle of 1,050 records, more than the pairs that may be open at once. A union in its first
-/// field defines the rest of the cycle, and its last field has the text of a shape. A reader ignores the union, since
-/// its own first field has another name.
+/// field defines the rest of the cycle, and its last field has the text of a shape. The reader ignores the writer's
+/// union, since its own first field has another name.
 const LINKS: &str =
     r##"once {"type":"record","name":"Link0","fields":[{"name":"$","default":null,"type":["null",{"type":"record","name":"Link1049","fields":[{"name":"next","type":"Link0"}]}
 1048..0 ,{"type":"record","name":"Link#","fields":[{"name":"next","type":"Link>"}]}
 once ]},{"name":"next","type":"Link1"},{"name":"after_cycle","type":@}]}"##;
 
-/// The inner text is fields with unions of the records n0.A, n1.A and so on. Each union lacks one of every 24 records,
-/// and ends with the word.
+/// The inner text is fields with unions of null and the records n0.A, n1.A and so on. Each union lacks one of every 24
+/// records, and ends with the template's word.
 pub const HOLES: &str = "holes";
 
 /// The same, but each union lacks two of every 24 records.
 pub const TWO_HOLES: &str = "two holes";
 
-/// The number of unions with holes in a text. Each union lacks a record of every 24.
+/// The number of unions with holes in a text. Each union lacks one or two of every 24 records.
 const UNIONS: u32 = 24;
 
-/// The unions with holes.
+/// The inner text for `HOLES`, or for `TWO_HOLES` if `has_two`.
 fn unions(alloc: Global, count: u32, has_two: bool, word: &str) -> Result<String, AllocError> {
     let mut text = String::new(alloc);
     for union in 0..UNIONS {
@@ -58,7 +58,7 @@ fn unions(alloc: Global, count: u32, has_two: bool, word: &str) -> Result<String
     Ok(text)
 }
 
-/// The text of a shape, with this count.
+/// The text of one of a shape's templates, with this count.
 pub fn shape_text(
     alloc: Global,
     shape: &Shape,
@@ -77,7 +77,7 @@ pub fn shape_text(
     expand(alloc, template, inner.as_str(), count)
 }
 
-/// A text after a cycle. The writer's and the reader's text have different words.
+/// A text after a cycle of records (`LINKS`). The writer's and the reader's text need different words.
 pub fn put_after_cycle(
     alloc: Global,
     text: &str,

@@ -14,8 +14,8 @@ const MAX_RUNS: u32 = 2000;
 /// The total time after which a call isn't run again, in nanoseconds.
 const MAX_NANOS: u64 = 200_000_000;
 
-/// The maximum time of a short call, in nanoseconds. A run makes several short calls, so that the time of reading the
-/// clock doesn't count.
+/// A call is short if it takes less than this, in nanoseconds. A run makes several short calls, so that the time of
+/// reading the clock hardly counts.
 const SHORT_NANOS: u64 = 10_000;
 
 /// The number of short calls in a run.

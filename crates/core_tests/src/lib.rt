@@ -1,4 +1,4 @@
-//! Tests of the crates below the database, for what the program doesn't show: schemas, decisions and messages.
+//! Tests of the crates below the database, for behaviour that the built program can't show.
 
 #![tactic(auto)]
 

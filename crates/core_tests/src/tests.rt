@@ -1,4 +1,5 @@
-//! Tests that calls succeed if memory suffices, and that the definitions mean what is intended.
+//! Tests of what no contract says, such as that calls succeed if memory suffices, that definitions mean what is
+//! intended, and which schemas are cached.
 
 mod cache;
 mod nodes;

@@ -1,4 +1,5 @@
-//! Tests of the crates over a database: stores, services, sessions and jobs.
+//! Tests of the crates over a database: lookups, stores, services, sessions, connections and
+//! subcommands.
 
 #![tactic(auto)]
 

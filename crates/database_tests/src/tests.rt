@@ -1,5 +1,6 @@
-//! What no clause says of stores, services, sessions and jobs. It is what failing disks leave, how
-//! many steps lookups take, how connections take turns, and that calls succeed if memory suffices.
+//! Tests of what no clause says of stores, services, sessions, connections and subcommands: what
+//! failing disks leave, how many steps lookups take, how connections take turns, and that calls
+//! succeed if memory suffices.
 
 mod accepting;
 mod connections;

@@ -23,7 +23,7 @@ abbrev kept : {E : Type 0} → Result ℕ E → Option ℕ
 kept (Ok n) = Some n
 kept (Err e) = None
 
--- a parse returns the number that the text denotes, and fails if it denotes none
+-- a parse returns the number that the text denotes; it fails if the text denotes none, or one of more than `bits` bits
 pub number_read : {E : Type 0} (bits : ℕ) (text : Text) (r : Result ℕ E) → ParsesUnsigned bits 10 text r → kept r ≡ unsigned_in bits text
 number_read bits text (Ok n) parses =
     let digits = without_leading_plus text in

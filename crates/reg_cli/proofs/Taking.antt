@@ -10,12 +10,12 @@ use Rattle.clap.proofs.OnLiterals.{clap_on_literals}
 use Rattle.reg_cli.specs.Commands.{program}
 use Rattle.reg_cli.specs.Line.{line, task_unless_faulty, task_in}
 
--- clap's contract says exactly when a parse of the program's arguments fails
+-- the program's subcommands and options are of a kind for which clap's contract says when a parse fails
 is_free : is_simple_and_free program ≡ true
 unfolding clap_on_literals
 is_free = refl
 
--- and what a successful parse returns
+-- they are also of a kind for which clap's contract says what a successful parse returns
 is_plain : is_simple program ≡ true
 unfolding clap_on_literals
 is_plain = refl
@@ -24,7 +24,7 @@ faulty : (k : ErrorKind) (kinds : Kinds) (arguments : List Text) → IsAmong k k
 faulty k [] arguments among = absurd among
 faulty k (x ∷ xs) arguments among = refl
 
--- arguments that a parse rejects for another reason than memory give no task
+-- if a parse rejects arguments, and not because an allocation failed, they give no task
 pub refused : (a : App) → a ≡ program → (arguments : List Text) (e : Error) → (is_simple_and_free a ≡ true → HasKind (fault_of a arguments) e)
     → (kind_of e ≡ kind.OutOfMemory → ⊥) → line arguments ≡ None
 refused a is arguments e fails other =

@@ -9,7 +9,7 @@ use clap::{Command, Error};
 use std::alloc::{AllocError, Global};
 use thiserror::Error as ErrorText;
 
-/// Why the arguments give no task. The text goes to standard error.
+/// Why the arguments give no task. The program prints the text of `Usage` on standard error.
 #[derive(Debug, Drop, ErrorText)]
 pub enum LineFault {
     /// The arguments are wrong, or request help. The text has whole lines, each with its line end.
@@ -31,7 +31,8 @@ impl From<AllocError> for LineFault {
     }
 }
 
-/// The error for a fault that `clap` reports, with its text.
+/// The fault for an error of `clap`: `Usage` with its text. It is `OutOfMemory` if an allocation
+/// failed in `clap`, or if the text can't be allocated.
 pub fn fault_of(alloc: Global, error: &Error) -> LineFault
     ensures { IsUsage result → kind_of error.now ≢ ErrorKind.OutOfMemory }
 {
@@ -44,8 +45,8 @@ pub fn fault_of(alloc: Global, error: &Error) -> LineFault
     }
 }
 
-/// A usage error that `clap` doesn't report, in the form of its errors: the message and the
-/// command's usage.
+/// A usage error in the form of `clap`'s errors: this message, and the command's usage. The fault
+/// is `OutOfMemory` if an allocation fails.
 pub fn usage_error(
     alloc: Global,
     mut command: Command<'_>,

@@ -13,7 +13,8 @@ use clap::ArgMatches;
 use clap::error::ErrorKind;
 use std::alloc::{AllocError, Global};
 
-/// The error for a missing subcommand or value. `clap` itself reports these first.
+/// The error for a missing or unknown subcommand, a missing value, or an invalid number. `clap`
+/// itself reports these first.
 fn incomplete(alloc: Global) -> Result<LineFault, AllocError> {
     Ok(usage_error(
         alloc,
@@ -32,7 +33,7 @@ fn unknown_listing(alloc: Global, argument: &str) -> Result<LineFault, AllocErro
     Ok(usage_error(alloc, command, ErrorKind::InvalidValue, message.as_str()))
 }
 
-/// The task of `serve`.
+/// The task of `serve`, or a usage error if a required value is missing or a number is invalid.
 fn serve_task_in(alloc: Global, matches: &ArgMatches<'_>) -> Result<Task, LineFault>
     ensures { MatchResult result
         (λ task. serve_task_in (rows_of (found_of matches.now)) ≡ Some (task_view task))
@@ -57,7 +58,7 @@ fn serve_task_in(alloc: Global, matches: &ArgMatches<'_>) -> Result<Task, LineFa
     }))
 }
 
-/// The task of `check`.
+/// The task of `check`, or a usage error if a value is missing.
 fn check_task_in(alloc: Global, matches: &ArgMatches<'_>) -> Result<Task, LineFault>
     ensures { MatchResult result
         (λ task. check_task_in (rows_of (found_of matches.now)) ≡ Some (task_view task))
@@ -75,7 +76,7 @@ fn check_task_in(alloc: Global, matches: &ArgMatches<'_>) -> Result<Task, LineFa
     }))
 }
 
-/// The task of `text`.
+/// The task of `text`, or a usage error if its value is missing.
 fn text_task_in(alloc: Global, matches: &ArgMatches<'_>) -> Result<Task, LineFault>
     ensures { MatchResult result
         (λ task. text_task_in (rows_of (found_of matches.now)) ≡ Some (task_view task))
@@ -89,7 +90,7 @@ fn text_task_in(alloc: Global, matches: &ArgMatches<'_>) -> Result<Task, LineFau
     }))
 }
 
-/// The task of `list`.
+/// The task of `list`, or a usage error if a value is missing or names no listing.
 fn list_task_in(alloc: Global, matches: &ArgMatches<'_>) -> Result<Task, LineFault>
     ensures { MatchResult result
         (λ task. list_task_in (rows_of (found_of matches.now)) ≡ Some (task_view task))
@@ -110,7 +111,7 @@ fn list_task_in(alloc: Global, matches: &ArgMatches<'_>) -> Result<Task, LineFau
     }))
 }
 
-/// The task of `migrate`.
+/// The task of `migrate`, or a usage error if its value is missing.
 fn migrate_task_in(alloc: Global, matches: &ArgMatches<'_>) -> Result<Task, LineFault>
     ensures { MatchResult result
         (λ task. migrate_task_in (rows_of (found_of matches.now)) ≡ Some (task_view task))
@@ -124,7 +125,7 @@ fn migrate_task_in(alloc: Global, matches: &ArgMatches<'_>) -> Result<Task, Line
     }))
 }
 
-/// The task of `audit`.
+/// The task of `audit`, or a usage error if its value is missing.
 fn audit_task_in(alloc: Global, matches: &ArgMatches<'_>) -> Result<Task, LineFault>
     ensures { MatchResult result
         (λ task. audit_task_in (rows_of (found_of matches.now)) ≡ Some (task_view task))
@@ -138,7 +139,8 @@ fn audit_task_in(alloc: Global, matches: &ArgMatches<'_>) -> Result<Task, LineFa
     }))
 }
 
-/// The task of a subcommand, from the values of its arguments.
+/// The task of a subcommand, from the values of its arguments. A usage error if there is no such
+/// subcommand, or if a value is missing or invalid.
 fn task_in(alloc: Global, name: &str, matches: &ArgMatches<'_>) -> Result<Task, LineFault>
     ensures { MatchResult result
         (λ task. task_in name.now (rows_of (found_of matches.now)) ≡ Some (task_view task))

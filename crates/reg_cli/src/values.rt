@@ -9,7 +9,7 @@ use crate::task::{ListingKind, MAX_CONNECTIONS};
 use clap::ArgMatches;
 use std::alloc::{AllocError, Global};
 
-/// The value of an argument, or `None`.
+/// The first value of the argument with this id, or `None` if it has none.
 pub fn value_of<'a>(matches: &ArgMatches<'a>, id: &str) -> Option<&'a str>
     ensures { option_map (λ text. text.now) result
         ≡ first_of id.now (rows_of (found_of matches.now)) }
@@ -32,7 +32,8 @@ pub fn copy_of(alloc: Global, text: Option<&str>) -> Result<Option<String>, Allo
     }
 }
 
-/// The text as a number of 16 bits, or `None`.
+/// The number of the text: decimal digits with an optional leading plus. `None` for any other text,
+/// or if the number has more than 16 bits.
 pub fn port_in(text: &str) -> Option<u16>
     ensures { result ≡ unsigned_in 16 text.now }
 {
@@ -42,7 +43,8 @@ pub fn port_in(text: &str) -> Option<u16>
     }
 }
 
-/// The text as a number of 32 bits, or `None`.
+/// The number of the text: decimal digits with an optional leading plus. `None` for any other text,
+/// or if the number has more than 32 bits.
 fn count_in(text: &str) -> Option<u32>
     ensures { result ≡ unsigned_in 32 text.now }
 {
@@ -52,8 +54,7 @@ fn count_in(text: &str) -> Option<u32>
     }
 }
 
-/// The number of connections: the default without a text, and `None` if the text isn't a number of
-/// 32 bits.
+/// The number of connections: `MAX_CONNECTIONS` without a text, otherwise the result of `count_in`.
 pub fn connections_in(text: Option<&str>) -> Option<u32>
     ensures { result ≡ connections_in (option_map (λ text. text.now) text.entry) }
 {

@@ -1,4 +1,4 @@
--- Why CREATE TABLE and CREATE INDEX fail.
+-- Why CREATE TABLE fails.
 use Rattle.std.proofs.Common.{◌≡◌, inl, inr, ℕ, ◌+◌, ◌*◌, ◌<◌, ◌^◌, List, [], length, lit<, lit≤, codes, true, false, Some, None, Ok, Err, Option, refl, sym, ap, subst, ◌∙◌, arith}
 use Rattle.reg_tables.proofs.Kit.{IsUtf8, AllByRecursion, both_ways, MatchBool-at_false, Text, Table, Schema, is_used, is_reserved, automatics, next_tree, created, table_defined_by, CreateTable, Does, MakesSequence, lacks_sequence, Then, State, mode_of, ExecutesInside, Error, Index, table_reals, index_reals, is_formed, is_fit, RefusesTable, Invalid, NameTaken, BadName, TooBig, BadKey, BadText, Has, all_has}
 use Rattle.sqlite.specs.Order.{value_cmp}
@@ -145,7 +145,7 @@ module _ (sql : List ℕ) (before : Schema) (table : Table) (after : Schema) (m 
   unrefused (Violates rule) h = h
 
   module _ (old new : State) (declared : old.now.schema ≡ before) (e : Error) where
-    -- it fails only because of the store
+    -- it fails only with a fault
     pub make_fails : ExecutesInside 0 sql [] old new (Err e) → IsFault old new e
     make_fails h = elim (refused_by sql [] old new before declared CreateTable m.command can.whole (record { silent = refl; stays = refl }) e h) [
       | inl fault ↦ fault
@@ -190,7 +190,7 @@ module _ (sql : List ℕ) (before : Schema) (table : Table) (after : Schema) (m 
         refused (inl stopped) = made stopped.0 (let same = stopped.2 in cc) stopped.1
         refused (inr done) = let e = done.2 in cc
 
--- ---- faults
+-- ---- the tables that layout 2 adds
 
 pub modes_can_be : CanBeMade make_modes (partial_layout_two 0) (record (modes 11) { tree = 0 })
 unfolding understood everything same_name same_word begins is_free_name fits_kind value_cmp lib.Utf8.encode lib.Ieee.is_nan lib.Ieee.lt

@@ -161,7 +161,7 @@ module _ (first : ℕ) (high : 10 ≤ first) (indexes : List Index) (s : IsWellD
     abbrev cut_by : List Row → Edit
     cut_by found = edit_of old.now.trees versions (ids_of found) Given 0 []
 
-    -- deleting the rows of `evidence` doesn't fail
+    -- deleting the rows of `evidence` and `against` doesn't fail
     ends : (found : List Row) → NeverStops layout old.now.trees (cut_by found)
     ends found next why applies settles =
         never_stops layout s.apart settles.0 next (works layout Enforced 0 2 (taken_by old.now.trees (cut_by found)) []) why (leaves first high indexes (taken_by old.now.trees (cut_by found))) (applies.fits.rules Unique (λ e. absurd (cc))) settles.1

@@ -28,7 +28,7 @@ use Rattle.reg_tables.proofs.Cascades.{Loses, loses_found, IsLeaf, Takes, AllLos
 abbrev pub deletion_of : Table → List Row → Work
 deletion_of child olds = record { depth = 0; child = child; ref = to_versions; places = 1 ∷ 2 ∷ []; order = record { digits = 0 }; deed = Delete; moves = pairs olds [] }
 
--- some deleted row had this key
+-- some deleted row had a version's key, without NULL
 abbrev pub have_keys : List Row → Bool
 have_keys olds = list_any (loses (record { digits = 0 }) (1 ∷ 2 ∷ [])) (pairs olds [])
 

@@ -14,7 +14,7 @@ use Rattle.reg_tables.proofs.ListMembers.{has_mapped, maps_had}
 use Rattle.reg_tables.proofs.MapLemmas.{equal_of, tied_key}
 use Rattle.reg_tables.proofs.RowLemmas.{left_fails, fails_left, same_if_tied}
 use Rattle.reg_tables.proofs.Queries.{passes}
-use Rattle.reg_tables.proofs.KeyedTables.{version_order, by_version_test, cast-Int, given_as_is, FindsLayoutOne, own_row, finds_one}
+use Rattle.reg_tables.proofs.KeyedTables.{version_order, by_version_test, cast-Int, given_as_is, FindsOne, own_row, finds_one}
 use Rattle.reg_tables.proofs.Statements.{with_flag, mark_version, mark_version_is}
 use Rattle.reg_tables.proofs.UniqueLemmas.{on_columns, with_tree_there, with_tree_elsewhere, stays_unique}
 use Rattle.reg_tables.proofs.WriteFaults.{refused_by, update_refused}
@@ -69,7 +69,7 @@ module _ (first : ℕ) (indexes : List Index) (high : 10 ≤ first) (s : IsWellD
 
   -- the rows found are the version's row, or none
   abbrev IsFound : List Row → Type 0
-  IsFound found = FindsLayoutOne named rest (db 2) found
+  IsFound found = FindsOne named rest (db 2) found
 
   found_as : (found : List Row) → Answers (record { schema = layout; trees = db }) marking params found → IsFound found
   found_as found it = finds_one version_form version_cmp version_order db 2 contents.versions (h.shows TableName.Versions) key by_version params (λ row q is. by_version_test row key q is) with_flag found (it.answer Null)

@@ -1,4 +1,4 @@
--- Why the statements that write texts and versions fail.
+-- Why the INSERT of a text fails, and lemmas for the keys and the flags of versions.
 use Rattle.std.proofs.Common.{arith, ◌≡◌, ◌≤◌, ◌/◌, not, length, ◌<◌, ◌^◌, inl, inr, ℕ, pos, List, [], ◌∷◌, lit≤, true, false, Bool, ◌&&◌, None, Some, Err, Option, refl, sym, ap, subst, ◌∙◌}
 use Rattle.reg_tables.proofs.Kit.{get, int_cmp-IsAntisymmetric, is_eq, int_cmp, both_ways, lt-ltb, int_cmp_total, Value, Null, Int, Text, Row, rowid, Edit, edit_of, Chosen, stamped, value_rows, Binary, Compare, Or, Eq, State, ExecutesInside, Error, Has, some_has, all_from, put_all_keeps, Schema, Index, agree, is_true, is_false, from_truth, value_cmp-Text, value_cmp-Int}
 use Rattle.sqlite.specs.Order.{column, value_cmp}

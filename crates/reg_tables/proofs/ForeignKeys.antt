@@ -6,15 +6,15 @@ use Rattle.sqlite_value.specs.Keys.{joined}
 use Rattle.reg_tables.specs.Layout.{five_tables_then, added_tables}
 use Rattle.reg_tables.specs.Inside.KeyedLaws.{KeepsOthers}
 
--- the id in this column is the id of a text
+-- the value in this column is NULL or the id of a text
 abbrev pub has_text_at : ℕ → List Row → Row → Bool
 has_text_at place parents row = has_null (place ∷ []) row || list_any (λ parent. agree plain (0 ∷ []) parent (place ∷ []) row) parents
 
--- the first two columns are the key of a version
+-- one of the first two columns is NULL, or they are the key of a version
 abbrev pub has_version : List Row → Row → Bool
 has_version parents row = has_null (1 ∷ 2 ∷ []) row || list_any (λ parent. agree plain (1 ∷ 2 ∷ []) parent (1 ∷ 2 ∷ []) row) parents
 
--- a reference stays valid when parents are added
+-- a reference to a version stays valid if each old parent has a replacement among the new ones
 pub more_versions : (old new : List Row) (row : Row) → ((s : Row) → Has old s → agree plain (1 ∷ 2 ∷ []) s (1 ∷ 2 ∷ []) row ≡ true → (t : Row) × Has new t × (agree plain (1 ∷ 2 ∷ []) t (1 ∷ 2 ∷ []) row ≡ true))
     → has_version old row ≡ true → has_version new row ≡ true
 more_versions old new row kept had = elim (or_cases _ _ had) [
@@ -25,7 +25,7 @@ more_versions old new row kept had = elim (or_cases _ _ had) [
       or_right _ _ (some_from (λ parent. agree plain (1 ∷ 2 ∷ []) parent (1 ∷ 2 ∷ []) row) new t.0 t.1 t.2)
 ]
 
--- likewise when texts are added
+-- a reference to a text stays valid if no text is removed
 pub more_texts : (old new : List Row) → ((r : Row) → Has old r → Has new r) → (place : ℕ) (row : Row) → has_text_at place old row ≡ true → has_text_at place new row ≡ true
 more_texts old new kept place row had = elim (or_cases _ _ had) [
   | inl null ↦ or_left _ _ null

@@ -33,7 +33,7 @@ index_defined = refl
 its_index : (i : Index) → index_defined_by versions make_versions_of_id ≡ Ok i → i ≡ in_tree 0
 its_index i is = let both : ◌≡◌ {A = _} (Ok i) (Ok (in_tree 0)) = sym is ∙ index_defined in cc
 
--- how CREATE INDEX changes a schema that begins with the five tables, and SQLite's conditions on the index's name, columns and SQL text
+-- how CREATE INDEX changes a schema that begins with the five tables, and those of SQLite's conditions that depend on the schema
 record MakesIndex (tables : List Table) (indexes : List Index) (tree : ℕ) : Type 0 where
   command : IsCommand (five_tables_then tables indexes) make_versions_of_id (CreateIndex 1)
   text : statement_of make_versions_of_id (understood (five_tables_then tables indexes) make_versions_of_id) ≡ make_versions_of_id
@@ -50,7 +50,7 @@ two_makes : MakesIndex (added_tables 10) layout_two_unindexed.indexes 16
 unfolding understood everything same_name same_word begins_with
 two_makes = record { command = record { is = refl; plain = (refl, refl) }; text = refl; is = refl; whole = (lit≤ tt, refl); room = lit< tt; unused = refl }
 
--- SQLite's conditions, with any tables
+-- SQLite's conditions that don't depend on the schema
 record CanBeIndexed : Type 0 where
   text : IsUtf8 make_versions_of_id
   named : IsUtf8 versions_of_id.name
@@ -180,7 +180,7 @@ module _ (tables : List Table) (indexes : List Index) (tree : ℕ) (m : MakesInd
         refused (inl stopped) = made stopped.0 (let same = stopped.2 in cc) stopped.1
         refused (inr done) = let e = done.2 in cc
 
-  -- over the tables of a sound database, CREATE INDEX fails only because of the store
+  -- over a database with contents, CREATE INDEX fails only with a fault
   fails_if_sound : (old new : State) (contents : Contents) → HoldsContents before old.now contents → (e : Error) → ExecutesInside 0 make_versions_of_id [] old new (Err e) → IsFault old new e
   fails_if_sound old new contents holds e =
       let obeys = (subst (λ s. IsDatabase (record { schema = s; trees = old.now.trees })) holds.declared holds.sound).obeys in

@@ -131,7 +131,7 @@ module _ (old new : State) (schema : Schema) (contents : Contents) (h : HoldsCon
   pub readable_one : AreReadable contents → All IsReadableListedVersion found
   readable_one readable = all_if_each IsReadableListedVersion found (λ row there. let it = is_of row there in subst IsReadableListedVersion (sym it.3) (can_be_held it.0 (readable.versions it.0.0 it.0.1 it.1)))
 
--- ---- some versions of the id, and all if there are few
+-- ---- some versions of the id, and all if they are fewer than the limit
 
 module _ (old new : State) (schema : Schema) (contents : Contents) (h : HoldsContents schema old.now contents) (first : HasFiveTables schema) (found : List Row) (id : ℕ) (shown : Shown find_some_of_id.sql (Int (pos id) ∷ []) old new found) where
   some_answer : IsAnswer (body_of find_some_of_id) (overlay old.now.trees []) (Int (pos id) ∷ []) found

@@ -149,7 +149,7 @@ pub record IsRowOf {K V : Type 0} (form : Form K V) (row : Row) (key : K) (value
   pub has_value : form.value_of row ≡ form.value_cells value
 
 -- the query finds the rows that pass, at most one
-pub record FindsLayoutOne (p : Row → Bool) (rest : Row → Row) (rows found : List Row) : Type 0 where
+pub record FindsOne (p : Row → Bool) (rest : Row → Row) (rows found : List Row) : Type 0 where
   pub finds : FindsRowids p rest rows found
   pub few : length found ≤ 1
 
@@ -163,7 +163,7 @@ module _ {K V : Type 0} (form : Form K V) (R : K → K → Ordering) (order : Is
       let same : entry.0 ≡ k = same_key R order entry.0 k (sym (test row entry.0 entry.3.0) ∙ is) in
       (entry.1, ap (get m) (sym same) ∙ entry.2, (entry.3.0 ∙ ap form.key_cells same, entry.3.1))
 
-  pub finds_one : (shown : List Term) (found : List Row) → IsAnswer (plain_query tree tests (col 1 0 ∷ shown)) (overlay db []) params found → FindsLayoutOne (passes tests params) (λ row. eval_all shown (params ∷ row ∷ [])) (db tree) found
+  pub finds_one : (shown : List Term) (found : List Row) → IsAnswer (plain_query tree tests (col 1 0 ∷ shown)) (overlay db []) params found → FindsOne (passes tests params) (λ row. eval_all shown (params ∷ row ∷ [])) (db tree) found
   finds_one shown found answer =
       let nothing = with_nothing db tree in
       let one = one_passing tests params (db tree) shows.rowids.0 (λ a b x y first second. shows.once a b x y ((own_row a x first).2.0 ∙ sym (own_row b y second).2.0)) in

@@ -112,7 +112,7 @@ key_columns Modes = 1 ∷ []
 key_columns Evidence = 1 ∷ 2 ∷ []
 key_columns Against = 1 ∷ 2 ∷ 3 ∷ []
 
--- a row's key is in the key columns, which the tests compare, and its value is in the others
+-- keys are ordered, cells determine keys and values, and the tests and the key columns compare keys
 pub record HasKey (name : TableName) : Type 0 where
   pub order : IsKeyOrder (cmp_of name)
   pub distinct : (a b : KeyOf name) → (form_of name).key_cells a ≡ (form_of name).key_cells b → a ≡ b

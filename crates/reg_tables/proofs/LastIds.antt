@@ -22,7 +22,7 @@ module _ (old new : State) (schema : Schema) (contents : Contents) (h : HoldsCon
   abbrev out : ℕ → Output
   out id = (number_cells id, number_cells id)
 
-  -- the ids are ordered
+  -- each ordered output is the id of a text
   is_id : (o : Output) → Has answer.ordered o → (id : ℕ) × IsSome (get contents.texts id) × (o ≡ out id)
   is_id o there =
       let r = ordered_has [] [] 0 find_last.shown find_last.order find_last.limit (overlay old.now.trees []) found answer o there in
@@ -36,7 +36,7 @@ module _ (old new : State) (schema : Schema) (contents : Contents) (h : HoldsCon
       subst (Has answer.ordered) (λ i. (r.2.0 i, r.2.0 i))
       (has_ordered [] [] 0 find_last.shown find_last.order find_last.limit (overlay old.now.trees []) found answer r.0 (subst (λ l. Has l r.0) (sym (with_nothing old.now.trees 0)) r.1) refl)
 
-  -- in descending order
+  -- in descending order, no later id is greater
   no_greater : (id other : ℕ) → is_gt (cmp (out id) (out other)) ≡ false → other ≤ id
   no_greater id other below = le_from_not_gt other id (alone (nat_cmp other id) (rw (value_cmp-Int (pos other) (pos id), int_order other id) at below))
     where

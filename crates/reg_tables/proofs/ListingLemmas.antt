@@ -131,7 +131,7 @@ module _ {K V : Type 0} (form : Form K V) (R : K → K → Ordering) (order : Is
         all_from _ rows (λ row h. let e = listed row h in ap is_int (ap (λ (p : RowParts). p.0) e.2)),
       )
 
-  -- the members of a map's list
+  -- the list has no duplicate rowids or keys, and makes up the map
   pub record IsListOf (m : FinMap R V) : Type 0 where
     pub apart : HasNoDuplicates R es
     pub is : m ≡ from_entries (map without_rowid es)

@@ -50,7 +50,7 @@ module _ {K : Type 0} (R : K → K → Ordering) (order : IsKeyOrder R) where
     pub get-remove-other : (q : K) → q ≢ k → get (remove m k) q ≡ get m q
     get-remove-other q other = get-remove order.total m k q ∙ ap (λ b. cond b None (get m q)) (other_key q k other)
 
-  -- a value replaces another
+  -- removing a key and then inserting a value under it is the same as inserting the value
   pub insert-remove : {V : Type 0} (m : FinMap R V) (k : K) (v : V) → insert (remove m k) k v ≡ insert m k v
   insert-remove m k v = same_map order.total order.antisymmetric _ _ (λ q. elim (same_or_not q k) [
     | inl e ↦ ap (get (insert (remove m k) k v)) e ∙ get-insert-same (remove m k) k v ∙ sym (get-insert-same m k v) ∙ ap (get (insert m k v)) (sym e)

@@ -37,7 +37,7 @@ module _ (tests : List Term) (params : Row) where
       go true is later = absurd (none r (inl refl) is)
       go false is later = later
 
-  -- if all rows that pass are one row, it passes once
+  -- if all rows that pass are equal, at most one row passes
   pub one_passing : (rows : List Row) → IsAscending HaveDifferentRowids rows → ((a b : Row) → Has rows a → Has rows b → passes a ≡ true → passes b ≡ true → a ≡ b) → length (passing rows) ≤ 1
   one_passing [] up same = lit≤ tt
   one_passing (r ∷ rows) up same = go (passes r) refl (one_passing rows up.1 (λ a b x y. same a b (inr x) (inr y)))

@@ -47,7 +47,7 @@ module _ (old new : State) (found : List Row) where
     abbrev range : Row
     range = Int (pos low) ∷ Int (pos high) ∷ []
 
-    -- a row passes if it has the rowid
+    -- a row passes if its rowid is in the range
     in_range : (row : Row) → passes by_range range row ≡ is_between low high row
     unfolding binary value_cmp
     in_range row = by_value (rowid row)

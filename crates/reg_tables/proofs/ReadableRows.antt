@@ -9,7 +9,7 @@ use Rattle.reg_tables.specs.Contents.{version_cells, text_form, version_form, pa
 use Rattle.reg_tables.proofs.Tables.{five}
 use Rattle.reg_tables.specs.Inside.ReadableRows.{IsReadableText, IsReadableVersion, IsReadablePair, IsReadableKept}
 
--- what follows of a row's entry
+-- what follows from a row's entry
 pub by_entry : {K V : Type 0} (form : Form K V) (rows : List Row) (value_at : K → Option V) → ShowsMap form rows value_at → (row : Row) → Has rows row → (P : Type 0)
     → ((key : K) (value : V) → rowid row ≡ Int (id_in (rowid row)) → value_at key ≡ Some value → IsEntry form row key value → P) → P
 by_entry form rows value_at shows row has P each =

@@ -69,7 +69,7 @@ room_after rows count h row its =
 
 -- ---- empty tables
 
--- an empty map is shown by no row
+-- a table that shows an empty map has no rows
 no_rows : {K V : Type 0} (form : Form K V) (rows : List Row) (value_at : K → Option V) → ((key : K) → value_at key ≡ None) → ShowsMap form rows value_at → rows ≡ []
 no_rows form [] value_at none shows = refl
 no_rows form (row ∷ rows) value_at none shows = let it = shows.sound row (inl refl) in absurd (let clash = sym (none it.0) ∙ it.2 in cc)

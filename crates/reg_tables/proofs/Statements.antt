@@ -96,7 +96,7 @@ pub put_text_is : (tables : List Table) (indexes : List Index) → IsCommand (fi
 unfolding understood everything
 put_text_is tables indexes = record { is = refl; plain = (refl, refl) }
 
--- the rowid, then the row with another last column
+-- the rowid, then the row with 1 in its last column
 abbrev pub with_flag : List Term
 with_flag = col 1 0 ∷ col 1 1 ∷ col 1 2 ∷ col 1 3 ∷ lit (Int (pos 1)) ∷ []
 
@@ -166,11 +166,11 @@ asks_last = asked (λ tables indexes. (record { command = record { is = refl; pl
 abbrev pub in_order : List (Term × Key)
 in_order = (col 1 1, record { collation = Binary; descending = false }) ∷ (col 1 2, record { collation = Binary; descending = false }) ∷ []
 
--- the versions of a subject, by number
+-- a query of versions without their subjects
 abbrev pub numbers_query : List ℕ → List Term → List (Term × Key) → Term → TableQuery
 numbers_query sql tests order limit = record { sql = sql; tree = 2; tests = tests; shown = col 1 2 ∷ col 1 3 ∷ col 1 4 ∷ []; names = codes "version" ∷ codes "id" ∷ codes "deleted" ∷ []; order = order; limit = limit }
 
--- versions, by subject and number
+-- a query of versions with their subjects
 abbrev pub versions_query : List ℕ → List Term → List (Term × Key) → Term → TableQuery
 versions_query sql tests order limit = record { sql = sql; tree = 2; tests = tests; shown = col 1 1 ∷ col 1 2 ∷ col 1 3 ∷ col 1 4 ∷ []; names = codes "subject" ∷ codes "version" ∷ codes "id" ∷ codes "deleted" ∷ []; order = order; limit = limit }
 

@@ -23,7 +23,7 @@ obeys schema db declared sound = (subst (λ s. IsDatabase (record { schema = s; 
 abbrev pub IsFree : Table → List Row → Row → Index → Type 0
 IsFree table rows row i = guards i table ≡ true → (r : Row) → Has rows r → agree i.order i.columns r i.columns row ≡ true → ⊥
 
--- the row has the table's types, passes its checks and has a new key
+-- the row has an integer rowid and the table's types, passes NOT NULL and the checks, and has a new key
 pub record IsFitting (schema : Schema) (table : Table) (rows : List Row) (row : Row) : Type 0 where
   pub keyed : is_int (rowid row) ≡ true
   pub typed : (are_typed table.key 0 table.columns (drop 1 row) && has_computed table row) ≡ true
@@ -31,7 +31,7 @@ pub record IsFitting (schema : Schema) (table : Table) (rows : List Row) (row : 
   pub checked : passes_checks table row ≡ true
   pub free : AllByRecursion (IsFree table rows row) schema.indexes
 
--- a row whose key in the index is its entry's new key
+-- if the map has no value under the key, no row shares the key
 pub new_key : {K V : Type 0} (form : Form K V) (R : K → K → Ordering) (m : FinMap R V) (rows : List Row) → ShowsMap form rows (get m) → (k : K) → get m k ≡ None → (Shares : Row → Type 0)
     → ((r : Row) (q : K) → form.key_of r ≡ form.key_cells q → Shares r → q ≡ k) → (r : Row) → Has rows r → Shares r → ⊥
 new_key {V = V} form R m rows shows k free Shares same_key r was shares =
@@ -52,7 +52,7 @@ differ_itself v = rw (tied_itself value_cmp_total v) (go (is_null v || is_null v
 abbrev pub IsRowidTrouble : List Row → Row → Refusal → Type 0
 IsRowidTrouble rows row why = ((why ≡ NoRowid) × (fits_i64 (id_in (rowid row)) ≡ false)) ⊎ ((why ≡ Violates PrimaryKey) × (is_taken rows row ≡ true))
 
--- with room after the last row, the rowid is free
+-- with room after the last row, the rowid is in range and free
 pub no_trouble : (rows : List Row) (count : ℕ) → HasRoom rows (count + 1) → (row : Row) → rowid row ≡ Int (next_rowid rows) → (why : Refusal) → IsRowidTrouble rows row why → ⊥
 no_trouble rows count h row its why (inl high) =
     let mine : rowid row ≡ Int (pos h.next) = its ∙ ap Int h.is_next in
@@ -67,7 +67,7 @@ no_trouble rows count h row its why (inr taken) =
     let clash : is_eq Less ≡ true = ap is_eq (sym lower) ∙ tie in
     cc
 
--- an insert fails: the row is too large, or its rowid isn't free
+-- an insert fails: the row is too large, or its rowid is out of range or taken
 abbrev pub IsRowTrouble : Schema → Table → List Row → Row → Error → Type 0
 IsRowTrouble schema table rows row e = ((e ≡ SqliteFailure code.TooBig) × IsOversized schema table row) ⊎ ((why : Refusal) × IsRowidTrouble rows row why × (e ≡ edit_error why))
 
@@ -102,7 +102,7 @@ module _ (schema : Schema) (apart : HaveOwnTrees schema) (trees : Trees) (table 
   passing : (p : Row → Bool) → p row ≡ true → list_all p edit.news ≡ false → ⊥
   passing p is fails = both_ways _ (subst (λ l. list_all p l ≡ false) news fails) (and_from _ _ is refl)
 
-  -- a row may be inserted if its rowid is free
+  -- SQLite rejects the insert only because of the row's rowid
   pub insert_allowed : (why : Refusal) → IsRefused schema Enforced trees edit why → IsRowidTrouble (trees table.tree) row why
   insert_allowed (Violates Datatype) h = absurd (passing _ fitting.typed h)
   insert_allowed (Violates NotNull) h = absurd (passing _ fitting.present h)

@@ -1,4 +1,4 @@
--- What a lookup by key says about the contents.
+-- What the lookup of a text's id says about the contents.
 use Rattle.std.proofs.Common.{inl, ◌≡◌, ◌≢◌, ℕ, List, [], ◌∷◌, Option, None, Some, MatchOption, slice_get, refl, sym, ap, ◌∙◌}
 use Rattle.reg_tables.proofs.Kit.{get, Text, Row, State, Shown, Schema, Has}
 use Rattle.reg_tables.specs.Layout.{HasFiveTables}
@@ -9,7 +9,7 @@ use Rattle.reg_tables.proofs.MapLemmas.{same_key, tied_key}
 use Rattle.reg_tables.proofs.Tables.{five}
 use Rattle.reg_tables.proofs.Statements.{laid_out, find_id, asks_id}
 
--- the value in the first returned row
+-- what is true of every returned row is true of the first; if no row is returned, `Q` is true
 pub first_shown : (found : List Row) (P : Row → Type 0) (Q : Type 0) → ((x : Row) → Has found x → P x) → (((x : Row) → Has found x → ⊥) → Q) → (o : Option Row) → o ≡ slice_get found 0 → MatchOption o Q P
 first_shown [] P Q some none None is = none (λ x there. there)
 first_shown (r ∷ found) P Q some none None is = absurd (cc)

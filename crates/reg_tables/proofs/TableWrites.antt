@@ -1,4 +1,4 @@
--- How each statement changes the contents.
+-- How the statements that insert a text and mark a version as deleted change the contents.
 use Rattle.std.proofs.Common.{◌≡◌, ℕ, pos, List, [], ◌∷◌, None, Ok, refl}
 use Rattle.reg_tables.proofs.Kit.{nat_cmp, get, Null, Int, Text, Row, rowid, Schema, cast_row, State, Executes, Index}
 use Rattle.std.specs.FinMap.{insert}

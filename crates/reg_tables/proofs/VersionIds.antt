@@ -1,4 +1,4 @@
--- What the query of the ids of a version returns.
+-- What the query of the rows of `against` for a version returns.
 use Rattle.std.proofs.Common.{◌≡◌, ◌&&◌, ℕ, pos, List, [], ◌∷◌, map, filter, lit≤, codes, Bool, true, false, Some, refl, sym, ap, subst, ◌∙◌}
 use Rattle.reg_tables.proofs.Kit.{is_eq, IsPermutation, IsPermutation-map, map-map, Value, Null, Int, Real, Text, Blob, Binary, Row, eval_all, overlay, State, Shown, Has, Schema, is_true, from_truth, Compare, Eq}
 use Rattle.sqlite.specs.Order.{column, value_cmp}

@@ -10,7 +10,7 @@ use Rattle.reg_tables.specs.Inside.Statements.{IsOneStatement, IsCommand}
 use Rattle.reg_tables.proofs.Reasons.{reason_or_large, reason_of, reason_if_shut, reason_by, fault_since}
 use Rattle.reg_tables.proofs.Writes.{uncounts}
 
--- the command begins, ends or marks a transaction
+-- the command begins or ends a transaction, or makes, releases or rolls back to a savepoint
 abbrev pub is_control : Command → Bool
 is_control Begin = true
 is_control Commit = true
@@ -20,7 +20,7 @@ is_control (Release name) = true
 is_control (RollbackTo name) = true
 is_control _ = false
 
--- the command returns no rows, and neither begins nor ends a transaction
+-- the command returns no rows, and isn't one of these
 pub record IsWriting (command : Command) : Type 0 where
   pub silent : (is_query command || (is_pragma command || false)) ≡ false
   pub stays : is_control command ≡ false
@@ -90,7 +90,7 @@ module _ (sql : List ℕ) (params : Row) (old new : State) (schema : Schema) (ha
   ran e c is values same (inl (inl wrong, after)) = absurd (misplaced c.command (command_is c is) e wrong)
   ran e c is values same (inl (inr does, after)) = inr (inr (does_as c is values same (Some e) does.1))
 
-  -- a statement that compiles to the command fails because of the store, a row that is too large, or a refusal of the command
+  -- a statement that compiles to the command fails with a fault, because of a row that is too large, or with a refusal of the command
   pub refused_by : (e : Error) → ExecutesInside 0 sql params old new (Err e) → Outcome e
   unfolding ExecutesIn IsNotRun EndsScope
   refused_by e (inr out) = absurd (escapes out.0.0.command (command_is out.0.0 out.0.1.is) out.0.2)
@@ -173,7 +173,7 @@ module _ (schema : Schema) where
     abbrev Refused : Command → Type 0
     Refused command = Does old.step_limit (mode_of old) params (record old.now { schema = schema }) text None command (Err (Some e))
 
-    -- the foreign keys are satisfied after the write
+    -- if the foreign keys are satisfied after the write, the statement doesn't fail
     concluded : (w : Written) → Refers All schema w.trees → Concludes task (mode_of old) None w (Err (Some e)) → ⊥
     concluded w refers (inl tested) = tested.1.0 refers
     concluded w refers (inr shown) = elim shown.2 [ inl stopped ↦ (let e = stopped.1 in cc) | inr gave ↦ (let e = gave.2 in cc) ]
@@ -275,7 +275,7 @@ module _ (schema : Schema) where
             go (inl stopped) = update_stopped stopped.0 (let e = stopped.2 in cc) stopped.1
             go (inr wrote) = absurd (concluded wrote.0 (updated_trees wrote.0 wrote.1) wrote.2)
 
-    -- an INSERT of one row of values into a table without AUTOINCREMENT
+    -- an INSERT of rows of values into a table without AUTOINCREMENT
     module _ (terms : List Term) (width : ℕ) (uncounted : table.is_counted ≡ false) (typed : accepts_terms terms (stamped table params) ≡ true)
         (refers : (next : Trees) → Applies schema Enforced db (edit_of db table [] Chosen 0 (value_rows (stamped table params) width (length terms / width) terms)) next → Refers All schema next) where
       abbrev edit : Edit
@@ -340,7 +340,7 @@ module _ (schema : Schema) where
       source_large None is h = h
       source_large (Some x) is h = cc
 
-      -- the row that is too large is the inserted one
+      -- an inserted row is too large
       abbrev Large : Type 0
       Large = (row : Row) × Has edit.news row × IsOversized schema table row
 

@@ -1,4 +1,4 @@
--- Writes that don't insert or delete by key, in both schemas of layout 2.
+-- The writes outside `keyed`, in both schemas of layout 2: inserting a text, and marking or deleting a version.
 use Rattle.std.proofs.Common.{◌≡◌, ◌<◌, ◌^◌, pos, ℕ, List, [], ◌∷◌, None, Some, Ok, Err}
 use Rattle.reg_tables.proofs.Kit.{get, State, Executes, ExecutesInside, Error, Int, Text}
 use Rattle.reg_tables.specs.Contents.{version_key_cells, Contents, HoldsContents}

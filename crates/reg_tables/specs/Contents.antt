@@ -21,7 +21,7 @@ text_cmp = slice_cmp nat_cmp
 abbrev pub version_cmp : List ℕ × ℕ → List ℕ × ℕ → Ordering
 version_cmp = then_cmp (on (λ (key : List ℕ × ℕ). key.0) text_cmp) (on (λ (key : List ℕ × ℕ). key.1) nat_cmp)
 
--- the key of a row of `against`: a version, and a position among the ids that it was tested against
+-- the key of a row of `against`: a version, and a position among the ids that it was checked against
 abbrev pub PositionKey : Type 0
 PositionKey = (List ℕ × ℕ) × ℕ
 
@@ -54,7 +54,7 @@ pub record Contents : Type 0 where
   pub modes : TextMap (List ℕ)
   -- the level of each version that has evidence
   pub evidence : FinMap version_cmp (List ℕ)
-  -- the ids that a version was tested against, by position
+  -- the ids that a version was checked against, by position
   pub against : FinMap position_cmp ℕ
 
 -- ---- the rows

@@ -34,7 +34,7 @@ id_versions id contents = filter (λ entry. entry.1.id == id) (entries contents.
 abbrev pub listed_version_view : ListedVersion → ListedVersionView
 listed_version_view line = ((string_bytes line.subject, line.number), record { id = line.id; deleted = line.deleted })
 
--- the most versions of an id that one query returns
+-- the most versions that `some_versions_of_id` returns
 abbrev pub versions_limit : ℕ
 versions_limit = 33
 

@@ -52,12 +52,12 @@ fn make_other_tables<S: Alter>(tx: &mut Transaction<'_, S>) -> Result<(), Error>
     )
 }
 
-/// Makes the index of `versions`. Tables that another program made may lack it (`is_unindexed_one`,
-/// `is_unindexed_two`).
+/// Makes the index `versions_of_id`. Tables that another program made may lack it
+/// (`is_unindexed_one`, `is_unindexed_two`).
 ///
 /// # Errors
 ///
-/// A write error; others only if the index exists or the tables aren't those of a layout.
+/// A write error; others only if both of these functions return `false`.
 pub fn index_versions<S: Alter>(tx: &mut Transaction<'_, S>) -> Result<(), Error>
     ensures { Transforms IsWriteFault S.Store tx.old tx.new result
         (λ (about : Schema × Schema × Contents) db. GetsIndex about.0 about.1 × HoldsContents about.0 db about.2)
@@ -98,12 +98,12 @@ pub(crate) fn create_as<S: Alter>(tx: &mut Transaction<'_, S>, number: &str) -> 
     put_meta(tx, "global", "BACKWARD")
 }
 
-/// Makes a new registry in layout 1, with the global level BACKWARD, in a database without tables
-/// (`has_no_tables`). (Schema Registry API reference, Config.)
+/// Makes a new registry in layout 1, with the global level BACKWARD, in a database without tables,
+/// indexes and views (`has_no_tables`). (Schema Registry API reference, Config.)
 ///
 /// # Errors
 ///
-/// A write error; others only if the database has tables.
+/// A write error; others only if `has_no_tables` returns `false`.
 pub fn create_layout_one<S: Alter>(tx: &mut Transaction<'_, S>) -> Result<(), Error>
     ensures { Transforms IsWriteFault S.Store tx.old tx.new result IsEmpty
         (λ _ db. HoldsLayoutOne db new_contents_one) }
@@ -111,8 +111,8 @@ pub fn create_layout_one<S: Alter>(tx: &mut Transaction<'_, S>) -> Result<(), Er
     create_as(tx, "1")
 }
 
-/// Adds the empty tables of layout 2 to layout 1 with its index. The tables of layout 1 keep their
-/// rows.
+/// Adds `modes`, `evidence` and `against`, all empty, to layout 1 with its index. The tables of
+/// layout 1 keep their rows.
 ///
 /// # Errors
 ///
@@ -138,11 +138,12 @@ pub fn add_tables<S: Alter>(tx: &mut Transaction<'_, S>) -> Result<(), Error>
 }
 
 /// Makes a new registry in layout 2, with the global level BACKWARD and the global mode READWRITE,
-/// in a database without tables (`has_no_tables`). (Schema Registry API reference, Config, Mode.)
+/// in a database without tables, indexes and views (`has_no_tables`). (Schema Registry API
+/// reference, Config, Mode.)
 ///
 /// # Errors
 ///
-/// A write error; others only if the database has tables.
+/// A write error; others only if `has_no_tables` returns `false`.
 pub fn create_layout_two<S: Alter>(tx: &mut Transaction<'_, S>) -> Result<(), Error>
     ensures { Transforms IsWriteFault S.Store tx.old tx.new result IsEmpty
         (λ _ db. HoldsContents layout_two db new_contents_two) }

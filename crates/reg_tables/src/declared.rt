@@ -1,4 +1,4 @@
-//! Whether the tables of a database are those of a layout.
+//! Whether the schema of a database is that of a layout, or is empty.
 
 ghost use Rattle.std.specs.Prelude.{◌≡◌, ◌↔◌, IsTrue};
 ghost use Rattle.sqlite.specs.Held.{state};
@@ -43,7 +43,8 @@ pub fn has_layout_two<S: Alter>(conn: &Connection<S>) -> bool
     is_layout_two(conn.schema())
 }
 
-/// Whether the schema is layout 2 without its index, which `index_versions` makes.
+/// Whether the schema is layout 2 without its index, which `index_versions` makes. `false` if a
+/// dropped index left a gap among the trees.
 pub fn is_unindexed_two<S: Alter>(conn: &Connection<S>) -> bool
     ensures { IsTrue result ↔ ((state S.Store conn.now).now.schema ≡ layout_two_unindexed) }
 {

@@ -1,5 +1,6 @@
-//! The evidence of versions, which layout 2 adds: the level under which each version was tested
-//! when it was registered, and the ids of the texts that it was tested against.
+//! The evidence of versions, which layout 2 adds: the level under which a version was checked when
+//! it was registered, and the ids of the texts that it was checked against. A version that was
+//! registered in layout 1 has none.
 
 ghost use Rattle.std.specs.Prelude.{◌≡◌, None, IsSome, OnOk, IfErr, option_map, string_bytes, ◌⊎◌, pos, IfOk};
 ghost use Rattle.std.specs.FinMap.{get};
@@ -140,7 +141,7 @@ impl FromRow for RawAgainst {
     }
 }
 
-/// Adds the level under which a version was tested. The caller must know that the version exists
+/// Adds the level under which a version was checked. The caller must know that the version exists
 /// and has no evidence.
 ///
 /// # Errors
@@ -164,7 +165,7 @@ pub fn put_evidence<S: Alter>(
     put::<S, Evidence>(tx, params![subject, number, level])
 }
 
-/// Adds the id of a text that a version was tested against. The caller must know that the version
+/// Adds the id of a text that a version was checked against. The caller must know that the version
 /// and the text exist and that the position is free.
 ///
 /// # Errors
@@ -205,7 +206,7 @@ pub fn evidence_of<S: Alter>(
     find::<S, Evidence>(db, params![subject, number])
 }
 
-/// The id at a position among those that a version was tested against, or `None`.
+/// The id at a position among those that a version was checked against, or `None`.
 ///
 /// # Errors
 ///
@@ -262,7 +263,7 @@ pub fn against_of<S: Alter>(
     )
 }
 
-/// The number of rows of `against`.
+/// The number of rows of `against`, at most `i64::MAX`.
 ///
 /// # Errors
 ///

@@ -27,7 +27,7 @@ pub(crate) trait KeyedTable {
 
     ghost value_of: { Self.Found → ValueOf name };
 
-    /// The SELECT of a value, by the columns of its key.
+    /// The SELECT of a value. Its parameters are the columns of the key.
     fn find_sql() -> &'static str
         ensures finds { (schema : Schema) → HasTable name schema → FindsRow schema name result.now }
         ensures read { (found : Self.Found) (value : ValueOf name)
@@ -38,18 +38,18 @@ pub(crate) trait KeyedTable {
 
 /// A table into which rows are inserted.
 pub(crate) trait FilledTable: KeyedTable {
-    /// The schemas in which rows are inserted.
+    /// The schemas in which rows are written.
     ghost Written: { Schema → Type 0 };
 
-    /// The INSERT of a row, by the columns of its key and then of its value.
+    /// The INSERT of a row. Its parameters are the columns of the key, then those of the value.
     fn put_sql() -> &'static str
         ensures keyed { (schema : Schema) → Written schema → IsKeyed schema Self.name }
         ensures puts { (schema : Schema) → Written schema → PutsRow schema Self.name result.now };
 }
 
-/// A table whose rows are deleted too, without deleting rows of other tables.
+/// A table whose rows are also deleted. That deletes no row of another table.
 pub(crate) trait ChangedTable: FilledTable {
-    /// The DELETE of a row, by the columns of its key.
+    /// The DELETE of a row. Its parameters are the columns of the key.
     fn drop_sql() -> &'static str
         ensures keyed { (schema : Schema) → Self.Written schema → IsKeyed schema Self.name }
         ensures drops { (schema : Schema) → Self.Written schema → DropsRow schema Self.name result.now };

@@ -1,9 +1,10 @@
-//! The tables of the registry over `sqlite`: one function for each statement that makes, changes or
-//! reads them. The contracts speak of their contents as finite maps.
+//! The tables of the registry over `sqlite`: functions that make, change and read them. The
+//! contracts describe their contents as finite maps.
 //!
 //! A function that writes takes a transaction and never commits it. On `Ok` the contents have
 //! changed as its clause says. On an error the caller must roll the transaction back.
-//! A function that reads takes an `AutocommitConnection` and changes nothing.
+//! A function that reads takes an `AutocommitConnection` and changes nothing. A function that
+//! checks the schema takes a `Connection` and can't fail.
 //! Clauses about contents and errors are true while the disk has returned what was written to it
 //! (`HasCleanDisk`).
 //!
@@ -18,11 +19,17 @@
 //! - an *insert error* is a write error, `TooBig` for a row that is too large, or `NoRowid` or
 //!   `ConstraintViolation(PrimaryKey)` if the row's rowid is out of range or taken.
 //!
-//! A function may return any other error if the database lacks the tables that it needs. A function
-//! that reads may also return any other error if the tables *can't be read*: the schema doesn't
-//! begin with the five tables of layout 1 (for a table that layout 2 adds: it isn't that of the
-//! eight tables), or in some table a cell has another type, is out of range or isn't UTF-8, or two
-//! rows have the same key.
+//! A function that writes may return any other error if the schema isn't the one that its comment
+//! names, or if the rows show no contents (`HoldsContents`): for example, a number is negative.
+//!
+//! The tables *can't be read* in these cases:
+//!
+//! - the schema doesn't begin with the five tables of layout 1, or has a view;
+//! - for a table that layout 2 adds: the tables aren't those of layout 2, or there is a view;
+//! - in some table a cell has another type, is out of range or isn't UTF-8;
+//! - in some table two rows have the same key.
+//!
+//! In the first two cases, any function that reads may return any other error, except `raw_meta`.
 
 #![tactic(auto)]
 

@@ -1,4 +1,5 @@
-//! The table `meta`: the format, the layout's number, the global level and the global mode.
+//! The table `meta`: the format, the layout's number, the global level and, in layout 2, the global
+//! mode.
 
 ghost use Rattle.std.specs.Prelude.{◌≡◌, ◌+◌, ℕ, [], ◌∷◌, None, Some, IfErr, MatchOption, codes, string_bytes, ◌⊎◌, IfOk};
 ghost use Rattle.std.specs.FinMap.{get};
@@ -77,7 +78,7 @@ impl FromRow for RawMeta {
     }
 }
 
-/// Inserts a value under a free name.
+/// Inserts a value under a free name, in layout 1.
 pub(crate) fn put_meta<S: Alter>(
     tx: &mut Transaction<'_, S>,
     name: &str,

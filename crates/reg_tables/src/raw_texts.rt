@@ -1,4 +1,4 @@
-//! The ids of all texts, and ranges of texts, for testing a database before it is opened.
+//! The ids of all texts, and the texts in a range of ids, to validate a database before it is used.
 
 ghost use Rattle.std.specs.Prelude.{pos};
 ghost use Rattle.sqlite.specs.declared.types.Value.{Value};
@@ -58,7 +58,7 @@ impl FromRow for RawText {
 ///
 /// # Errors
 ///
-/// A read error; others only if an id is no `u32`.
+/// A read error; others only if an id isn't a `u32`.
 pub fn text_ids<S: Alter>(
     alloc: Global,
     db: &mut AutocommitConnection<S>,

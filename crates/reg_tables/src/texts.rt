@@ -91,7 +91,7 @@ pub fn id_of<S: Alter>(db: &mut AutocommitConnection<S>, text: &str) -> Result<O
     }
 }
 
-/// The greatest id of a text, or `None`.
+/// The greatest id that a text has, or `None` if there is no text.
 ///
 /// # Errors
 ///

@@ -97,8 +97,7 @@ impl FromRow for RawVersion {
     }
 }
 
-/// The flag in this column, counted from 0: 0 is `false` and 1 is `true`. Any other value is an
-/// error.
+/// The flag in the column at this index: 0 is `false` and 1 is `true`. Any other value is an error.
 pub(crate) fn flag_in(row: &Row, at: usize) -> Result<bool, Error>
     ensures ok { IfOk result (λ flag. column row.now at ≡ flag_cell flag) }
     ensures err { IfErr result (λ e. at < length row.now
@@ -140,7 +139,7 @@ pub fn put_version<S: Alter>(
     put::<S, Versions>(tx, params![subject, number, id, deleted])
 }
 
-/// Deletes the version of a subject with this number and its evidence, if it exists.
+/// Deletes the version of a subject with this number, if it exists, and the version's evidence.
 ///
 /// # Errors
 ///

@@ -1,4 +1,4 @@
-//! Versions with a given id: some of all subjects, and the last of one subject.
+//! Versions with a given id: a few versions of any subjects, and the last version of one subject.
 
 ghost use Rattle.std.specs.Prelude.{◌≡◌, ◌==◌, ◌&&◌, ◌||◌, None, not, map, filter, option_map};
 ghost use Rattle.std.specs.List.{last_or};

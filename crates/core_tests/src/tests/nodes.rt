@@ -1,4 +1,5 @@
-//! Numbers, and nodes that no text denotes. The expected texts were derived from the project's profile by hand.
+//! Numbers, and nodes that no text denotes. The expected texts were derived manually from the profile
+//! (`docs/avro-registry-profile.md`), which doesn't say how a float is written.
 
 use avro_nodes::{Members, Node, PrimitiveKind, identity_of, plain_of};
 use serde_json::Value;
@@ -77,7 +78,7 @@ fn members(alloc: Global, json: &str) -> Result<Members, Fail> {
     }
 }
 
-/// Another attribute with the name of a known one is left out, and a float is written as `serde_json` writes it.
+/// An extra member named `type` is left out. A float is written as `serde_json` writes it.
 #[test]
 fn nodes_that_no_text_denotes(rt: HostRuntime) -> Result<(), Fail> {
     let alloc = rt.alloc();

@@ -1,5 +1,5 @@
-//! Decisions when ids or version numbers run out, and the schemas that decisions cache. The expected values were
-//! derived from the registry's profile by hand.
+//! Decisions when ids or version numbers run out, and the schemas that decisions cache. The expected statuses and
+//! bodies were derived manually from the profile (`docs/avro-registry-profile.md`).
 
 use avro_schema::Schema;
 use reg_core::{
@@ -12,11 +12,11 @@ use std::process::Abort;
 use std::test::Fail;
 
 /// Registrations of `"int"` in a subject with one version. The first columns are the version's number, whether it is
-/// deleted, the id of `"int"` if any, and the number of schemas. Then come the status, the body, and the number of the
-/// added version, or 0.
+/// soft-deleted, the id of `"int"` if any, and the number of schemas. Then come the status, the body, and the number
+/// of the added version, or 0 if none is added.
 #[rattlefmt::skip]
 const LAST_NUMBERS: [(u32, bool, Option<u32>, u32, u16, &str, u32); 5] = [
-    // the next number comes after the deleted ones
+    // the next number comes after those of soft-deleted versions
     (2_147_483_646, true, Some(1), 1, 200, ID_1, 2_147_483_647),
     (2_147_483_647, true, Some(1), 1, 422, NO_NUMBER, 0),
     // no id is left for a new schema
@@ -39,7 +39,8 @@ fn subject(alloc: Global) -> Result<Subject, Fail> {
     Ok(Subject::new(String::from_str(alloc, "s")?).ok_or("a subject")?)
 }
 
-/// The view of a registry in which the subject s has this one version, of the schema with the id 1.
+/// A view for the subject s. Its only version has this number, and the schema with the id 1, `"string"`. `"int"` has
+/// no id.
 fn view(alloc: Global, number: u32, deleted: bool) -> Result<View, Fail> {
     let mut rows = Vec::new(alloc);
     rows.push(Row::new(subject(alloc)?, number, 1, deleted))?;
@@ -80,7 +81,8 @@ fn decided_with(alloc: Global, view: &View, cache: &mut SchemaCache) -> Result<D
     Ok(decide_with_cache(alloc, view, &command, Some(&schema), Some(cache))?)
 }
 
-/// Checks a decision's status and body, and the number of the version that is added last, or 0.
+/// Checks a decision's status and body, and the number of the version that its last change adds. The number is 0 if
+/// that change adds no version, or if there is no change.
 fn check_decision(rt: &impl Abort, decision: &Decision, status: u16, body: &str, last: u32) {
     let added = match decision.changes.last() {
         Some(Change::AddRow { row, .. }) => row.version(),

@@ -1,4 +1,4 @@
-//! The number of bytes that a part of a request waits for.
+//! How many bytes an incomplete request needs at least.
 
 use httparse::spans::EMPTY_HEADER_SPAN;
 use reg_messages::{ParseOutcome, parse_front};
@@ -8,7 +8,7 @@ use std::test::Fail;
 const SET_FULL: &str =
     "PUT /config HTTP/1.1\r\nContent-Length: 24\r\n\r\n{\"compatibility\":\"FULL\"}";
 
-/// A part of a request needs one more byte, or its whole body once it has the whole head.
+/// Part of a head needs one more byte, and a whole head needs its whole body. Without bytes there is no part.
 #[test]
 fn part_of_a_request_reports_the_bytes_it_needs(rt: HostRuntime) -> Result<(), Fail> {
     let whole = SET_FULL.len();

@@ -1,4 +1,5 @@
-//! How many pairs a resolution opens. The expected numbers were derived by hand.
+//! How many pairs of places the recursion opens, also if elimination decides. The expected numbers were derived
+//! manually.
 
 use avro_resolve::resolves;
 use avro_schema::Schema;
@@ -12,7 +13,7 @@ const INT: &str = r#"once "int""#;
 const TWO_FIELDS: &str =
     r#"once {"type":"record","name":"R","fields":[{"name":"a","type":"int"},{"name":"b","type":"int"}]}"#;
 
-/// A pair that is assumed, and then fails: the assumptions since then must be withdrawn.
+/// With `STALE_READER`, a pair is assumed and then fails. The assumptions made since must be withdrawn.
 const STALE_WRITER: &str =
     r#"once {"type":"record","name":"A","fields":[{"name":"b","type":{"type":"record","name":"B","fields":[{"name":"a","type":["null","A"]}]}},{"name":"c","type":"int"}]}"#;
 
@@ -25,8 +26,9 @@ const LADDER: &str =
 29..0 ,{"type":"record","name":"w.A#","fields":[{"name":"f","type":"w.A>"}]}
 once ]},{"name":"f","type":"w.A1"}]}"##;
 
-/// The same with two records instead of one. Either may be read, except for the last two, which have strings. Without a
-/// table of failed pairs, each would be tried on each path to it, over a billion times in all.
+/// A reader for `LADDER`, with two records at each step instead of one. Each field is a union of the next two records,
+/// and the last two records have strings. Without the set of failed pairs, each pair would be tried on each path to
+/// it, over a billion times in all.
 const LADDER_OF_TWO: &str =
     r##"once {"type":"record","name":"r.T","fields":[{"name":"rd","default":null,"type":["null",{"type":"record","name":"x.A30","fields":[{"name":"f","type":"string"}]},{"type":"record","name":"y.A30","fields":[{"name":"f","type":"string"}]}
 29..0 ,{"type":"record","name":"x.A#","fields":[{"name":"f","type":["x.A>","y.A>"]}]},{"type":"record","name":"y.A#","fields":[{"name":"f","type":["x.A>","y.A>"]}]}
@@ -53,30 +55,31 @@ const ALIASES: &str =
 0..4100 "a#",
 once "x"]}]}"##;
 
-/// The same, but none is a field of the writer.
+/// The same, but no alias is a field of the writer.
 const OTHER_ALIASES: &str =
     r##"once {"type":"record","name":"R","fields":[{"name":"y","type":"long","aliases":[
 0..4100 "a#",
 once "z"]}]}"##;
 
-/// A record with a union of 320 types of one last name, and with an int.
+/// A record with two fields: a union of 320 fixed types whose names have the same last part, and an int.
 const MANY_BRANCHES: &str = r##"once {"type":"record","name":"A","fields":[{"name":"u","type":[
 0..320 ;{"type":"fixed","name":"n#.F","size":1}
 once ]},{"name":"z","type":"int"}]}"##;
 
-/// 320 records that could read it except for a string, and then one that can. For each of the 320, the assumptions on
-/// the branches are withdrawn.
+/// A union of 320 records that could read `MANY_BRANCHES` except for a string, and of one that can. For each of the
+/// 320, the recursion withdraws its assumptions about the branches.
 const MANY_READERS: &str =
     r##"once [{"type":"record","name":"c.A","fields":[{"name":"u","type":{"type":"fixed","name":"r.F","size":1}},{"name":"z","type":"string"}]}
 1..320 ,{"type":"record","name":"c#.A","fields":[{"name":"u","type":"r.F"},{"name":"z","type":"string"}]}
 once ,{"type":"record","name":"d.A","fields":[{"name":"u","type":"r.F"},{"name":"z","type":"int"}]}]"##;
 
-/// A record with a record without fields, and with an int.
+/// A record with two fields: a record without fields, and an int.
 const NO_FIELDS: &str =
     r##"once {"type":"record","name":"A","fields":[{"name":"u","type":{"type":"record","name":"U","fields":[]}},{"name":"z","type":"int"}]}"##;
 
-/// 1,000 records that could read it except for a string, and then one that can. For each of the 1,000, a field with
-/// 4,000 aliases is looked up among no fields.
+/// A union of 1,000 records that could read `NO_FIELDS` except for a string, and of one that can. All contain the same
+/// record, whose field has 4,000 aliases. Until its limit, the recursion looks these up once for each of the 1,000, in
+/// a record without fields.
 const ALIASED_READERS: &str =
     r##"once [{"type":"record","name":"c.A","fields":[{"name":"u","type":{"type":"record","name":"r.U","fields":[{"name":"y","type":"int","default":0,"aliases":[
 0..4000 ;"a#"
@@ -84,7 +87,8 @@ once ]}]}},{"name":"z","type":"string"}]}
 1..1000 ,{"type":"record","name":"c#.A","fields":[{"name":"u","type":"r.U"},{"name":"z","type":"string"}]}
 once ,{"type":"record","name":"d.A","fields":[{"name":"u","type":"r.U"},{"name":"z","type":"int"}]}]"##;
 
-/// A hundred records with a field of the same record, which has an int, and two unions of them.
+/// A hundred records with a field of the same record, which has an int. One union has all of them, another one all but
+/// the first.
 const IN_UNIONS: &str =
     r##"once {"type":"record","name":"T","fields":[{"name":"wd","default":null,"type":["null",{"type":"record","name":"n.Z","fields":[{"name":"f","type":"int"}]}
 0..100 ,{"type":"record","name":"n#.A","fields":[{"name":"f","type":"n.Z"}]}
@@ -105,7 +109,7 @@ once ,"e.A"]},{"name":"v","type":[
 1..100 ;"n#.A"
 once ]}]}"##;
 
-/// The same with that branch in both unions, and with a union for each record.
+/// The same with that branch in both unions, and with 110 more unions, each of null and the record `n9.A`.
 const STRINGS_IN_MANY_UNIONS: &str =
     r##"once {"type":"record","name":"T","fields":[{"name":"rd","default":null,"type":["null",{"type":"record","name":"n.Z","fields":[{"name":"f","type":"string"}]},{"type":"record","name":"e.A","fields":[]}
 0..100 ,{"type":"record","name":"n#.A","fields":[{"name":"f","type":"n.Z"}]}
@@ -128,14 +132,17 @@ const VISITS: [(&str, &str, bool, u128); 11] = [
     (CYCLE_OF_40, CYCLE_OF_41, true, 1000),
     (ONE_FIELD, ALIASES, true, 2),
     (ONE_FIELD, OTHER_ALIASES, false, 1),
-    // The roots, and for each of 321 records the pair with it, with its two fields and with the 320 branches. At most
-    // four pairs are open at once, and under a thousand are reached.
+    // One pair of the roots, and 323 for each of 321 records: its own pair, the pairs of its two fields, and the 320
+    // pairs of the branches. At most four pairs are open at once, and under a thousand are reached.
     (MANY_BRANCHES, MANY_READERS, true, 103_684),
-    // Each record counts for 4,032: 13 for its own pair, whose two fields are looked up by two names, 4,010 for the
-    // pair of its first field's type, and nine for its second's. With the nine of the roots, 992 records and two pairs
-    // of the next exceed four million, and elimination decides.
+    // Each record counts for 4,032. Its own pair counts for 13: nine, and one for each of the four fields of both
+    // records. The pair of its first field's type counts for 4,010, and that of its second field's for nine. The pair
+    // of the roots counts for nine. So 992 records and two pairs of the next exceed four million, and elimination
+    // decides.
     (NO_FIELDS, ALIASED_READERS, true, 2979),
-    // elimination reports runs of a hundred pairs, to fewer and to more unions than that
+    // The recursion decides. It opens the pairs of the roots, of the first unions, of `n.Z` and of its field, and 102
+    // pairs for each of the hundred records. Then come the pair of the second unions, and one for each of their
+    // records: only for the first, which fails, or for all 99.
     (IN_UNIONS, STRINGS_IN_UNIONS, false, 10_206),
     (IN_UNIONS, STRINGS_IN_MANY_UNIONS, true, 10_304),
 ];
@@ -145,9 +152,9 @@ fn schema(alloc: Global, parts: &'static str) -> Result<Schema, Fail> {
     Ok(Schema::read(alloc, text.as_str())?)
 }
 
-/// No contract excludes a count of the reached pairs. This test does.
+/// By the contracts, `visits` could be the number of reached pairs. This test shows that it counts opened pairs.
 #[test]
-fn visits_counts_reached_pairs(rt: HostRuntime) -> Result<(), Fail> {
+fn visits_counts_opened_pairs(rt: HostRuntime) -> Result<(), Fail> {
     let alloc = rt.alloc();
     for (writer, reader, yes, visits) in VISITS {
         let verdict = resolves(alloc, &schema(alloc, writer)?, &schema(alloc, reader)?)?;

@@ -4,7 +4,7 @@ use reg_rows::{Tables, spells};
 use std::alloc::Global;
 use std::test::Fail;
 
-/// A row of a table. Rows of `evidence` and `against` belong to the subject s.
+/// A row of a table. Rows of `evidence` and `against` belong to the subject s. Those of `against` name the id 1.
 #[derive(Clone, Copy)]
 enum Row {
     Text(u32, &'static str),
@@ -20,7 +20,7 @@ const MODE: Row = Row::Meta("mode", "READWRITE");
 
 const FULL: Row = Row::Evidence(1, "FULL");
 
-/// The layout, the rows other than those that name the layout, and whether they spell a registry.
+/// The layout, the rows other than `format` and `layout` of `meta`, and whether all of them spell a registry.
 const CASES: [(&str, &[Row], bool); 25] = [
     ("1", &[], false),
     ("1", &[GLOBAL], true),
@@ -108,7 +108,7 @@ fn add(alloc: Global, tables: &mut Tables, row: Row) -> Result<(), Fail> {
     Ok(())
 }
 
-/// The tables of this layout, with these rows and those that name the layout.
+/// The tables of this layout, with these rows and the rows `format` and `layout` of `meta`.
 fn tables(alloc: Global, layout: &'static str, rows: &[Row]) -> Result<Tables, Fail> {
     let mut tables = Tables {
         texts: Vec::new(alloc),

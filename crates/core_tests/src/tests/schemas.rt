@@ -1,5 +1,6 @@
-//! The error of each invalid text, and the nodes of a schema. The expected errors were derived from the project's profile
-//! by hand.
+//! The errors of invalid texts, the nodes of a schema, and another text of the same schema. The expected errors were
+//! derived manually: the profile (`docs/avro-registry-profile.md`) says which texts are invalid, and `SchemaError`
+//! names the errors.
 
 use avro_nodes::Node;
 use avro_schema::{Schema, identity_denotes};
@@ -116,7 +117,7 @@ BadDefault|{"type":"record","name":"R","fields":[{"name":"x","type":{"type":"rec
 BadDefault|{"type":"record","name":"R","fields":[{"name":"x","type":{"type":"record","name":"S","fields":[]},"default":[]}]}
 BadDefault|{"type":"record","name":"R","fields":[{"name":"x","type":{"type":"array","items":["int","null"]},"default":[null]}]}"#;
 
-/// The name of the error.
+/// The name of the error of an invalid text. A valid text fails the test.
 fn error_name(alloc: Global, text: &str) -> Result<String, Fail> {
     match Schema::read(alloc, text) {
         Ok(_) => Err("the text denotes a schema".into()),

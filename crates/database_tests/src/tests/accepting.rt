@@ -8,7 +8,7 @@ use std::io::sink;
 use std::net::TcpListener;
 use std::time::Clock;
 
-/// Serves this number of connections.
+/// Serves this number of connections without a clock.
 pub(super) fn accept<S: Alter>(
     alloc: Global,
     listener: &TcpListener,

@@ -54,7 +54,7 @@ type Client = (&'static str, usize, bool, &'static str);
 /// at least the first number of milliseconds, and less than the second.
 type Row = (ClockKind, &'static [Client], &'static [u32], u128, u128);
 
-/// The second is cut inside a message, which gets no response.
+/// The second message is cut and gets no response. The fourth is a retry of the third.
 const IN_TURN: [Client; 5] = [
     (GET, 0, true, IS_BACKWARD),
     (CUT, 0, true, ""),
@@ -63,16 +63,16 @@ const IN_TURN: [Client; 5] = [
     (GET, 0, true, IS_FULL),
 ];
 
-/// The first is idle, and yields its turn.
+/// The first client is idle after its response, and the server closes its connection.
 const IDLE: [Client; 2] = [(GET, 0, false, IS_BACKWARD), (SET_FULL, 0, true, FULL_SET)];
 
 /// The response comes before the rest of the message, and is read in full.
 const ANSWERED_EARLY: [Client; 1] = [(LARGE, 300_000, false, TOO_LARGE)];
 
-/// The message has its full time to arrive.
+/// The rest of the message never comes. The server waits for it, and then sends no response.
 const LATE: [Client; 1] = [(CUT, 0, false, "")];
 
-/// Only the served clients are accepted: the second waits, and the first has had its turn.
+/// The first call accepts only the first client, although its turn is over and the second waits.
 const ONE_EACH: [Client; 2] = [(GET, 0, true, IS_BACKWARD), (GET, 0, true, IS_BACKWARD)];
 
 /// A write and two reads that arrive together.
@@ -98,10 +98,10 @@ const ROWS: [Row; 10] = [
     (ClockKind::LeapingClock, &MANY, &[2], 0, 250),
 ];
 
-/// How often a row that took too long is retried: the machine may be busy.
+/// How often a row is tried until its time is within the bounds: the machine may be busy.
 const TRIES: u32 = 3;
 
-/// Serves this number of connections with each call.
+/// Serves connections by one call for each of the counts.
 #[derive(Drop)]
 struct Serve<'a> {
     rt: &'a HostRuntime,
@@ -154,7 +154,8 @@ fn expect(alloc: Global, stream: &mut TcpStream, text: &str) -> Result<(), Fail>
     Err(Fail::new(format_args!("another answer than {text}")))
 }
 
-/// Serves the clients of a row, checks their responses, and returns the milliseconds that took.
+/// Serves the clients of a row, and checks their responses. Returns the milliseconds that serving
+/// took.
 fn time_of(rt: &HostRuntime, row: &Row) -> Result<u128, Fail> {
     let (by, clients, counts, _, _) = *row;
     let listener = TcpListener::bind(rt, (Ipv4Addr::LOCALHOST, 0))?;
@@ -177,7 +178,7 @@ fn time_of(rt: &HostRuntime, row: &Row) -> Result<u128, Fail> {
     Ok(took)
 }
 
-/// Serves the clients of a row within its time.
+/// Checks that the clients of a row are served within its time, in one of `TRIES` tries.
 fn are_served(rt: &HostRuntime, row: &Row) -> Result<(), Fail> {
     let (_, _, _, least, most) = *row;
     let mut took = 0u128;

@@ -5,7 +5,7 @@ use sqlite::{Alter, Connection};
 use std::alloc::Global;
 use std::io::{Read, Write};
 
-/// What a job writes to standard error, its status, and the connection that is returned.
+/// What a job writes to standard error, its status, and the connection, if one is returned.
 pub(super) type JobOutput<S> = (Vec<u8>, u8, Option<Connection<S>>);
 
 /// Runs a job.

@@ -1,4 +1,4 @@
-//! The call at which a disk fails, and what is left of the files.
+//! How a disk fails, and what is left of the files.
 
 use super::support::copy;
 use sqlite::Files;
@@ -6,8 +6,8 @@ use sqlite_disk::{Crash, Fuse, Memory};
 use std::alloc::Global;
 use std::test::Fail;
 
-/// The file that fails, and what is left of the files. After a process death that is what was
-/// written, after a machine stop only what was synced.
+/// Which file fails: the log if `is_log`, else the database. If `is_crash`, the machine stops then,
+/// which leaves only what was synced. Else the process dies, which leaves all that was written.
 #[derive(Clone, Copy)]
 pub struct Fault {
     pub is_log: bool,
@@ -15,7 +15,7 @@ pub struct Fault {
 }
 
 impl Fault {
-    /// A copy of the disk that fails after this number of calls.
+    /// A copy of the files. The file that fails does so after this number of its calls.
     pub fn disk(
         self,
         alloc: Global,

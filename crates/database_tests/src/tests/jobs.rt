@@ -1,5 +1,6 @@
-//! Jobs over one database, one after another. The output of each fails after a number of bytes, or
-//! when it is flushed. Checks the output, the line on standard error, and the status.
+//! Subcommands over one database, one after another. The output of each fails after a number of
+//! bytes, when it is flushed, or not at all. Checks the output, the line on standard error, and the
+//! status.
 
 use super::doing::run_job;
 use super::support::{
@@ -32,7 +33,7 @@ const REGISTER: &str =
 const REGISTERED: &str =
     "HTTP/1.1 200 OK\r\nContent-Type: application/vnd.schemaregistry.v1+json\r\nContent-Length: 8\r\n\r\n{\"id\":1}";
 
-/// Jobs over a new registry. Jobs that read nothing leave their input unread.
+/// Jobs over a new registry. Only the output of `Run` depends on its input.
 const ROWS: [Row; 7] = [
     Row(JobKind::Run, SET_FULL, FULL_SET),
     Row(JobKind::Run, GET, IS_FULL),
@@ -97,8 +98,8 @@ impl Task {
         }
     }
 
-    /// The output is the beginning that fits. If part of it is lost, the line and the status report
-    /// that.
+    /// Whether the output is the beginning that fits, and the line and the status report whether
+    /// part of it is lost.
     fn is_expected(&self, written: &[u8], error_output: &[u8], status: u8) -> bool {
         let whole = self.row.2.as_bytes();
         let (line, due) = if self.is_lost() {
@@ -150,10 +151,11 @@ impl DatabaseTask for Task {
     }
 }
 
-/// No contract rules out a store that returns `Disk` from each write over a sound disk, or a
-/// listing that always fails to allocate. This test does.
+/// Each job prints its output, or the beginning that fits, and reports a lost part. This excludes
+/// what no contract does: a store that returns `Disk` from each write over a sound disk, and a
+/// listing that always fails to allocate.
 #[test]
-fn store_gives_up(rt: HostRuntime) -> Result<(), Fail> {
+fn lost_output_is_reported(rt: HostRuntime) -> Result<(), Fail> {
     let alloc = rt.alloc();
     let mut make = Task {
         row: Row(JobKind::Make, "", ""),

@@ -1,6 +1,6 @@
 //! The migration of a registry from layout 1 over a disk that stops at each of its calls in turn.
-//! Afterwards the registry has one layout or the other, with the same rows, and a second migration
-//! succeeds.
+//! Afterwards the registry has one layout or the other, with the same rows. After a second
+//! migration it has layout 2.
 
 use super::faults::Fault;
 use super::support::{DatabaseTask, contents, copy, joined, layout1_registry, on_disk, open_error};
@@ -12,15 +12,15 @@ use std::alloc::Global;
 use std::process::Abort;
 use std::test::Fail;
 
-/// The rows of a registry of layout 1: a text in two subjects, a soft-deleted version, levels, a kept
-/// reply and a kept error reply.
+/// Statements that fill a registry of layout 1: a text in two subjects, a soft-deleted version,
+/// levels, a kept reply and a kept error reply.
 const FILLED: &str =
     "UPDATE meta SET value = 'FULL' WHERE name = 'global'; INSERT INTO texts VALUES (1, '\"int\"'), (2, '\"string\"'); INSERT INTO versions VALUES ('s', 1, 1, 1), ('s', 2, 2, 0), ('t', 1, 1, 0); INSERT INTO levels VALUES ('s', 'NONE'), ('u', 'FORWARD'); INSERT INTO kept VALUES ('k1', '[\"set-global\",\"FULL\"]', 200, '{\"compatibility\":\"FULL\"}'), ('k2', '[\"delete-subject\",\"z\",false]', 404, '{\"error_code\":40401,\"message\":\"Subject not found\"}')";
 
 /// The report of its migration.
 const COUNTED: Report = Report { versions: 3 };
 
-/// The rows of its database as `contents` prints them, in parts: those before `meta`, those of
+/// The rows of its database as `contents` returns them, in parts: those before `meta`, those of
 /// `meta` in each layout, and the later ones. The first row is without its beginning `kept|`.
 const BEFORE: &str =
     "k1 200 [\"set-global\",\"FULL\"]|{\"compatibility\":\"FULL\"}|\nkept|k2 404 [\"delete-subject\",\"z\",false]|{\"error_code\":40401,\"message\":\"Subject not found\"}|\nlevel|s|NONE|\nlevel|u|FORWARD|\n";
@@ -111,7 +111,8 @@ fn migrate_again(alloc: Global, files: Files<Fuse<Memory>>) -> Result<Again, Fai
     Ok(task)
 }
 
-/// The rows in the contents of a database. The first row is without its beginning `kept|`.
+/// The rows in the contents of a database. The first row is without its beginning `kept|`. Empty if
+/// there is no kept reply.
 fn rows(text: &str) -> &str {
     match text.split_once("\nkept|") {
         Some((_, rows)) => rows,
@@ -137,7 +138,7 @@ struct OldRegistry {
     whole: Again,
 }
 
-/// The registry.
+/// Makes the registry, and checks that a migration keeps its rows.
 fn old_registry(rt: &impl Abort, alloc: Global) -> Result<OldRegistry, Fail> {
     let files = layout1_registry(alloc, FILLED)?;
     let whole = migrate_again(alloc, copy(alloc, &files, u64::MAX, u64::MAX)?)?;

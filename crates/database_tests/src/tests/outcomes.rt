@@ -1,4 +1,4 @@
-//! The line on standard error and the status, by the outcome of a server or a job.
+//! The line on standard error and the status, by the outcome of `run`, `list`, `audit` or `serve`.
 
 use super::support::Failing;
 use reg_http::Ended;
@@ -6,8 +6,8 @@ use reg_jobs::{AuditOutcome, Errors, ListOutcome, Outcome, report};
 use reg_store::StoreError;
 use std::test::Fail;
 
-/// The outcome of a server or a job over the file F, its line, and its status. A success has no
-/// line. Its status is 0, or 1 for a negative verdict.
+/// An outcome over the file F, its line, and its status. A success has no line. Its status is 0, or
+/// 1 for a negative verdict.
 #[rattlefmt::skip]
 const OUTCOMES: [(Outcome, &str, u8); 26] = [
     (Outcome::Session(Ended::ReadFailed), "avroreg: read failed\n", 2),
@@ -38,9 +38,9 @@ const OUTCOMES: [(Outcome, &str, u8); 26] = [
     (Outcome::Audit(AuditOutcome::Verdict(false)), "", 1),
 ];
 
-/// A line is written in full, or up to the write that fails.
+/// A line is written in full, or up to the write that fails. The status is the same.
 #[test]
-fn each_outcome_has_its_line(rt: HostRuntime) -> Result<(), Fail> {
+fn outcomes_have_their_lines(rt: HostRuntime) -> Result<(), Fail> {
     for (outcome, line, status) in OUTCOMES {
         for writes in 0..=line.len() {
             let mut errors = Errors::to(Failing {

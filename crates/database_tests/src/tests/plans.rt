@@ -1,4 +1,4 @@
-//! Lookups of versions take few steps, however many versions the subject and the id have.
+//! Lookups of versions take few steps, although the subject or the id has a hundred versions.
 
 use reg_tables::{
     AutocommitConnection, create_layout_two, last_live_version_of, last_version_of,
@@ -9,10 +9,10 @@ use std::alloc::Global;
 use std::test::Fail;
 
 /// The subject s has this many versions, each with its own id. The same number of other subjects
-/// have one version each, with the id of the first version of s.
+/// have a version with the id of the first version of s.
 const VERSIONS: u32 = 100;
 
-/// Five other subjects have a version with this id; s has none.
+/// Five of the other subjects have a second version, with this id; s has none.
 const OTHER: u32 = 101;
 
 /// Adds the texts of all ids.
@@ -32,7 +32,7 @@ fn add_versions<S: Alter>(tx: &mut Transaction<'_, S>) -> Result<(), Fail> {
     Ok(())
 }
 
-/// Adds the other subjects.
+/// Adds the versions of the other subjects.
 fn add_subjects<S: Alter>(alloc: Global, tx: &mut Transaction<'_, S>) -> Result<(), Fail> {
     for place in 0..VERSIONS {
         let subject = format!(in alloc; "t{place}")?;
@@ -66,7 +66,7 @@ fn look_up_numbers<S: Alter>(db: &mut AutocommitConnection<S>) -> Result<(), Fai
     Ok(())
 }
 
-/// Looks up the last version by its id, and an id that few versions have.
+/// Looks up the last version of s by its id, and the versions of two ids that few versions have.
 fn look_up_ids<S: Alter>(alloc: Global, db: &mut AutocommitConnection<S>) -> Result<(), Fail> {
     last_version_with_id(db, "s", VERSIONS, false)?;
     some_versions_of_id(alloc, db, VERSIONS)?;
@@ -74,8 +74,8 @@ fn look_up_ids<S: Alter>(alloc: Global, db: &mut AutocommitConnection<S>) -> Res
     Ok(())
 }
 
-/// Looks up an id that many versions have. The same number of steps isn't enough to list the
-/// versions of s.
+/// Looks up versions of an id that many versions have. The same number of steps must not be enough
+/// to list the versions of s.
 fn look_up_many<S: Alter>(alloc: Global, db: &mut AutocommitConnection<S>) -> Result<(), Fail> {
     some_versions_of_id(alloc, db, 1)?;
     match versions_of(alloc, db, "s") {

@@ -59,7 +59,7 @@ impl<'a> Taken<'a> {
 }
 
 /// A clock that advances by a number of milliseconds each time it is read. Each time, the client
-/// may read once.
+/// reads once if `reads` is set.
 #[derive(Drop)]
 struct Reading<'a, 'b> {
     taken: &'a Taken<'b>,
@@ -94,7 +94,7 @@ const ROWS: [Row; 2] = [
     (true, 100, 2, 0, 500),
 ];
 
-/// How often a row that took too long is retried: the machine may be busy.
+/// How often a row is tried until its time is within the bounds: the machine may be busy.
 const TRIES: u32 = 3;
 
 /// Registers a schema of 100 KB, and returns the response that has it.
@@ -127,7 +127,7 @@ struct Serve<'a> {
 }
 
 impl<'a> Serve<'a> {
-    /// A connection over which a client has sent its bytes.
+    /// A connection over which a client has sent its bytes and closed its writing half.
     fn sent(&self, listener: &TcpListener, text: &str) -> Result<TcpStream, Fail> {
         let mut stream = TcpStream::connect(self.rt, listener.local_addr()?)?;
         stream.write_all(text.as_bytes())?;
@@ -194,8 +194,9 @@ impl<'a> ServiceTask for Serve<'a> {
     }
 }
 
-/// A client that reads nothing of a response is closed after its time. A client that reads slowly
-/// yields its turn: it has whole responses, and another client has its own.
+/// The server closes the connection of a client that reads nothing of a response in its time. The
+/// connection of a client that reads slowly yields its turn: this client has whole responses, and
+/// another client has its own.
 #[test]
 fn slow_readers_hold_up_others_for_a_turn(rt: HostRuntime) -> Result<(), Fail> {
     for row in ROWS {

@@ -21,7 +21,7 @@ pub(super) fn served<R: Read, W: Write, S: Alter + Drop>(
     serve(alloc, reader, writer, service)
 }
 
-/// Bytes, and how the session over them ends.
+/// The output of a session, and how the session ends.
 pub(super) type Due<'a> = (&'a str, Ended);
 
 /// Checks the output of a session, and how it ended.
@@ -36,9 +36,10 @@ pub(super) fn is_due(written: &[u8], ended: Ended, due: Due) -> Result<(), Fail>
     )))
 }
 
-/// A message with a chunked body, which is a fault, and the response to it.
+/// A message with a chunked body, which is a fault.
 pub(super) const CHUNKED: &str = "PUT /config HTTP/1.1\r\nTransfer-Encoding: chunked\r\n\r\n";
 
+/// The response to `CHUNKED`.
 pub(super) const NOT_SUPPORTED: &str =
     "HTTP/1.1 501 Not Implemented\r\nContent-Type: application/vnd.schemaregistry.v1+json\r\nContent-Length: 60\r\nConnection: close\r\n\r\n{\"error_code\":501,\"message\":\"Transfer coding not supported\"}";
 
@@ -157,7 +158,7 @@ fn each_read_fails_in_turn(rt: HostRuntime) -> Result<(), Fail> {
 }
 
 /// With one byte a write, each write fails in turn, or takes nothing. The output is a beginning of
-/// the responses, and of the response to a fault.
+/// all responses, also if the last one is to a fault.
 #[test]
 fn each_write_fails_in_turn(rt: HostRuntime) -> Result<(), Fail> {
     let alloc = rt.alloc();

@@ -36,16 +36,17 @@ fn replies<S: Alter + Drop>(
     }
 }
 
-/// Creates a registry in an empty database, and delivers the writes until the disk fails.
+/// Creates a registry in an empty database and delivers all writes, over a disk that may fail.
 #[derive(Drop)]
 struct Stop {
     way: Way,
-    /// One for the registry, and one for each acknowledged write.
+    /// One for the registry, and one for each acknowledged delivery. 0 without a registry.
     done: usize,
 }
 
 impl Stop {
-    /// Delivers the writes. After a fault each reply is 50001, and the service has failed.
+    /// Delivers the writes. After a disk fault each reply must be 50001, and the service must have
+    /// failed. Without a fault no reply may be 50001, and the service must not have failed.
     fn deliver<S: Alter + Drop>(
         &mut self,
         alloc: Global,
@@ -90,7 +91,7 @@ struct Again {
 }
 
 impl Again {
-    /// Each write is acknowledged.
+    /// Delivers the writes. Each must be acknowledged.
     fn deliver<S: Alter + Drop>(
         &mut self,
         alloc: Global,

@@ -1,6 +1,5 @@
-//! Shared by the tests: disks in memory, and registries over them with their contents. Also
-//! deliveries and messages with their responses, and readers and writers that transfer few bytes at
-//! a time. It has no contracts.
+//! Shared by the tests: disks in memory, registries and their contents, deliveries with their
+//! replies, messages with their responses, and readers and writers that fail. It has no contracts.
 
 mod databases;
 mod deliveries;

@@ -10,8 +10,9 @@ use std::cell::Cell;
 use std::io::{self, Read, Write};
 use std::test::Fail;
 
-/// A reader of messages, a number of bytes a read. It fails if there are fewer responses than whole
-/// messages were read. All messages have the same length; the last may be shorter.
+/// A reader that returns a number of bytes of messages at a time. It fails if a whole message that
+/// it returned has no response yet. Each message has the length of `SET_FULL`; the last may be
+/// shorter.
 #[derive(Drop)]
 struct MessageReader<'a> {
     left: &'a [u8],
@@ -33,7 +34,7 @@ impl<'a> Read for MessageReader<'a> {
     }
 }
 
-/// Takes one response a write.
+/// A writer that takes all bytes, and counts each write as a response.
 #[derive(Drop)]
 struct ResponseWriter<'a> {
     taken: Vec<u8>,
@@ -105,9 +106,10 @@ fn take_turns_until<'a>(
     Ok(())
 }
 
-/// No contract rules out a `serve` that returns `Memory` before it reads. This test does.
+/// Each of three messages gets its response before the next read. This excludes what no contract
+/// does: a `serve` that returns `Memory` before it reads.
 #[test]
-fn serve_gives_up_at_once(rt: HostRuntime) -> Result<(), Fail> {
+fn messages_are_answered_in_turn(rt: HostRuntime) -> Result<(), Fail> {
     take_turns_until(rt.alloc(), SET_FULL, FULL_SET, Ended::Closed)
 }
 

@@ -2,7 +2,7 @@
 
 use sqlite_schema::schema::Kind;
 
-/// The declaration of a column of a STRICT table: its name and its type.
+/// The declaration of a column of a STRICT table: its name and type. `Required` means NOT NULL.
 pub enum ColumnForm {
     Nullable(&'static [u8], Kind),
     Required(&'static [u8], Kind),
@@ -12,7 +12,7 @@ pub enum ColumnForm {
 pub enum ReferenceForm {
     /// This column, counted from 1, is the id of a text.
     ToText(usize),
-    /// The first two columns are the key of a version, with which the row is deleted.
+    /// The first two columns are the key of a version. If the version is deleted, so is the row.
     ToVersion,
 }
 
@@ -22,7 +22,7 @@ pub struct TableForm {
     pub name: &'static [u8],
     /// The name of the automatic index, which SQLite chooses.
     pub index: &'static [u8],
-    /// The column that is an alias of the rowid, counted from 0.
+    /// The column that is an alias of the rowid, counted from 0, or `None`.
     pub key: Option<usize>,
     /// The columns of the primary key, counted from 1; 0 is the rowid.
     pub primary: &'static [usize],

@@ -1,4 +1,4 @@
-//! Lists of names and of columns.
+//! Whether names, and lists of names and of columns, are as expected.
 
 ghost use Rattle.std.specs.Prelude.{◌≡◌, ◌↔◌, [], ◌∷◌, IsTrue};
 

@@ -6,8 +6,8 @@ use sqlite::Alter;
 use std::alloc::Global;
 use std::test::Fail;
 
-/// A write, or the read that needs no row. A schema has a supported type, and a version is deleted
-/// softly.
+/// A write of one of four kinds, or the read that needs no row. A schema has a supported type, and
+/// a version is soft-deleted.
 #[derive(Clone, Copy)]
 pub enum ListedCommand {
     SetGlobal(&'static str),
@@ -18,14 +18,14 @@ pub enum ListedCommand {
     Types,
 }
 
-/// A retry key, a command, and the status and the body of the reply.
+/// A retry key or none, a command, and the status and the body of the reply.
 pub type Row = (Option<&'static str>, ListedCommand, u16, &'static str);
 
 fn text_of(alloc: Global, text: &str) -> Result<Text, OutOfMemory> {
     Ok(Text::from(String::from_str(alloc, text)?))
 }
 
-/// The subject with this text. Each text of the rows is a subject.
+/// The subject with this text. All subjects in the rows are valid.
 fn subject_of(alloc: Global, text: &str) -> Result<Subject, OutOfMemory> {
     Subject::new(String::from_str(alloc, text)?).ok_or(OutOfMemory)
 }
@@ -117,7 +117,7 @@ fn check_reply(reply: &Reply, row: &Row) -> Result<(), Fail> {
     Err(Fail::new(format_args!("{status} {body}, and not {} {}", row.2, row.3)))
 }
 
-/// The body of the reply to a delivery that failed.
+/// The body of the reply 50001.
 const FAULT: &str = "{\"error_code\":50001,\"message\":\"Error in the backend data store\"}";
 
 /// The number of replies, from the first on, that are the replies of their rows. All later ones
@@ -125,7 +125,7 @@ const FAULT: &str = "{\"error_code\":50001,\"message\":\"Error in the backend da
 ///
 /// # Errors
 ///
-/// A failed test if there is another reply.
+/// A failed test if there is another reply, or another number of replies.
 pub fn count_answered(replies: &[Reply], rows: &[Row]) -> Result<usize, Fail> {
     if replies.len() != rows.len() {
         return Err("there are more or fewer replies".into());

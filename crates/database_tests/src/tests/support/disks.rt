@@ -58,8 +58,8 @@ fn files_of<D: Disk + Drop>(connection: Connection<FileStore<D>>) -> (Files<D>, 
     }
 }
 
-/// Runs the task over the database in the files. Only this function names the store over files
-/// together with a task, since the check of each such function takes long.
+/// Runs the task over the database in the files, as `on_disk` does. Only this function runs a task
+/// over a `FileStore`, since each such function takes long to check.
 fn on_files<D: Disk + Drop, T: DatabaseTask>(
     alloc: Global,
     files: Files<D>,
@@ -72,7 +72,7 @@ fn on_files<D: Disk + Drop, T: DatabaseTask>(
 }
 
 /// Runs the task over the database in the files, if they can be opened. Returns the files, and
-/// whether they could be closed.
+/// whether they were opened and closing them copied the log into the database.
 ///
 /// # Errors
 ///

@@ -6,7 +6,7 @@ use sqlite::Alter;
 use std::alloc::Global;
 use std::test::Fail;
 
-/// Whether every read of a failed store returns `Disk`.
+/// Whether `kept`, `view` and `text_of` of a failed store return `Disk`.
 fn reads_fail<S: Alter + Drop>(store: &mut Store<S>) -> Result<bool, Fail> {
     let key = Key::parse("k").ok_or("no key")?;
     Ok(
@@ -16,7 +16,7 @@ fn reads_fail<S: Alter + Drop>(store: &mut Store<S>) -> Result<bool, Fail> {
     )
 }
 
-/// Whether its listings and its audit do.
+/// Whether `rows`, `lines` and `audit` of a failed store return `Disk`.
 fn walks_fail<S: Alter + Drop>(store: &mut Store<S>) -> bool {
     matches!(store.rows(Listing::Subjects), Err(StoreError::Disk))
         && matches!(store.lines(Listing::Subjects), Err(StoreError::Disk))

@@ -6,21 +6,21 @@ use std::alloc::{AllocError, Global};
 pub const SET_FULL: &str =
     "PUT /config HTTP/1.1\r\nHost: x\r\nRegistry-Retry-Key: k1\r\nContent-Length: 24\r\n\r\n{\"compatibility\":\"FULL\"}";
 
-/// The response to it.
+/// The response to `SET_FULL`.
 pub const FULL_SET: &str =
     "HTTP/1.1 200 OK\r\nContent-Type: application/vnd.schemaregistry.v1+json\r\nContent-Length: 24\r\n\r\n{\"compatibility\":\"FULL\"}";
 
-/// The reply that is kept for it, as `kept` prints it.
+/// The kept reply to `SET_FULL`, as `kept` returns it.
 pub const FULL_KEPT: &str = "k1|[\"set-global\",\"FULL\"]|200 {\"compatibility\":\"FULL\"}|\n";
 
 /// A message that gets the global level.
 pub const GET: &str = "GET /config HTTP/1.1\r\n\r\n";
 
-/// The response to it in a new registry.
+/// The response to `GET` in a new registry.
 pub const IS_BACKWARD: &str =
     "HTTP/1.1 200 OK\r\nContent-Type: application/vnd.schemaregistry.v1+json\r\nContent-Length: 33\r\n\r\n{\"compatibilityLevel\":\"BACKWARD\"}";
 
-/// The response to it once the level is set.
+/// The response to `GET` after `SET_FULL`.
 pub const IS_FULL: &str =
     "HTTP/1.1 200 OK\r\nContent-Type: application/vnd.schemaregistry.v1+json\r\nContent-Length: 29\r\n\r\n{\"compatibilityLevel\":\"FULL\"}";
 

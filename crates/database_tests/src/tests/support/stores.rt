@@ -1,4 +1,5 @@
-//! Services over new registries and over those of a database, and why a database can't be opened.
+//! Services over new and existing registries, registries of layout 1, and why a database can't be
+//! opened.
 
 use super::databases::kept;
 use super::disks::{DatabaseTask, empty_disk, on_disk};
@@ -33,7 +34,7 @@ pub fn created<S: Alter + Drop>(
 ///
 /// # Errors
 ///
-/// A failed test if a transaction is open, or the database is no registry.
+/// A failed test if a transaction is open, or the registry can't be opened.
 pub fn opened<S: Alter + Drop>(
     alloc: Global,
     connection: Connection<S>,
@@ -108,7 +109,7 @@ impl<'a> DatabaseTask for CreateLayout1<'a> {
 ///
 /// # Errors
 ///
-/// A failed test if no registry can be created.
+/// A failed test if no registry can be created, a statement fails, or the files can't be closed.
 pub fn layout1_registry(alloc: Global, statements: &str) -> Result<Files<Fuse<Memory>>, Fail> {
     let (files, closed) = on_disk(alloc, empty_disk(alloc), &mut CreateLayout1 { statements })?;
     if !closed {

@@ -1,8 +1,9 @@
-//! Readers and writers that transfer a few bytes at a time, and fail.
+//! Readers and writers that transfer a limited number of bytes at a time, and then fail.
 
 use std::io::{self, Read, Write};
 
-/// A reader that returns this number of bytes at a time, and fails once its reads are used up.
+/// A reader that returns at most this number of bytes at a time, and none at the end. It fails once
+/// its reads are used up.
 #[derive(Drop)]
 pub struct Pieces<'a> {
     pub left: &'a [u8],
@@ -23,7 +24,8 @@ impl<'a> Read for Pieces<'a> {
     }
 }
 
-/// A writer that takes a byte at a time, and fails or takes nothing once its writes are used up.
+/// A writer that takes a byte at a time, and fails or takes nothing once its writes are used up. An
+/// empty write fails before that.
 #[derive(Drop)]
 pub struct Failing {
     pub taken: Vec<u8>,

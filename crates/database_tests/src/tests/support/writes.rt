@@ -13,9 +13,8 @@ const REUSED: &str =
     "{\"error_code\":42290,\"message\":\"Retry key was used for another request\"}";
 
 /// Deliveries to a new registry: writes, a retry of one, its key with another command, and reads.
-/// They leave eight kept replies, two texts, no version and no evidence. The read between the
-/// writes needs no row, so it always has the same reply when the list is sent again. After a disk
-/// fault its reply must be 50001 too.
+/// They leave eight kept replies, two texts, no version and no evidence. The reads need no row, so
+/// their reply is the same when the list is sent again. After a disk fault it must be 50001 too.
 pub const WRITES: [Row; 13] = [
     (Some("z1"), ListedCommand::SetGlobal("FULL"), 200, FULL_SET),
     (
