@@ -30,7 +30,7 @@ fn positional<'a>(alloc: Global, name: &'a str, help: &'a str) -> Arg<'a>
     Arg::new(alloc, name).required(true).help(help)
 }
 
-/// `--port N`.
+/// `--port N`, which is required. N is 1 to 65,535.
 fn port<'a>(alloc: Global) -> Arg<'a>
     ensures rule { rule_of result ≡ port_rule }
     ensures local { result.global ≡ false }
@@ -40,7 +40,7 @@ fn port<'a>(alloc: Global) -> Arg<'a>
         .value_parser(value_parser!(u16).range(1..))
 }
 
-/// `--connections N`.
+/// `--connections N`, which is optional. N is 1 to `MAX_CONNECTIONS`.
 fn connections<'a>(alloc: Global) -> Arg<'a>
     ensures rule { rule_of result ≡ connections_rule }
     ensures local { result.global ≡ false }
@@ -62,7 +62,7 @@ fn database<'a>(alloc: Global) -> Arg<'a>
     option(alloc, "db", "F", "The registry's file").required(true)
 }
 
-/// `--db F`, for a file that may be missing.
+/// `--db F`, which is optional, for a file that may be missing or empty.
 fn new_database<'a>(alloc: Global) -> Arg<'a>
     ensures rule { rule_of result ≡ database_rule }
     ensures local { result.global ≡ false }
@@ -93,7 +93,7 @@ fn run_command<'a>(alloc: Global) -> Result<Command<'a>, AllocError>
         "run",
         "Answer the HTTP requests on standard input, on standard output",
         "Without --db, the registry is a new one in memory. Status 0 if the input ended
-after a complete request, or a request ended the connection. Status 2 after an
+between requests, or a valid request ended the connection. Status 2 after an
 error, with one line on standard error.",
     )
     .arg(new_database(alloc))
@@ -108,8 +108,8 @@ fn serve_command<'a>(alloc: Global) -> Result<Command<'a>, AllocError>
         "serve",
         "Serve a registry over HTTP on 127.0.0.1",
         "Serves one connection after another. F and F-wal belong together while the
-program runs and after it was killed. Status 0 after the last connection, 2 after
-an error, with one line on standard error.",
+program runs and after it was killed. Status 0 after the last connection, 2 if the
+server can't start or continue, with one line on standard error.",
     )
     .arg(new_database(alloc).required(true))?
     .arg(port(alloc))?
@@ -158,7 +158,7 @@ pub fn list_command<'a>(alloc: Global) -> Result<Command<'a>, AllocError>
         "list",
         "List the subjects, versions or schemas of a registry as CSV",
         "Prints a header, then one line for each subject, version or schema:
-  subjects  subject,level,live,deleted: its own level, and its numbers of versions
+  subjects  subject,level,live,deleted: its own level, how many versions are live and deleted
   versions  subject,version,id,deleted
   schemas   id,text
 Status 0, or 2 after an error, with one line on standard error.",
@@ -191,9 +191,9 @@ fn audit_command<'a>(alloc: Global) -> Result<Command<'a>, AllocError>
         alloc,
         "audit",
         "Check the stored versions against their evidence again",
-        "Compares each version again with those that it was compared with when it was
-registered. Prints evidence holds (status 0) if all pairs are compatible as the
-level required then, otherwise evidence does not hold (status 1). Status 2 after
+        "Compares each version that has evidence with those that it was compared with when
+it was registered. Prints evidence holds (status 0) if all pairs are compatible as
+the level required then, otherwise evidence does not hold (status 1). Status 2 after
 an error, with one line on standard error.",
     )
     .arg(database(alloc))
@@ -209,7 +209,7 @@ fn root_command<'a>(alloc: Global) -> Result<Command<'a>, AllocError>
         .about("A schema registry for Apache Avro")
         .after_help(
             "Status 2 after an error, with one line on standard error. Status 64 if the arguments
-are wrong, with a usage text like this one.
+are wrong, with a message that says why. A help text has status 64 too.
 
 Examples:
   avroreg serve --db registry.db --port 8081
@@ -218,7 +218,8 @@ Examples:
         .bin_name("avroreg")
 }
 
-/// A command with one more subcommand, unless that one failed.
+/// Adds a subcommand to a command. Returns `AllocError` if `added` is one, or if an allocation
+/// fails.
 fn with_subcommand<'a>(
     command: Command<'a>,
     added: Result<Command<'a>, AllocError>,
