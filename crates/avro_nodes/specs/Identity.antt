@@ -55,7 +55,7 @@ with_namespace (c ∷ enclosing) name others = if has_dot name then others else 
 
 -- ---- types (Avro 1.11 specification, Primitive Types, Complex Types)
 
--- a primitive type without other attributes is only its name
+-- the identity value of a primitive type: only its name, or an object if it has other attributes
 abbrev pub primitive_value : PrimitiveKind → Members → Data
 primitive_value kind no_members = string (kind_text kind)
 primitive_value kind (member k d ms) = object (with_text (codes "type") (kind_text kind) (member k d ms))
@@ -86,7 +86,7 @@ record_value enclosing named fields extra =
     object (with_aliases named.aliases (put (codes "fields") (json.array fields) (with_text (codes "name") named.name (with_namespace enclosing named.name
     (with_text (codes "type") (codes "record") extra)))))
 
--- a field, given the value of its type
+-- the identity value of a field, given that of its type
 abbrev pub field_value : FieldView → Data → Data
 field_value f type =
     object (with_aliases f.aliases (with_default f.value (with_text (codes "name") f.name (with_order f.order (put (codes "type") type f.extra)))))
@@ -114,7 +114,7 @@ unfoldable pub field_items : ValueAt → List FieldView → ℕ → Counted Item
 field_items one [] written = (no_items, written)
 field_items one (f ∷ fs) written = then_items (field_value f (one f.place written).0) (field_items one fs (one f.place written).1)
 
--- the full name of a definition
+-- the full name of a definition; empty for a type without a name, or without a node
 abbrev pub name_of : Option NodeView → List ℕ
 name_of None = []
 name_of (Some (primitive kind extra)) = []
@@ -125,7 +125,7 @@ name_of (Some (enumeration named symbols fallback extra)) = named.name
 name_of (Some (fixed named size extra)) = named.name
 name_of (Some (rec named fields extra)) = named.name
 
--- a type that is written for the first time, in the enclosing namespace
+-- a type that is written for the first time, in the enclosing namespace; `null` without a node
 abbrev pub node_value : (List ℕ → ValueAt) → List ℕ → ℕ → Option NodeView → Counted Data
 node_value types enclosing written None = (null, written)
 node_value types enclosing written (Some (primitive kind extra)) = (primitive_value kind extra, written + 1)
@@ -138,7 +138,7 @@ node_value types enclosing written (Some (rec named fields extra)) = let fs = fi
 
 -- The type at a place, to this depth. `written` counts the places that are written before. A schema's places are numbered in the order
 -- of their first occurrence, and each is written then. So a place occurs for the first time exactly if `place == written`. Its type is
--- written in full then, and by its full name later.
+-- written in full then, and by its full name later. At depth 0 it is `null`.
 unfoldable pub identity_at : ℕ → List NodeView → List ℕ → ValueAt
 identity_at zero nodes enclosing place written = (null, written)
 identity_at (suc n) nodes enclosing place written =

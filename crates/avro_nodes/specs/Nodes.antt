@@ -15,7 +15,7 @@ pub record NamedView : Type 0 where
   pub name : List ℕ
   pub aliases : List (List ℕ)
 
--- a field of a record, with the place of its type (Avro 1.11 specification, Complex Types, Records)
+-- a field of a record, with the place of its type; `value` is its default, or `None` (Avro 1.11 specification, Complex Types, Records)
 pub record FieldView : Type 0 where
   pub name : List ℕ
   pub place : ℕ
@@ -24,8 +24,9 @@ pub record FieldView : Type 0 where
   pub value : Option Data
   pub extra : Members
 
--- A schema is a list of these. A place is an index into the list; the root has place 0. The last `Members` of a node are its
--- other attributes, such as `doc`; a union has none (Avro 1.11 specification, Schema Declaration, Primitive Types, Complex Types).
+-- A schema is a list of these. A place is an index into the list; the root has place 0. Arrays, maps and unions have the places of the
+-- types inside them, an enum its symbols and its default, a fixed its size. The last `Members` of a node are its other attributes, such as
+-- `doc`; a union has none (Avro 1.11 specification, Schema Declaration, Primitive Types, Complex Types).
 pub data NodeView : Type 0 where
   primitive : PrimitiveKind → Members → NodeView
   array : ℕ → Members → NodeView

@@ -1,5 +1,6 @@
 -- The rule for the numbers in a schema text (this project's choice, stricter than RFC 8259, section 6). Each must be an integer of
--- 64 bits, and is rewritten in plain decimal digits. The rule applies to the bytes of the text, before it is parsed as JSON.
+-- 64 bits, in a form that `respelt` accepts, and is rewritten in plain decimal digits. The rule applies to the bytes of the text, before
+-- it is parsed as JSON.
 use Rattle.std.specs.Prelude.{ℕ, ◌^◌, ◌==◌, ◌&&◌, ◌||◌, not, nat_lt, nat_le, if◌then◌else◌, Bool, true, false, ℤ, pos, neg_ℤ, List, [], ◌∷◌, ◌++◌, length, drop, Option, Some, None, option_map, option_and_then, slice_index, codes}
 use Rattle.std.specs.Char.{is_ascii_digit}
 use Rattle.std.specs.Fmt.{signed_decimal}
@@ -60,7 +61,7 @@ whole_part s = before_first is_point s
 abbrev pub are_zeros : List ℕ → Bool
 are_zeros ds = not (length ds == 0) && list_all (λ c. c == 48) ds
 
--- no point, or only zeros after it
+-- no point, or after the first point one or more zeros and nothing else
 abbrev pub is_whole : List ℕ → Bool
 is_whole s = (position_or_len is_point s == length s) || are_zeros (after_first is_point s)
 
@@ -75,22 +76,25 @@ in_range negative n = if negative then nat_le n (2 ^ 63) else nat_lt n (2 ^ 64)
 abbrev pub signed : Bool → ℕ → ℤ
 signed negative n = if negative then neg_ℤ (pos n) else pos n
 
--- the plain decimal digits of the number, with its sign
+-- the number with this sign and these digits, in plain decimal digits; `None` if they aren't canonical or it is out of range
 abbrev pub respelt_digits : Bool → List ℕ → Option (List ℕ)
 respelt_digits negative ds = if is_canonical_decimal ds && in_range negative (digits_value 10 ds) then Some (signed_decimal (signed negative (digits_value 10 ds))) else None
 
--- the same for a whole part with its sign
+-- the same for a whole part, which may begin with `-`
 abbrev pub respelt_whole : List ℕ → Option (List ℕ)
 respelt_whole w = if is_minus (slice_index w 0) then respelt_digits true (drop 1 w) else respelt_digits false w
 
--- the number of a run in plain decimal digits, if it is an integer in range
+-- The number of a run in plain decimal digits: `16.0` becomes `16`, and `-0` becomes `0`. The run must be an optional `-`, then `0` or
+-- digits without a leading zero, then nothing, or a point and one or more zeros. Its number must be from -2^63 to 2^64 - 1. Otherwise the
+-- result is `None`.
 unfoldable pub respelt : List ℕ → Option (List ℕ)
 respelt s = if is_whole s then respelt_whole (whole_part s) else None
 
--- a run that doesn't begin as a number stays as it is, such as the `e` of `true`
+-- whether a run is a number: it begins with a digit or `-`
 abbrev pub begins_number : List ℕ → Bool
 begins_number s = is_ascii_digit (slice_index s 0) || is_minus (slice_index s 0)
 
+-- the text that replaces a piece; a run that is no number stays as it is, such as the `e` of `true`
 abbrev pub piece_text : Piece → Option (List ℕ)
 piece_text (other c) = Some (c ∷ [])
 piece_text (run s) = if begins_number s then respelt s else Some s
@@ -105,6 +109,6 @@ unfoldable pub joined : List Piece → Option (List ℕ)
 joined [] = Some []
 joined (p ∷ ps) = option_and_then (λ s. prepended s (joined ps)) (piece_text p)
 
--- the text with its numbers rewritten, if each is an integer in range
+-- the text with each number rewritten as in `respelt`; `None` if a number breaks that rule
 abbrev pub plain : List ℕ → Option (List ℕ)
 plain text = joined (pieces Outside text)

@@ -2,7 +2,7 @@
 use Rattle.std.specs.Prelude.{◌^◌, nat_lt, pos, negsuc, Bool, true, false, ◌&&◌}
 use Rattle.serde_json.specs.Data.{Num, unsigned, negative, float, Data, null, boolean, number, string, array, object, Items, no_items, item, Members, no_members, member}
 
--- from -2^63 to 2^64 - 1; a `negative` number is below 0
+-- an integer from -2^63 to 2^64 - 1, never a float; a `negative` number must be below 0
 abbrev pub is_whole_number : Num → Bool
 is_whole_number (unsigned n) = nat_lt n (2 ^ 64)
 is_whole_number (negative (pos n)) = false

@@ -22,6 +22,7 @@ use std::alloc::{AllocError, Global};
 
 mod types;
 
+/// The full name of the type at the place; empty for a type without a name, or without a node.
 fn name_of(nodes: &[Node], place: usize) -> &str
     ensures { result.now ≡ name_of (slice_get (nodes_view nodes.now) place) }
 {
@@ -47,8 +48,9 @@ fn node_at(nodes: &[Node], place: usize) -> Option<&Node>
 }
 
 /// Writes the type at a place. If `place` is the next place that isn't written yet, it writes the
-/// type in full, else the type's full name. `written` is the number of places written so far. It
-/// writes `null` at depth 0 and past the last place; the nodes of a schema reach neither.
+/// type in full, else the type's full name. `written` is the number of places written so far. At
+/// depth 0, and for the next place if it has no node, it writes `null`. The nodes of a schema reach
+/// neither.
 #[cycle(spell)]
 fn write_type(
     out: &mut CompactWriter,

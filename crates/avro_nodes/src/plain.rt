@@ -1,6 +1,6 @@
 //! The rule for the numbers in a schema text (this project's choice, stricter than RFC 8259,
-//! section 6). Each must be an integer of 64 bits, signed or unsigned, and is rewritten in plain
-//! decimal digits.
+//! section 6). Each must be an integer of 64 bits, signed or unsigned, in a form that `plain_of`
+//! accepts, and is rewritten in plain decimal digits.
 
 ghost use Rattle.std.specs.Prelude.{◌≡◌, ◌+◌, ◌^◌, ◌==◌, ◌<◌, ◌≤◌, ◌&&◌, ◌⊎◌, length, drop, slice_range, slice_index, nat_lt, take, IsTrue, true, false, if◌then◌else◌, Some, None, IfOk, option_map, string_bytes};
 ghost use Rattle.std.specs.Char.{is_ascii_digit};
@@ -22,7 +22,7 @@ fn is_number_char(c: u8) -> bool
 }
 
 /// The index after the escape that begins at `at`, inside a string: a backslash and the byte after
-/// it, if there is one.
+/// it, unless the text ends there.
 fn escape_end(bytes: &[u8], at: usize) -> usize
     requires { (at < length bytes.now) × (slice_index bytes.now at ≡ 92) }
     ensures bounds { (at < result) × (result ≤ length bytes.now) }
@@ -48,7 +48,8 @@ fn next_quote_or_backslash(bytes: &[u8], from: usize) -> usize
     }
 }
 
-/// The index after the string that contains the byte at `from`.
+/// The index after the string that contains the byte at `from`, or the length of the text if the
+/// string has no end.
 fn string_end(bytes: &[u8], from: usize) -> usize
     requires { from ≤ length bytes.now }
     ensures bounds { (from ≤ result) × (result ≤ length bytes.now) }
@@ -80,7 +81,7 @@ fn next_outside(bytes: &[u8], at: usize) -> usize
 }
 
 /// The index of the first number character outside the strings from `from` on, or the length of the
-/// text. The byte at `from` is outside the strings.
+/// text. `from` is the index of a byte outside the strings, or the length of the text.
 fn run_start(bytes: &[u8], from: usize) -> usize
     requires { from ≤ length bytes.now }
     ensures bounds { (from ≤ result) × (result ≤ length bytes.now) }
@@ -123,6 +124,7 @@ fn all_digits(bytes: &[u8]) -> bool
     bytes.iter().all(|c| c.is_ascii_digit())
 }
 
+/// Whether the text is one or more zeros.
 fn are_zeros(text: &str) -> bool
     ensures { result ≡ are_zeros_of text.now }
 {
@@ -142,6 +144,7 @@ fn whole_part_if_integer(run: &str) -> Option<&str>
     }
 }
 
+/// Whether the text is `0`, or digits without a leading zero.
 fn is_canonical_decimal(text: &str) -> bool
     ensures { result ≡ is_canonical_decimal_of text.now }
 {
@@ -160,6 +163,8 @@ fn magnitude(digits: &str) -> Option<u64>
     digits.parse::<u64>().ok()
 }
 
+/// The whole part of a run in plain decimal digits: `-0` becomes `0`, and any other stays. `None`
+/// if it is malformed or out of range (see `plain_of`).
 fn respell_whole(whole: &str) -> Option<&str>
     ensures { option_map (λ s. s.now) result ≡ respelt_whole whole.now }
 {

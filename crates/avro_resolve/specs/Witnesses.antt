@@ -16,7 +16,7 @@ member ps i j = list_any (λ p. p.0 == i && p.1 == j) ps
 abbrev pub without : List Pair → Pairs
 without ps i j = not (member ps i j)
 
--- the list refutes its pairs one after another: the set of all pairs without the earlier ones doesn't support the next one
+-- After the pairs of `before`, the list refutes its pairs one by one: the set of all pairs except the earlier ones doesn't support the next one.
 unfoldable pub RefutesAfter : List NodeView → List NodeView → List Pair → List Pair → Type 0
 RefutesAfter w r before [] = Unit {0}
 RefutesAfter w r before (p ∷ ps) = (Supports w r (without before) p.0 p.1 → ⊥) × RefutesAfter w r (before ++ p ∷ []) ps

@@ -82,8 +82,8 @@ fn symbols_of(ranks: &Ranks) -> &[u32]
     }
 }
 
-/// Whether two named types match: by the last parts of their names (Avro 1.11 specification, Schema
-/// Resolution), or by an alias of the reader's (Aliases).
+/// Whether both nodes are named types whose names match: by their last parts (Avro 1.11
+/// specification, Schema Resolution), or by an alias of the reader's (Aliases).
 fn names_match(schemas: &SchemaPair, i: u32, j: u32) -> bool
     requires schemas { IsValidSchemaPair schemas.now }
     requires i_in { i < length (rows schemas.now) }

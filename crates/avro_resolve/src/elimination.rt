@@ -105,15 +105,15 @@ struct Dependents {
     sources: Vec<Vec<u16>>,
 }
 
-/// Pairs of one row that were eliminated consecutively. They are propagated together, with one pass
-/// over each list of unions.
+/// Pairs of one row that are next to each other at the end of the worklist. They are propagated
+/// together, with one pass over each list of unions.
 type Run<'a> = &'a [(u16, u16)];
 
 /// From this length on, comparing two rows is faster than looking up each pair of the run.
 const LONG_RUN: usize = 64;
 
-/// Pops from the worklist all pairs at its end that are in the row of `last`. That pair was popped
-/// before, and is added to the run.
+/// Pops from the worklist all pairs at its end that are in the row of `last`. The run becomes these
+/// pairs and then `last`, which was popped before.
 fn pop_run(
     eliminated: &mut Vec<(u16, u16)>,
     last: (u16, u16),
@@ -134,8 +134,8 @@ fn pop_run(
     Ok(())
 }
 
-/// Eliminates the pair of a place, which isn't a union, with each listed union if no branch of it
-/// remains with the place.
+/// For each listed union of the reader: eliminates its pair with the writer's place `i` if none of
+/// its branches remains with `i`. The node at `i` isn't a union.
 fn examine_unions(
     schemas: &SchemaPair,
     i: u32,

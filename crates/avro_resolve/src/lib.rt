@@ -18,7 +18,9 @@ mod table;
 mod work_meter;
 
 pub use avro_nodes::OutOfMemory;
-pub use resolving::{Verdict, resolution_is_decided, resolves, resolves_itself, resolves_plain};
+pub use resolving::{
+    Verdict, resolution_is_decided, resolves, resolves_plain, resolves_with_itself,
+};
 use std::alloc::AllocError;
 
 /// A result whose only error is that allocation failed.

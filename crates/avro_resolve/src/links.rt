@@ -69,8 +69,9 @@ fn add_links(links: &mut Links, labels: &[u32], kind: LinkKind, to: u32, at: u32
     Ok(())
 }
 
-/// Adds the links of the node at a place: to items, values, or the types of fields. Labels are the
-/// reader's ranks of names. A reader's field with aliases gets a number, and a link for each alias.
+/// Adds the links of the node at a place: to items, values, or the types of fields. A field's label
+/// is the reader's rank of its name; if the reader lacks the name, the field gets no link. A
+/// reader's field with aliases also gets a number, and a link for each alias.
 fn add_node_links(
     links: &mut Links,
     rank_map: Option<&RankMap>,
@@ -118,8 +119,8 @@ fn add_node_links(
     Ok(())
 }
 
-/// For each place of a schema the unions that have it as a branch, and its links, sorted by label.
-/// `rank_map` is `None` for the reader's schema. Only that schema has links by aliases.
+/// For each place of a schema the unions that have it as a branch, and the links to it, sorted by
+/// label. `rank_map` is `None` for the reader's schema. Only that schema has links by aliases.
 pub fn links_of(
     alloc: Global,
     indexed: &IndexedSchema,

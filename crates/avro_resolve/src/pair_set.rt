@@ -25,7 +25,7 @@ impl PairSet {
         }
     }
 
-    /// Whether the pair is in the set.
+    /// If j is a place of the reader, returns whether the pair is in the set.
     pub fn has(&self, i: u32, j: u32) -> bool
         ensures { result ≡ has self.now i j }
     {

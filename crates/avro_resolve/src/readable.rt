@@ -37,7 +37,8 @@ pub struct AliasedFields<'a> {
     pub aliased: &'a [Aliased],
     /// for each of the reader's places, the number of its first such field, or 0 if it has none
     pub firsts: &'a [usize],
-    /// each of these fields, or `None` if the schema has no such field
+    /// each of these fields, or `None` if the schema has no such field; this never happens, but no
+    /// invariant says so
     pub wanted: &'a [Option<ReaderField<'a>>],
 }
 
@@ -102,8 +103,8 @@ pub fn firsts_of(alloc: Global, places: u32, fields: &[Aliased]) -> AllocResult<
     Ok(firsts)
 }
 
-/// The source entry of each of the reader's fields with aliases, for the writer's fields in the
-/// slots: the place of the source's type plus 1, or 0 without a source.
+/// One row of the table: the source entries of the reader's fields with aliases, for the writer's
+/// fields in the slots. An entry is the place of the source's type plus 1, or 0 without a source.
 pub fn source_entries(
     alloc: Global,
     slots: &[Option<usize>],

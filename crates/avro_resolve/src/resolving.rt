@@ -85,11 +85,12 @@ pub fn resolves(alloc: Global, writer: &Schema, reader: &Schema) -> Result<Verdi
     Ok(Verdict { yes, visits })
 }
 
-/// A law of the rules: every schema resolves with itself. The closed set has the pairs of each
-/// place with itself, and of each branch with its union.
-pub fn resolves_itself(schema: &Schema)
+/// A law of the rules: every schema resolves with itself. Witness: the closed set of the pairs
+/// (place, same place) and (branch, its union).
+pub fn resolves_with_itself(schema: &Schema)
     ensures { Resolves (nodes_view schema.now) (nodes_view schema.now) }
 {
+    // its contract says that some text denotes the nodes
     let _places = schema.places();
 }
 

@@ -82,8 +82,8 @@ pub fn eliminate_disagreeing(
     Ok(())
 }
 
-/// Eliminates the pair of a writer's union with each of the reader's places with which this branch
-/// was eliminated.
+/// For each of the reader's places: if its pair with this branch was eliminated, eliminates its
+/// pair with the writer's union.
 pub fn eliminate_by_branch(
     schemas: &SchemaPair,
     union: u32,

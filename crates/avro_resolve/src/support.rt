@@ -13,7 +13,8 @@ use avro_nodes::Node;
 
 /// Whether the writer's place remains with some branch of the reader's union at j. Branches before
 /// the hint were eliminated earlier and never come back, so the scan resumes at the hint. They are
-/// checked last all the same, so no contract needs to say that the hint is right.
+/// checked last all the same, so no contract needs to say that the hint is right. If the scan finds
+/// a branch, this becomes the new hint.
 pub fn any_remaining(i: u32, j: u32, places: &[u32], table: &Table) -> bool
     requires within { All (λ p. p < table.now.readers) places.now }
     requires i_in { i < table.now.writers }

@@ -52,7 +52,7 @@ impl Table {
         self.flags[i as usize * self.readers + j as usize]
     }
 
-    /// Whether some column from `from` to `to` remains in row i and not in row k.
+    /// Whether some column at or after `from`, and before `to`, remains in row i and not in row k.
     fn has_difference(&self, i: u32, k: u32, from: usize, to: usize) -> bool
         requires i_in { i < self.now.writers }
         requires k_in { k < self.now.writers }

@@ -47,8 +47,8 @@ impl WorkMeter {
         self.work = self.work.saturating_add(1);
     }
 
-    /// Counts a comparison of two nodes. An enum's symbols aren't compared if the reader's has a
-    /// default.
+    /// Counts `PAIR` for an opened pair of these nodes. If both are enums and the reader's has no
+    /// default, also counts the symbols of both.
     pub fn compare(&mut self, a: &Node, b: &Node) {
         let symbols = match (a, b) {
             (

@@ -48,7 +48,7 @@ texts_in rule (item d ds) = do
   more ← texts_in rule ds
   Some (name ∷ more)
 
--- the same for an optional array; a missing one has no names
+-- the same for an optional attribute: no names if it is missing, `None` also if it isn't an array
 abbrev pub texts_if_any : (List ℕ → Option (List ℕ)) → Option Data → Option (List (List ℕ))
 texts_if_any rule None = Some []
 texts_if_any rule (Some d) = as_array d >>= λ ds. texts_in rule ds
@@ -61,7 +61,7 @@ size_of o = o >>= as_number >>= as_u64 >>= λ n. if nat_lt n (2 ^ 31) then Some 
 abbrev pub symbol_in : List (List ℕ) → Data → Option (List ℕ)
 symbol_in symbols d = as_str d >>= λ s. if list_any (λ t. bytes_eq t s) symbols then Some s else None
 
--- the default of an enum, which may be missing
+-- the default of an enum: `None` if it isn't one of the symbols, `Some None` if it is missing
 abbrev pub fallback_in : List (List ℕ) → Option Data → Option (Option (List ℕ))
 fallback_in symbols None = Some None
 fallback_in symbols (Some d) = symbol_in symbols d >>= λ s. Some (Some s)

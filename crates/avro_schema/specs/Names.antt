@@ -57,16 +57,16 @@ resolved known space name = if has_dot name then known name else or_else (known 
 abbrev pub allowed : (List ℕ → Bool) → List ℕ → Option (List ℕ)
 allowed test text = if test text then Some text else None
 
--- the full name of a simple name in its `namespace` attribute, or in the enclosing namespace if that attribute is missing
+-- the full name of a simple name in its `namespace` attribute (`None` if malformed), or without it in the enclosing namespace
 abbrev pub name_in : Option (List ℕ) → List ℕ → List ℕ → Option (List ℕ)
 name_in (Some space) enclosing name = if is_namespace space then Some (qualified space name) else None
 name_in None enclosing name = Some (qualified enclosing name)
 
 -- The full name of a definition, from its `name` and `namespace` attributes and the enclosing namespace. A name with a dot is a full name,
--- and `namespace` is then ignored.
+-- and `namespace` is then ignored. `None` if the name is malformed, or if it has no dot and `namespace` is malformed.
 unfoldable pub full_name : List ℕ → Option (List ℕ) → List ℕ → Option (List ℕ)
 full_name name attribute enclosing = if is_name_sequence name then (if has_dot name then Some name else name_in attribute enclosing name) else None
 
--- the full name of an alias of a type in this namespace
+-- the full name of an alias of a type in this namespace, or `None` if the alias is malformed; one with a dot is a full name already
 unfoldable pub alias_in : List ℕ → List ℕ → Option (List ℕ)
 alias_in space alias = if is_name_sequence alias then (if has_dot alias then Some alias else Some (qualified space alias)) else None

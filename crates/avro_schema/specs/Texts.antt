@@ -10,9 +10,9 @@ use Rattle.avro_schema.specs.Names.{Known, none_known}
 use Rattle.avro_schema.specs.Defaults.{DefaultsFit}
 use Rattle.avro_schema.specs.Denotes.{Denotes}
 
--- The text denotes these nodes. It is JSON, and all its numbers are 64-bit integers. Its value denotes the nodes in the null namespace,
--- with no names known, from place 0 on, and the root is at place 0. Every default fits its field. Neither the text nor the identity text is
--- longer than `max_text` bytes.
+-- The text denotes these nodes. It is JSON, and all its numbers are 64-bit integers that `plain` accepts. Its value denotes the nodes in the
+-- null namespace, with no names known, from place 0 on, and the root is at place 0. Every default fits its field. Neither the text nor the
+-- identity text is longer than `max_text` bytes.
 pub record TextDenotes (text : List ℕ) (nodes : List NodeView) : Type 0 where
   pub respelt : List ℕ
   pub value : Data

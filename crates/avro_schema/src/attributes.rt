@@ -37,7 +37,8 @@ fn string_of(alloc: Global, value: Json<'_>) -> Result<String, SchemaError>
     }
 }
 
-/// Removes an attribute that must be a string, and returns its text.
+/// Removes the attribute with this reserved name, and returns its text. The attribute must be a
+/// string.
 ///
 /// # Errors
 ///
@@ -60,7 +61,8 @@ pub fn take_text(
     }
 }
 
-/// Removes an optional attribute that must be a string, and returns its text.
+/// Removes the attribute with this reserved name, and returns its text, or `None` if it is missing.
+/// Otherwise it must be a string.
 ///
 /// # Errors
 ///
@@ -105,7 +107,8 @@ pub fn items_of(value: Json<'_>) -> Result<Items<'_>, SchemaError>
     }
 }
 
-/// Removes an attribute that must be an array, and returns its items.
+/// Removes the attribute with this reserved name, and returns its items. The attribute must be an
+/// array.
 ///
 /// # Errors
 ///

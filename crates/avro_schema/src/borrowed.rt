@@ -77,7 +77,8 @@ pub fn unsigned_of(value: &Json<'_>) -> Option<u64>
     }
 }
 
-/// The index of the last reserved member with this name.
+/// The index of the reserved member with this name, or `None`. There is at most one, but no
+/// invariant says so; the last would count.
 fn last_index(object: &TreeObject<'_>, key: &str) -> Option<usize>
     requires { IsTrue (is_reserved_name key.now) }
     ensures { MatchOption result (get_member key.now (object_data object.now) ≡ None)
@@ -114,7 +115,8 @@ fn has_member(members: &[(&str, Json<'_>)], key: &str) -> bool
     members.iter().any(|member| member.0 == key)
 }
 
-/// Removes further members with this name. There are none, but no invariant says so.
+/// Removes all members with this name. After its callers removed one, there are none, but no
+/// invariant says so.
 fn remove_members<'a>(members: &mut Vec<(&'a str, Json<'a>)>, key: &str)
     ensures { members.new.items ≡ filter (λ m. not (bytes_eq m.0.now key.now)) members.old.items }
 {

@@ -211,8 +211,7 @@ fn named_fit(
     true
 }
 
-/// Whether an object with these members fits the field at the index. `true` if there is no index,
-/// or it is out of range.
+/// `field_fits` for the field at the index. `true` without an index, or if it is out of range.
 #[cycle(fit)]
 fn index_fits(
     members: &Members,
@@ -234,6 +233,8 @@ fn index_fits(
     }
 }
 
+/// Whether the member with the field's name fits the field. If it is missing, whether the field has
+/// a default.
 #[cycle(fit)]
 fn field_fits(
     members: &Members,

@@ -62,7 +62,11 @@ pub fn other_attributes(alloc: Global, attributes: Attributes<'_>) -> Result<Mem
     }
 }
 
-/// Returns the full name if it may be defined: it is new and doesn't end in the name of a primitive
+/// Returns the full name if it may be defined.
+///
+/// # Errors
+///
+/// `Redefined` if it is defined already. `BadName` if its last part is the name of a primitive
 /// type.
 fn if_free(full: String, known: &NameTable) -> Result<String, SchemaError>
     ensures { Gives string_bytes result (if_new (known_in known.now) (string_bytes full)) }
@@ -124,7 +128,7 @@ pub fn named_of(
     Ok(Named { name, aliases })
 }
 
-/// The symbols of an enum. The attribute is removed.
+/// The symbols of an enum, which must be distinct simple names. The attribute is removed.
 #[tactic(auto, unfolding(crate::specs::Inside::Declarations::symbols_in))]
 fn symbols_of(alloc: Global, attributes: &mut Attributes<'_>) -> Result<Vec<String>, SchemaError>
     ensures symbols { Gives (λ v. texts_view v.items) result
@@ -147,7 +151,7 @@ fn has_symbol(symbols: &[String], name: &str) -> bool
     symbols.iter().any(|symbol| symbol.as_str() == name)
 }
 
-/// The default of an enum, which may be missing.
+/// The default of an enum, or `None` if it is missing. It must be one of the symbols.
 fn fallback_of(attribute: Option<Value>, symbols: &[String]) -> Result<Option<String>, SchemaError>
     ensures { Gives (option_map string_bytes) result
         (fallback_in (texts_view symbols.now) (option_map view attribute)) }

@@ -34,7 +34,7 @@ fn order_if_any(attribute: Option<Json<'_>>) -> Result<Order, SchemaError>
     }
 }
 
-/// The default, if it nests within the limit. It may be missing.
+/// The default, or `None` if it is missing. `TooLarge` if it nests too deep.
 fn value_if_any(attribute: Option<Value>) -> Result<Option<Value>, SchemaError>
     ensures { Gives (option_map view) result (bounded_value (option_map view attribute)) }
 {

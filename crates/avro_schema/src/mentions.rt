@@ -73,7 +73,7 @@ fn after_nodes(budget: usize, nodes: &[Node]) -> usize
     rest
 }
 
-/// Whether the names of all types inside other types fit in the maximum length of a text.
+/// Whether all names of types inside other types together fit in the maximum length of a text.
 pub fn mentions_fit(nodes: &[Node]) -> bool
     ensures { result ≡ nat_le (mentions (nodes_view nodes.now) (nodes_view nodes.now)) max_text }
 {

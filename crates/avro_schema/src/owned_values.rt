@@ -24,7 +24,8 @@ fn has_minus(bytes: &[u8]) -> bool
     }
 }
 
-/// The number that the text denotes. The result is that of `serde_json`.
+/// The number that the text denotes. The result is that of `serde_json`: `None` if the number is
+/// too large for a float.
 #[inline(always)]
 pub fn number_of(text: &str) -> Option<Number>
     ensures { option_map number_view result ≡ number_of text.now }
@@ -37,6 +38,7 @@ pub fn number_of(text: &str) -> Option<Number>
     }
 }
 
+/// The number as a `u64` if it is written as an integer and fits, else as a float (`nearest`).
 #[inline(always)]
 fn unsigned(numeral: &Numeral<'_>) -> Option<Number>
     ensures { option_map number_view result ≡ number_from false numeral.now }
@@ -47,6 +49,8 @@ fn unsigned(numeral: &Numeral<'_>) -> Option<Number>
     }
 }
 
+/// The number after a minus: an `i64` below 0 if it is written as an integer and fits, else a float
+/// (`nearest`).
 #[inline(always)]
 fn negative(numeral: &Numeral<'_>) -> Option<Number>
     ensures { option_map number_view result ≡ number_from true numeral.now }
@@ -59,6 +63,7 @@ fn negative(numeral: &Numeral<'_>) -> Option<Number>
     nearest(true, numeral)
 }
 
+/// The nearest float, or `None` if it is infinite.
 #[inline(always)]
 fn nearest(is_negative: bool, numeral: &Numeral<'_>) -> Option<Number>
     ensures { option_map number_view result ≡ float_of is_negative numeral.now }

@@ -109,7 +109,8 @@ fn owned_type_at(
     }
 }
 
-/// Reads a type that is declared by an object.
+/// Reads a type that is declared by an object. The types inside it may nest at most `depth` levels
+/// deep.
 #[cycle(read)]
 fn object_at(
     alloc: Global,

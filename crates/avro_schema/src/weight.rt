@@ -41,8 +41,8 @@ fn items_at<'t, 'a>(members: ObjectRef<'t, 'a>, key: &str) -> Option<ItemsRef<'t
     }
 }
 
-/// The bytes of a budget that remain after the full name of this name in the namespace. Every
-/// function here returns 0 if the budget is too small.
+/// The bytes of a budget that remain after the full name of this name in the namespace. Each
+/// function `after_..` here returns 0 if the budget is too small.
 #[tactic(auto, unfolding(crate::specs::Inside::Weight::full_name_in, crate::specs::Names::qualified))]
 fn after_name(budget: usize, name: &str, space: &str) -> usize
     ensures { result ≡ budget - length (full_name_in space.now name.now) }
@@ -173,7 +173,7 @@ fn after_owned_type(budget: usize, value: &Value, space: &str, depth: u32) -> us
     }
 }
 
-/// What remains after the type, if there is one.
+/// What remains after the type. Without a type, the whole budget remains.
 #[cycle(weigh)]
 fn after_type_if_any(
     budget: usize,

@@ -79,7 +79,7 @@ fn state_of_file(rt: &HostRuntime, file: &str) -> io::Result<FileState> {
     }
 }
 
-/// Whether a database has no table and no index.
+/// Whether a database has no table, index, view or trigger.
 fn has_empty_schema(connection: &mut Connection<FileDatabase>) -> Result<bool, Error> {
     let count: i64 = connection
         .query_row("SELECT count(*) FROM sqlite_schema", &[])?
@@ -87,8 +87,8 @@ fn has_empty_schema(connection: &mut Connection<FileDatabase>) -> Result<bool, E
     Ok(count == 0)
 }
 
-/// Whether a database has no registry yet: the database is new, or the run that created it ended
-/// before it had created the tables.
+/// Whether a registry may be created in a database. It has no tables, and its log is the first log
+/// or its file was unfinished. Without either, tables may be lost, and the result is `false`.
 fn has_no_registry(
     rt: &HostRuntime,
     file: &str,
@@ -170,7 +170,8 @@ pub fn open_or_create_database(
     }
 }
 
-/// Opens an existing database for a job that creates no registry.
+/// Opens an existing database for a job that creates no registry. If there is no registry yet, the
+/// result is `Database` too.
 fn connect_existing(rt: &HostRuntime, file: &str) -> Result<Opened<FileDatabase>, OutOfMemory>
     ensures { IfOk result OpensExisting }
 {

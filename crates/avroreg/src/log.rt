@@ -80,8 +80,8 @@ pub fn has_first_log(rt: &HostRuntime, file: &str) -> io::Result<bool> {
     Ok(first_log(rt, file)?.is_some())
 }
 
-/// Whether the creation of a database in an existing file was interrupted: the file has at most its first page,
-/// and its log no frame.
+/// Whether the creation of a database in an existing file was interrupted: the file has at most its
+/// first page, and the log that was made together with it has no frame. False without such a log.
 pub fn is_unfinished(rt: &HostRuntime, file: &str) -> io::Result<bool> {
     match first_log(rt, file)? {
         Some(length) => Ok(length < FRAMELESS && fs::metadata(rt, file)?.len() <= PAGE),

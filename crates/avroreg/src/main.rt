@@ -85,7 +85,7 @@ fn database_of(task: &Task) -> Option<&str> {
 }
 
 /// Does a task with the files that it opens. Returns the program's status, and the connection to
-/// the database if one is open.
+/// the database if one was opened. A disk fault may have closed it.
 fn do_task<S: Alter + Drop, O: Opener<S>>(
     rt: &HostRuntime,
     opener: &O,

@@ -7,7 +7,7 @@ use std::io::Read;
 use std::rt::Files;
 use std::{fs, io};
 
-/// How many bytes of a file are read: one more than a schema's text may have.
+/// The most bytes of a file that are read: one more than a schema's text may have.
 const READ_AT_MOST: u64 = MAX_TEXT as u64 + 1;
 
 /// The files of the host.
@@ -25,8 +25,8 @@ impl Opener<FileDatabase> for HostFiles<'_> {
         open_existing_database(self.rt, file)
     }
 
-    /// The bytes of a file, or `None` if it can't be read. A file that is too long is cut after the
-    /// first byte past the limit.
+    /// The bytes of a file, or `None` if it can't be read. Of a longer file, only the first
+    /// `MAX_TEXT` + 1 bytes, so that it is rejected.
     fn read(&self, file: &str) -> Result<Option<Vec<u8>>, OutOfMemory> {
         match read_front(self.rt, file) {
             Ok(bytes) => Ok(Some(bytes)),
@@ -36,7 +36,7 @@ impl Opener<FileDatabase> for HostFiles<'_> {
     }
 }
 
-/// The first bytes of a file, up to the limit.
+/// The first bytes of a file, at most `READ_AT_MOST`.
 fn read_front(rt: &HostRuntime, file: &str) -> io::Result<Vec<u8>> {
     let mut bytes = Vec::new(rt.alloc());
     fs::File::open(rt, file)?

@@ -34,7 +34,7 @@ fn listen<S: Alter + Drop>(
 }
 
 /// Serves a server's connections over the database that was opened for it. Returns the program's
-/// status, and the connection to the database if one is open.
+/// status, and the connection to the database if one was opened. A disk fault may have closed it.
 pub fn serve<S: Alter + Drop>(
     rt: &HostRuntime,
     server: &Server,

@@ -15,12 +15,12 @@ listing_in argument =
     else if bytes_eq argument (codes "schemas") then Some Schemas
     else None
 
--- the number of connections: the maximum by default
+-- the number of connections: the maximum without a text; `None` if the text isn't a number of at most 32 bits
 abbrev pub connections_in : Option Text → Option ℕ
 connections_in None = Some max_connections
 connections_in (Some text) = unsigned_in 32 text
 
--- the port
+-- the value of `--port`; `None` without one, or if it isn't a number of at most 16 bits
 abbrev pub port_in : List Row → Option ℕ
 port_in rows = option_and_then (unsigned_in 16) (first_of (codes "port") rows)
 
@@ -28,7 +28,8 @@ port_in rows = option_and_then (unsigned_in 16) (first_of (codes "port") rows)
 abbrev pub run_task_in : List Row → Option TaskView
 run_task_in rows = Some (run_task (first_of (codes "db") rows))
 
--- the task of `serve --db F --port N [--connections N]`; `None` if there is no value for `--db` or `--port`, or a number is invalid
+-- The task of `serve --db F --port N [--connections N]`. `None` without a value for `--db`, or if `port_in` or `connections_in` is `None`. 0 is
+-- accepted here, but `clap` rejects it first.
 abbrev pub serve_task_in : List Row → Option TaskView
 serve_task_in rows =
     option_and_then (λ database. option_and_then (λ port. option_map (serve_task database port)
@@ -56,7 +57,7 @@ migrate_task_in rows = option_map migrate_task (first_of (codes "db") rows)
 abbrev pub audit_task_in : List Row → Option TaskView
 audit_task_in rows = option_map audit_task (first_of (codes "db") rows)
 
--- the task of a subcommand with these values
+-- the task of a subcommand with these values; `None` if there is no such subcommand, or if a value is missing or invalid
 abbrev pub task_in : Text → List Row → Option TaskView
 task_in name rows =
     if bytes_eq name (codes "run") then run_task_in rows

@@ -45,8 +45,8 @@ pub fn fault_of(alloc: Global, error: &Error) -> LineFault
     }
 }
 
-/// A usage error in the form of `clap`'s errors: this message, and the command's usage. The fault
-/// is `OutOfMemory` if an allocation fails.
+/// A usage error in the form of `clap`'s errors: this message, and the command's usage. `kind` is
+/// the error's kind in `clap`. The fault is `OutOfMemory` if an allocation fails.
 pub fn usage_error(
     alloc: Global,
     mut command: Command<'_>,

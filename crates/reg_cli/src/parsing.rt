@@ -14,7 +14,7 @@ use clap::error::ErrorKind;
 use std::alloc::{AllocError, Global};
 
 /// The error for a missing or unknown subcommand, a missing value, or an invalid number. `clap`
-/// itself reports these first.
+/// rejects such arguments, so the program never shows it.
 fn incomplete(alloc: Global) -> Result<LineFault, AllocError> {
     Ok(usage_error(
         alloc,
@@ -33,7 +33,8 @@ fn unknown_listing(alloc: Global, argument: &str) -> Result<LineFault, AllocErro
     Ok(usage_error(alloc, command, ErrorKind::InvalidValue, message.as_str()))
 }
 
-/// The task of `serve`, or a usage error if a required value is missing or a number is invalid.
+/// The task of `serve`, or a usage error if a required value is missing, or if `port_in` or
+/// `connections_in` is `None`. 0 is accepted here, but `clap` rejects it first.
 fn serve_task_in(alloc: Global, matches: &ArgMatches<'_>) -> Result<Task, LineFault>
     ensures { MatchResult result
         (λ task. serve_task_in (rows_of (found_of matches.now)) ≡ Some (task_view task))
@@ -111,7 +112,7 @@ fn list_task_in(alloc: Global, matches: &ArgMatches<'_>) -> Result<Task, LineFau
     }))
 }
 
-/// The task of `migrate`, or a usage error if its value is missing.
+/// The task of `migrate`, or a usage error if the value of `--db` is missing.
 fn migrate_task_in(alloc: Global, matches: &ArgMatches<'_>) -> Result<Task, LineFault>
     ensures { MatchResult result
         (λ task. migrate_task_in (rows_of (found_of matches.now)) ≡ Some (task_view task))
@@ -125,7 +126,7 @@ fn migrate_task_in(alloc: Global, matches: &ArgMatches<'_>) -> Result<Task, Line
     }))
 }
 
-/// The task of `audit`, or a usage error if its value is missing.
+/// The task of `audit`, or a usage error if the value of `--db` is missing.
 fn audit_task_in(alloc: Global, matches: &ArgMatches<'_>) -> Result<Task, LineFault>
     ensures { MatchResult result
         (λ task. audit_task_in (rows_of (found_of matches.now)) ≡ Some (task_view task))

@@ -6,12 +6,12 @@ use Rattle.avro_resolve.specs.Resolution.{Resolves}
 use Rattle.reg_core.specs.declared.level.Level.{Level}
 use Rattle.reg_core.specs.declared.level.Level.TheVariants.{Backward, BackwardTransitive, Forward, ForwardTransitive, Full, FullTransitive, Off}
 
--- a list of the last version, empty if there is none
+-- a list of only the last version, empty if there is none; if `live` is in order of number, this is the latest
 abbrev pub latest : {X : Type 0} → List X → List X
 latest live = option_to_list (last_or None live)
 
 -- Schema Registry API reference, Compatibility; Schema Evolution and Compatibility, Compatibility Types: the live versions that a level compares
--- a new schema with, in order of number: all for a transitive level, none for NONE, else the latest
+-- a new schema with: all for a transitive level, none for NONE, else the latest. `live` must be in order of number.
 abbrev pub named_versions : {X : Type 0} → Level → List X → List X
 named_versions Backward live = latest live
 named_versions BackwardTransitive live = live
@@ -43,6 +43,6 @@ Compatible FullTransitive earlier new = Resolves earlier new × Resolves new ear
 Compatible Off earlier new = Unit {0}
 
 -- Schema Registry API reference, Compatibility; Schema Evolution and Compatibility, Compatibility Types: the level admits the new schema after
--- these live versions
+-- these live versions: it is `Compatible` with each one that the level compares with (`named_versions`)
 abbrev pub Admits : Level → List (List NodeView) → List NodeView → Type 0
 Admits level live new = All (λ earlier. Compatible level earlier new) (named_versions level live)

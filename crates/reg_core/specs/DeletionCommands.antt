@@ -31,14 +31,15 @@ found_and test (Err code) = Err code
 found_and test (Ok row) = test row
 
 -- Schema Registry API reference, DELETE /subjects/{subject}/versions/{version}: the version to soft-delete, or the code of the refusal; `latest` is
--- the last one that isn't soft-deleted. (This project's choice: if all are, rejects `latest` with 40404.)
+-- the last live one, and a number must be that of a live one. (This project's choice: if versions exist but none is live, `latest` gets 40404.)
 abbrev pub row_to_soft_delete : Option VersionChoice → List Row → Result Row Code
 row_to_soft_delete None rows = Err InvalidVersion
 row_to_soft_delete (Some choice) [] = Err SubjectNotFound
 row_to_soft_delete (Some Latest) (row ∷ rows) = ok_or (last_or None (live_rows (row ∷ rows))) SubjectSoftDeleted
 row_to_soft_delete (Some (Numbered number)) (row ∷ rows) = found_and require_live (ok_or (chosen_row (Numbered number) (row ∷ rows)) VersionNotFound)
 
--- The same with `permanent`: the version to remove. (This project's choice: `latest` is the last version, soft-deleted or not.)
+-- The same with `permanent`: the soft-deleted version to remove, or the code of the refusal. (This project's choice: `latest` is the last version,
+-- soft-deleted or not. A live version gets 40407, also if a number names it.)
 abbrev pub row_to_remove : Option VersionChoice → List Row → Result Row Code
 row_to_remove choice rows = found_and require_deleted (found_row choice rows)
 
@@ -64,8 +65,8 @@ abbrev pub version_deleted : (Registry → Row → Registry) → Registry → Re
 version_deleted change g (Err code) = (g, fault code)
 version_deleted change g (Ok row) = (change g row, success (number_body row.0.1))
 
--- Schema Registry API reference, DELETE /subjects/{subject}/versions/{version}: removes a soft-deleted version with `permanent`, and soft-deletes a
--- version without it
+-- Schema Registry API reference, DELETE /subjects/{subject}/versions/{version}: with `permanent`, removes the chosen version, which must be
+-- soft-deleted. Without it, soft-deletes the chosen version, which must be live. Replies with its number. A refusal changes nothing.
 abbrev pub delete_version : Registry → List ℕ → Option VersionChoice → Bool → Registry × ReplyView
 delete_version g subject choice false = version_deleted with_deleted g (row_to_soft_delete choice (rows_of g subject))
 delete_version g subject choice true = version_deleted without_row g (row_to_remove choice (rows_of g subject))
@@ -90,7 +91,7 @@ abbrev pub numbers_reply : List Row → ReplyView
 numbers_reply rows = success (numbers_body (map (λ (row : Row). row.0.1) rows))
 
 -- Schema Registry API reference, DELETE /subjects/{subject}, by the subject's versions and its live ones: the reply has the numbers of the live ones.
--- (This project's choice: if none is live, 40404.)
+-- If there are no versions, rejects with 40401. (This project's choice: if there are versions, but none is live, with 40404.)
 abbrev pub soft_delete : Registry → List ℕ → List Row → List Row → Registry × ReplyView
 soft_delete g subject [] live = (g, fault SubjectNotFound)
 soft_delete g subject (row ∷ rows) [] = (g, fault SubjectSoftDeleted)
@@ -102,7 +103,7 @@ remove_subject g subject [] live = (g, fault SubjectNotFound)
 remove_subject g subject (row ∷ rows) (one ∷ live) = (g, fault SubjectNotSoftDeleted)
 remove_subject g subject (row ∷ rows) [] = (without_subject g subject, numbers_reply (row ∷ rows))
 
--- Schema Registry API reference, DELETE /subjects/{subject}
+-- Schema Registry API reference, DELETE /subjects/{subject}: soft-deletes the subject, or with `permanent` removes it
 abbrev pub delete_subject : Registry → List ℕ → Bool → Registry × ReplyView
 delete_subject g subject false = soft_delete g subject (rows_of g subject) (live_rows (rows_of g subject))
 delete_subject g subject true = remove_subject g subject (rows_of g subject) (live_rows (rows_of g subject))

@@ -16,7 +16,7 @@ modes = Readwrite ∷ Readonly ∷ []
 abbrev pub mode_of : List ℕ → Option Mode
 mode_of text = find (λ mode. bytes_eq text (mode_text mode)) modes
 
--- Schema Registry API reference, Mode: whether the mode that may forbid a command does forbid it
+-- Schema Registry API reference, Mode: whether the mode that may forbid a command is READONLY; no if no mode may (`None`)
 abbrev pub is_read_only : Option Mode → Bool
 is_read_only (Some Readonly) = true
 is_read_only (Some Readwrite) = false

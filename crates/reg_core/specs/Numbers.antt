@@ -7,11 +7,11 @@ use Rattle.reg_core.specs.declared.number.VersionChoice.{VersionChoice}
 use Rattle.reg_core.specs.declared.number.VersionChoice.TheVariants.{Latest, Numbered}
 use Rattle.reg_core.specs.Registry.{max_number}
 
--- decimal digits that don't begin with 0
+-- one or more decimal digits that don't begin with 0
 abbrev pub is_number : List ℕ → Bool
 is_number text = nat_lt 0 (length text) && not (slice_index text 0 == 48) && list_all is_ascii_digit text
 
--- the number that a text writes in decimal digits without a leading zero; `None` if it writes none, or one above the limit
+-- the positive number that a text writes in decimal digits without a leading zero; `None` if it writes none, or one above the limit
 abbrev pub parse_number : ℕ → List ℕ → Option ℕ
 parse_number limit text = if is_number text && nat_le (digits_value 10 text) limit then Some (digits_value 10 text) else None
 
@@ -19,6 +19,6 @@ parse_number limit text = if is_number text && nat_le (digits_value 10 text) lim
 abbrev pub parse_id : List ℕ → Option ℕ
 parse_id text = parse_number max_number text
 
--- Schema Registry API reference, Subjects: the version that a text chooses, `latest` or a number
+-- Schema Registry API reference, Subjects: the version that a text chooses: `latest`, or a number spelt as an id; else `None`
 abbrev pub parse_choice : List ℕ → Option VersionChoice
 parse_choice text = if bytes_eq text (codes "latest") then Some Latest else option_map Numbered (parse_number max_number text)

@@ -26,7 +26,8 @@ abbrev pub versions_reply : List Row → ReplyView
 versions_reply [] = fault SubjectNotFound
 versions_reply (row ∷ rows) = success (numbers_body (map (λ (r : Row). r.0.1) (row ∷ rows)))
 
--- Schema Registry API reference, Subjects: the chosen one of these versions, or the code of the refusal
+-- Schema Registry API reference, Subjects: the chosen one of these versions. If the choice is invalid (`None`), 42202; if there are no versions,
+-- 40401; if none has the number, 40402.
 abbrev pub found_row : Option VersionChoice → List Row → Result Row Code
 found_row None rows = Err InvalidVersion
 found_row (Some choice) [] = Err SubjectNotFound
@@ -51,7 +52,8 @@ abbrev pub version_text_reply : Texts → Result Row Code → ReplyView
 version_text_reply texts (Err code) = fault code
 version_text_reply texts (Ok row) = text_reply (λ text. text) (texts row.1.id)
 
--- Schema Registry API reference, GET /schemas/ids/{id}: the schema of an id that some version has. (This project's choice: soft-deleted versions count.)
+-- Schema Registry API reference, GET /schemas/ids/{id}: the schema of an id that some version has; otherwise 40403. (This project's choice:
+-- soft-deleted versions count.)
 abbrev pub id_reply : Texts → Option ℕ → List Row → ReplyView
 id_reply texts None rows = fault SchemaNotFound
 id_reply texts (Some id) [] = fault SchemaNotFound
@@ -69,12 +71,14 @@ abbrev pub rows_with_id : Option ℕ → List Row → List Row
 rows_with_id None rows = []
 rows_with_id (Some id) rows = rows_with id rows
 
--- Schema Registry API reference, POST /subjects/{subject}: the last of the versions that have the id
+-- Schema Registry API reference, POST /subjects/{subject}: the last of the versions that have the id. If there are no versions, 40401; if none has
+-- the id, 40403.
 abbrev pub lookup_row : Option ℕ → List Row → Result Row Code
 lookup_row id [] = Err SubjectNotFound
 lookup_row id (row ∷ rows) = ok_or (last_or None (rows_with_id id (row ∷ rows))) SchemaNotFound
 
--- Schema Registry API reference, POST /subjects/{subject}: the last of these versions that has the schema, whose id is `known`
+-- Schema Registry API reference, POST /subjects/{subject}: the last of these versions that has the schema, whose id is `known`. If the schema is
+-- invalid (`None`), 42201.
 abbrev pub lookup_reply : Texts → Option (List NodeView) → Option ℕ → List Row → ReplyView
 lookup_reply texts None known rows = fault InvalidSchema
 lookup_reply texts (Some nodes) known rows = version_reply texts (lookup_row known rows)

@@ -53,7 +53,8 @@ pub record RegisterTests : Type 0 where
   pub admitted : Bool
   pub has_numbers_left : Bool
 
--- Schema Registry API reference, POST /subjects/{subject}/versions: the registry and the reply, by the first test that decides
+-- Schema Registry API reference, POST /subjects/{subject}/versions: if a live version has the schema, replies with the schema's id. Otherwise rejects
+-- a schema that isn't admitted (409) or has no number left (42292). Otherwise adds the version and replies with the id; only this is a change.
 abbrev pub registered : Registry → List ℕ → List NodeView → RegisterTests → Registry × ReplyView
 registered g subject new tests =
     if tests.is_already_live then (g, success (id_body (id_for g.schemas new))) else
@@ -82,7 +83,8 @@ register g subject (Some new) =
 
 -- ---- Check
 
--- Schema Registry API reference, POST /compatibility/subjects/{subject}/versions: whether the level would admit the schema
+-- Schema Registry API reference, POST /compatibility/subjects/{subject}/versions: whether the level would admit the schema; if that is invalid
+-- (`None`), 42201
 abbrev pub check_all_reply : Registry → List ℕ → Option (List NodeView) → ReplyView
 check_all_reply g subject None = fault InvalidSchema
 check_all_reply g subject (Some new) = success (verdict_body (is_admitted_after g.schemas (level_in g subject) (live_rows (rows_of g subject)) new))
@@ -93,7 +95,7 @@ verdict_reply g subject new (Err code) = fault code
 verdict_reply g subject new (Ok row) = success (verdict_body (is_admitted_after g.schemas (level_in g subject) (row ∷ []) new))
 
 -- Schema Registry API reference, POST /compatibility/subjects/{subject}/versions/{version}: whether the level would admit the schema,
--- compared with that live version only
+-- compared with that live version only. If the version is invalid (`None`), 42202; otherwise, if the schema is (`None`), 42201.
 abbrev pub check_reply : Registry → List ℕ → Option VersionChoice → Option (List NodeView) → ReplyView
 check_reply g subject None schema = fault InvalidVersion
 check_reply g subject (Some choice) None = fault InvalidSchema

@@ -30,11 +30,11 @@ own_with own subject value other = if bytes_eq subject other then Some value els
 abbrev pub own_without : {A : Type 0} → Own A → List ℕ → Own A
 own_without own subject other = if bytes_eq subject other then None else own other
 
--- Schema Registry API reference, Config: the subjects' own levels
+-- Schema Registry API reference, Config: a function from a subject to its own level, or to `None` if it has none
 abbrev pub OwnLevels : Type 0
 OwnLevels = Own Level
 
--- Schema Registry API reference, Mode: the subjects' own modes
+-- Schema Registry API reference, Mode: a function from a subject to its own mode, or to `None` if it has none
 abbrev pub OwnModes : Type 0
 OwnModes = Own Mode
 

@@ -31,7 +31,7 @@ abbrev pub chosen_row : VersionChoice → List Row → Option Row
 chosen_row Latest rows = last_or None rows
 chosen_row (Numbered number) rows = find (λ (row : Row). row.0.1 == number) rows
 
--- this project's choice: the next version's number is 1 more than the greatest number of these, soft-deleted ones included
+-- this project's choice: the next version's number is 1 more than the greatest number of these, soft-deleted ones included; 1 if there are none
 abbrev pub next_number : List Row → ℕ
 next_number rows = fold (λ greatest (row : Row). max greatest row.0.1) 0 rows + 1
 

@@ -126,7 +126,7 @@ abbrev pub evidence_after_changes : List Change → EvidenceMap → EvidenceMap
 evidence_after_changes [] evidence = evidence
 evidence_after_changes (change ∷ changes) evidence = evidence_after_changes changes (evidence_after_change change evidence)
 
--- this project's choice: the identity text of a schema that isn't registered, and the next id
+-- this project's choice: the identity text of a schema that isn't registered, and the next id, which is within the limit
 pub record IsNewText (schemas : Schemas) (id : ℕ) (text : List ℕ) : Type 0 where
   pub nodes : List NodeView
   pub schema : IsSchema nodes
@@ -135,7 +135,7 @@ pub record IsNewText (schemas : Schemas) (id : ℕ) (text : List ℕ) : Type 0 w
   pub within : id ≤ max_number
   pub unknown : id_of schemas text ≡ None
 
--- this project's choice: a version whose key is unused and whose schema is registered
+-- this project's choice: a version whose key is unused, whose number is within the limit, and whose schema is registered
 pub record IsNewRow (g : Registry) (row : Row) : Type 0 where
   pub absent : get g.rows row.0 ≡ None
   pub fits : IsRow g.schemas row.0 row.1

@@ -58,8 +58,8 @@ pub enum Code {
 }
 
 impl Code {
-    /// The `error_code` in the reply's body. It is the HTTP status, or five digits of which the
-    /// first three are the status.
+    /// The `error_code` in the reply's body. It is the HTTP status, or five digits that begin with
+    /// the status.
     pub fn number(self) -> u32
         ensures { result ≡ number_of self }
     {

@@ -79,7 +79,7 @@ pub enum Command {
         version: Text,
         deleted: bool,
     },
-    /// Returns the schema of the id.
+    /// Returns the schema of the id, if some version has it. Soft-deleted versions count.
     ById {
         id: Text,
     },

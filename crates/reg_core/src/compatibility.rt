@@ -39,7 +39,8 @@ pub fn admits(
     Ok(true)
 }
 
-/// The versions that the level compares a new schema with.
+/// The versions that the level compares a new schema with: all, the latest, or none. `earlier` must
+/// be in order of number.
 pub(crate) fn named<T>(level: Level, earlier: &[T]) -> &[T]
     ensures { result.now ≡ named_versions level earlier.now }
 {

@@ -45,7 +45,7 @@ pub use comparing::{is_compatible_with, schema_of};
 pub use needs::ids_to_read;
 
 /// The parts of the registry that a command needs. Other parts may have any value, but each text
-/// must be the one of its id.
+/// must be that of its id.
 #[derive(Drop)]
 pub struct View {
     /// The versions of the command's subject or id, or of all subjects, soft-deleted ones included,
@@ -104,8 +104,8 @@ pub struct Decision {
 }
 
 /// Decides the command for the registry that the view shows: the changes, and the reply. `schema`
-/// is the schema that the command's text denotes, if it denotes one. It is ignored unless the
-/// command sends a supported schema. The call reads nothing else and changes nothing.
+/// is the schema that the command's text denotes, or `None`. It is ignored unless the command sends
+/// a supported schema. The call reads nothing else and changes nothing.
 ///
 /// # Errors
 ///
@@ -122,7 +122,8 @@ pub fn decide(
 }
 
 /// Decides as `decide` does, with a cache of parsed schemas, so that earlier schemas needn't be
-/// parsed again. The cache never changes a decision.
+/// parsed again. If `cache` is `None`, there is no cache, as in `decide`. The cache never changes a
+/// decision.
 ///
 /// # Errors
 ///
@@ -217,6 +218,7 @@ fn reply_to_read(
     ensures reply { IfOk result (λ reply. (g : Registry)
         → IsDecisionInput g command.now (option_map nodes_view (option_copied schema.entry)) view.now
         → reply ≡ (permitted_step g command.now).1) }
+    // The reply is neither a backend fault nor that of a reused retry key.
     ensures own { IfOk result (λ reply. IsCommandReply reply) }
 {
     match command {

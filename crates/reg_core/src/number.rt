@@ -16,8 +16,8 @@ pub enum VersionChoice {
     Numbered(u32),
 }
 
-/// The number that a text writes in decimal digits without a leading zero, or `None` if it writes
-/// none, or one above the limit.
+/// The positive number that a text writes in decimal digits without a leading zero, or `None` if it
+/// writes none, or one above the limit.
 pub fn parse_number(limit: u32, text: &[u8]) -> Option<u32>
     ensures { result ≡ parse_number limit text.now }
 {

@@ -39,7 +39,7 @@ fn has_control(text: &str) -> bool
     text.chars().any(|c| is_control(c))
 }
 
-/// Whether the text is a valid subject name.
+/// Whether the text is a valid subject name: 1 to 255 bytes, without ASCII control characters.
 pub fn is_subject(text: &str) -> bool
     ensures { result ≡ is_subject text.now }
 {

@@ -17,7 +17,7 @@ use Rattle.reg_messages.specs.Closing.{closes}
 use Rattle.reg_messages.specs.Responses.{fault_response}
 use Rattle.reg_messages.proofs.Fronts.{StartsWithMessage-more}
 use Rattle.reg_routes.specs.Deliveries.{delivery_of}
-use Rattle.reg_http.specs.Output.{AnsweredMessage, response_to, exchange_of, exchanges, AreRejected, StayOpen, LastCloses, responses, IsPrefix, IsCutShort}
+use Rattle.reg_http.specs.Output.{AnsweredMessage, response_to, exchange_of, exchanges, AreFaultsIfRejected, NoneCloses, LastCloses, responses, IsPrefix, IsCutShort}
 use Rattle.reg_http.specs.Inside.Replying.{IsReplyTo}
 use Rattle.reg_http.specs.Sessions.{ProcessesMessages}
 use Rattle.reg_http.specs.Inside.SessionSteps.{StopsAs, AnswersAs, AnswersOne, FaultAs, NextAs, AnsweredSoFar, step_outcome}
@@ -30,9 +30,9 @@ StartsWithMessages-append : (bytes mid rest : List ℕ) (ms ks : List Message) �
 StartsWithMessages-append bytes mid rest [] ks e p = subst (λ (t : List ℕ). StartsWithMessages t ks rest) (sym e) p
 StartsWithMessages-append bytes mid rest (m ∷ ms) ks p q = (p.0, p.1, StartsWithMessages-append p.0 mid rest ms ks p.2 q)
 
-AreRejected-append : (xs ys : List AnsweredMessage) → AreRejected xs → AreRejected ys → AreRejected (xs ++ ys)
-AreRejected-append [] ys p q = q
-AreRejected-append (x ∷ xs) ys p q = (p.0, AreRejected-append xs ys p.1 q)
+AreFaultsIfRejected-append : (xs ys : List AnsweredMessage) → AreFaultsIfRejected xs → AreFaultsIfRejected ys → AreFaultsIfRejected (xs ++ ys)
+AreFaultsIfRejected-append [] ys p q = q
+AreFaultsIfRejected-append (x ∷ xs) ys p q = (p.0, AreFaultsIfRejected-append xs ys p.1 q)
 
 exchanges-append : (xs ys : List AnsweredMessage) → exchanges (xs ++ ys) ≡ exchanges xs ++ exchanges ys
 exchanges-append xs ys = flat_map-append (λ (x : AnsweredMessage). exchange_of (delivery_of x.0) x.1) xs ys
@@ -64,21 +64,21 @@ ProcessesMessages-append : (P Q R : List Exchange → Type 0) → Joins P Q R �
 ProcessesMessages-append P Q R joins w w1 w2 bytes behind rest out out2 xs ys p q = record {
   leads = subst (λ (ms : List Message). StartsWithMessages bytes ms rest) (sym (map-append message_of xs ys))
       (StartsWithMessages-append bytes behind rest (map message_of xs) (map message_of ys) p.leads q.leads);
-  rejected = AreRejected-append xs ys p.rejected q.rejected;
+  rejected = AreFaultsIfRejected-append xs ys p.rejected q.rejected;
   serves = subst R (sym (exchanges-append xs ys)) (joins (exchanges xs) (exchanges ys) p.serves q.serves);
   writes = Appends-trans w w1 w2 out out2 p.writes q.writes;
 }
 
-StayOpen-append : (xs ys : List AnsweredMessage) → StayOpen xs → StayOpen ys → StayOpen (xs ++ ys)
-StayOpen-append [] ys p q = q
-StayOpen-append (x ∷ xs) ys p q = (p.0, StayOpen-append xs ys p.1 q)
+NoneCloses-append : (xs ys : List AnsweredMessage) → NoneCloses xs → NoneCloses ys → NoneCloses (xs ++ ys)
+NoneCloses-append [] ys p q = q
+NoneCloses-append (x ∷ xs) ys p q = (p.0, NoneCloses-append xs ys p.1 q)
 
-LastCloses-after : (xs ys : List AnsweredMessage) → StayOpen xs → LastCloses ys → LastCloses (xs ++ ys)
+LastCloses-after : (xs ys : List AnsweredMessage) → NoneCloses xs → LastCloses ys → LastCloses (xs ++ ys)
 LastCloses-after xs ys p c = record {
   before = xs ++ c.before;
   last = c.last;
   split = ap (λ zs. xs ++ zs) c.split ∙ sym (append_assoc xs c.before (c.last ∷ []));
-  stay = StayOpen-append xs c.before p c.stay;
+  stay = NoneCloses-append xs c.before p c.stay;
   closes_it = c.closes_it;
 }
 
@@ -90,14 +90,14 @@ joined xs ys out part e =
 all_joined : (xs ys : List AnsweredMessage) (out : List ℕ) → out ≡ responses ys → responses xs ++ out ≡ responses (xs ++ ys)
 all_joined xs ys out e = ap (λ t. responses xs ++ t) e ∙ sym (responses-append xs ys)
 
-IsCutShort-after : (xs ys : List AnsweredMessage) (rest out : List ℕ) → StayOpen xs → IsCutShort ys rest out → IsCutShort (xs ++ ys) rest (responses xs ++ out)
+IsCutShort-after : (xs ys : List AnsweredMessage) (rest out : List ℕ) → NoneCloses xs → IsCutShort ys rest out → IsCutShort (xs ++ ys) rest (responses xs ++ out)
 IsCutShort-after xs ys rest out p (inl c) =
     inl (record {
       before = xs ++ c.before;
       last = c.last;
       part = c.part;
       split = ap (λ zs. xs ++ zs) c.split ∙ sym (append_assoc xs c.before (c.last ∷ []));
-      stay = StayOpen-append xs c.before p c.stay;
+      stay = NoneCloses-append xs c.before p c.stay;
       front = c.front;
       written = joined xs c.before out c.part c.written;
     })
@@ -105,25 +105,25 @@ IsCutShort-after xs ys rest out p (inr c) =
     inr (record {
       code = c.code;
       part = c.part;
-      stay = StayOpen-append xs ys p c.stay;
+      stay = NoneCloses-append xs ys p c.stay;
       follows = c.follows;
       front = c.front;
       written = joined xs ys out c.part c.written;
     })
 
 -- a stop, with the earlier messages
-StopsAs-after : (xs ys : List AnsweredMessage) (rest held out : List ℕ) (stop : Stop) → StayOpen xs → StopsAs ys rest held out stop
+StopsAs-after : (xs ys : List AnsweredMessage) (rest held out : List ℕ) (stop : Stop) → NoneCloses xs → StopsAs ys rest held out stop
     → StopsAs (xs ++ ys) rest held (responses xs ++ out) stop
-StopsAs-after xs ys rest held out (Waiting needs) p s = (StayOpen-append xs ys p s.0, s.1, s.2, all_joined xs ys out s.3)
+StopsAs-after xs ys rest held out (Waiting needs) p s = (NoneCloses-append xs ys p s.0, s.1, s.2, all_joined xs ys out s.3)
 StopsAs-after xs ys rest held out AtClose p s = (LastCloses-after xs ys p s.0, all_joined xs ys out s.1)
-StopsAs-after xs ys rest held out AtFault p s = (s.0, StayOpen-append xs ys p s.1, s.2, joined xs ys out (fault_response s.0) s.3)
+StopsAs-after xs ys rest held out AtFault p s = (s.0, NoneCloses-append xs ys p s.1, s.2, joined xs ys out (fault_response s.0) s.3)
 StopsAs-after xs ys rest held out NotWritten p s = IsCutShort-after xs ys rest out p s
-StopsAs-after xs ys rest held out OutOfMemory p (inl s) = inl (StayOpen-append xs ys p s.0, all_joined xs ys out s.1)
+StopsAs-after xs ys rest held out OutOfMemory p (inl s) = inl (NoneCloses-append xs ys p s.0, all_joined xs ys out s.1)
 StopsAs-after xs ys rest held out OutOfMemory p (inr s) = inr (IsCutShort-after xs ys rest out p s)
 
 -- the responses after earlier messages
 pub AnswersAs-after : (P Q R : List Exchange → Type 0) → Joins P Q R → (w w1 w2 : Option (List ℕ)) (bytes behind held : List ℕ) (xs : List AnsweredMessage) (stop : Stop)
-    → StayOpen xs → ProcessesMessages P w w1 bytes xs behind (responses xs) → AnswersAs Q w1 w2 behind held stop → AnswersAs R w w2 bytes held stop
+    → NoneCloses xs → ProcessesMessages P w w1 bytes xs behind (responses xs) → AnswersAs Q w1 w2 behind held stop → AnswersAs R w w2 bytes held stop
 AnswersAs-after P Q R joins w w1 w2 bytes behind held xs stop o p a = record {
   answered = xs ++ a.answered;
   rest = a.rest;
@@ -218,7 +218,7 @@ AnsweredSoFar-one P Q R joins w w1 w2 bytes held size s one =
     let All : List ℕ → Type 0 = λ out. ProcessesMessages R w w2 bytes (xs ++ one.answered ∷ []) (drop size held) out in
     record {
       answered = xs ++ one.answered ∷ [];
-      stay = StayOpen-append xs (one.answered ∷ []) s.stay (one.stays, tt);
+      stay = NoneCloses-append xs (one.answered ∷ []) s.stay (one.stays, tt);
       processes = subst All (sym (responses-append xs (one.answered ∷ [])))
           (ProcessesMessages-append P Q R joins w w1 w2 bytes held (drop size held) (responses xs) (responses (one.answered ∷ [])) xs (one.answered ∷ []) s.processes one.processes);
     }

@@ -25,31 +25,31 @@ abbrev pub exchange_of : Result Delivery Rejection → ReplyView → List Exchan
 exchange_of (Ok delivery) reply = (delivery, reply) ∷ []
 exchange_of (Err rejection) reply = []
 
--- if the message has no delivery, the reply is the fault of its code, or 50001
-abbrev pub IsFaultFor : Result Delivery Rejection → ReplyView → Type 0
-IsFaultFor (Ok delivery) reply = Unit {0}
-IsFaultFor (Err rejection) reply = (reply ≡ fault rejection.0) ⊎ (reply ≡ fault BackendFault)
+-- If the message has no delivery, the reply is the fault of the rejection's code, or of `BackendFault` (50001). Of other messages this says nothing.
+abbrev pub IsFaultIfRejected : Result Delivery Rejection → ReplyView → Type 0
+IsFaultIfRejected (Ok delivery) reply = Unit {0}
+IsFaultIfRejected (Err rejection) reply = (reply ≡ fault rejection.0) ⊎ (reply ≡ fault BackendFault)
 
 -- the exchanges of the messages with a delivery, in order
 abbrev pub exchanges : List AnsweredMessage → List Exchange
 exchanges xs = flat_map (λ x. exchange_of (delivery_of x.0) x.1) xs
 
--- each message without a delivery got the fault of its code, or 50001
-abbrev pub AreRejected : List AnsweredMessage → Type 0
-AreRejected [] = Unit {0}
-AreRejected (x ∷ xs) = IsFaultFor (delivery_of x.0) x.1 × AreRejected xs
+-- Each message without a delivery got the fault of the rejection's code, or of `BackendFault` (50001). Of other messages this says nothing.
+abbrev pub AreFaultsIfRejected : List AnsweredMessage → Type 0
+AreFaultsIfRejected [] = Unit {0}
+AreFaultsIfRejected (x ∷ xs) = IsFaultIfRejected (delivery_of x.0) x.1 × AreFaultsIfRejected xs
 
 -- no message ends the connection
-abbrev pub StayOpen : List AnsweredMessage → Type 0
-StayOpen [] = Unit {0}
-StayOpen (x ∷ xs) = (closes x.0 ≡ false) × StayOpen xs
+abbrev pub NoneCloses : List AnsweredMessage → Type 0
+NoneCloses [] = Unit {0}
+NoneCloses (x ∷ xs) = (closes x.0 ≡ false) × NoneCloses xs
 
 -- only the last message ends the connection
 pub record LastCloses (xs : List AnsweredMessage) : Type 0 where
   pub before : List AnsweredMessage
   pub last : AnsweredMessage
   pub split : xs ≡ before ++ last ∷ []
-  pub stay : StayOpen before
+  pub stay : NoneCloses before
   pub closes_it : closes last.0 ≡ true
 
 -- one response for each message, in order
@@ -66,7 +66,7 @@ tail_response (Faulty code) = fault_response code
 abbrev pub output : List AnsweredMessage → Tail → List ℕ
 output xs tail = responses xs ++ tail_response tail
 
--- `front` is a beginning of `all`
+-- `front` is a beginning of `all`, perhaps empty or whole
 abbrev pub IsPrefix : List ℕ → List ℕ → Type 0
 IsPrefix front all = (rest : List ℕ) × (front ++ rest ≡ all)
 
@@ -80,7 +80,7 @@ pub record LastCutShort (xs : List AnsweredMessage) (out : List ℕ) : Type 0 wh
   pub last : AnsweredMessage
   pub part : List ℕ
   pub split : xs ≡ before ++ last ∷ []
-  pub stay : StayOpen before
+  pub stay : NoneCloses before
   pub front : IsPrefix part (response_to last.0 last.1)
   pub written : out ≡ responses before ++ part
 
@@ -88,7 +88,7 @@ pub record LastCutShort (xs : List AnsweredMessage) (out : List ℕ) : Type 0 wh
 pub record FaultCutShort (xs : List AnsweredMessage) (rest out : List ℕ) : Type 0 where
   pub code : Code
   pub part : List ℕ
-  pub stay : StayOpen xs
+  pub stay : NoneCloses xs
   pub follows : Follows rest (Faulty code)
   pub front : IsPrefix part (fault_response code)
   pub written : out ≡ responses xs ++ part

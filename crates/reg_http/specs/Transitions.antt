@@ -3,7 +3,7 @@ use Rattle.sqlite.specs.State.{State}
 use Rattle.reg_core.specs.Stored.{Stored}
 use Rattle.reg_store.specs.Spells.{SpellsWhileOpen}
 
--- while the connection is open, the tables spell a state with the property P
+-- P is true of a stored state, which the tables spell if the connection is still open
 pub record StoredSatisfies (new : State) (P : Stored → Type 0) : Type 0 where
   pub stored : Stored
   pub spells : SpellsWhileOpen new stored

@@ -23,7 +23,7 @@ use std::io::Write;
 /// Why no further message is processed.
 #[derive(Clone, Copy)]
 pub enum Stop {
-    /// The buffer has no whole message. A whole one has at least this many bytes.
+    /// The buffer has no whole message. A whole one has at least this number of bytes in all.
     Waiting(usize),
     /// The last message ends the connection.
     AtClose,

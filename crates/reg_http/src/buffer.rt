@@ -56,7 +56,7 @@ fn read_into<R: Read>(bytes: &mut Vec<u8>, at: usize, reader: &mut R) -> io::Res
     reader.read(room)
 }
 
-/// Copies the bytes between two positions to the front.
+/// Copies the bytes `first..last` to the front.
 fn to_front(bytes: &mut Vec<u8>, first: usize, last: usize)
     requires order { first ≤ last }
     requires within { last ≤ vec_len bytes.old }
@@ -66,8 +66,8 @@ fn to_front(bytes: &mut Vec<u8>, first: usize, last: usize)
     bytes.copy_within(first..last, 0);
 }
 
-/// Makes room after the bytes between two positions, and returns their new positions. It copies
-/// them to the front only if there is no room.
+/// Makes room for at least one byte after the bytes `first..last`, and returns their new positions.
+/// It copies them to the front only if no room follows them.
 fn make_room(bytes: &mut Vec<u8>, first: usize, last: usize) -> (usize, usize)
     requires order { first ≤ last }
     requires within { last ≤ vec_len bytes.old }

@@ -68,8 +68,8 @@ fn end_of(held: &[u8]) -> Ended
     }
 }
 
-/// Processes the messages in the buffer if it has at least `needs` bytes. Fewer bytes have no whole
-/// message, so it only returns `Waiting(needs)`.
+/// Processes the messages in the buffer if it has at least `needs` bytes. With fewer bytes there is
+/// no whole message: it does nothing and returns `Waiting(needs)`.
 fn answer_more<W: Write, S: Alter>(
     alloc: Global,
     routes: &Routes,

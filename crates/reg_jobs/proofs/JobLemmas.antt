@@ -23,7 +23,7 @@ use Rattle.reg_jobs.specs.declared.auditing.AuditOutcome.{AuditOutcome}
 use Rattle.reg_jobs.specs.Auditing.{AuditsAs}
 use Rattle.reg_jobs.specs.Listings.{IfUnread, ListsAs, listing_of}
 use Rattle.reg_jobs.specs.Databases.{ServesStore}
-use Rattle.reg_jobs.specs.Jobs.{AuditsOver, SessionStartsFrom, HasRegistry, ListsOver, OverDatabase, SessionOver}
+use Rattle.reg_jobs.specs.Jobs.{AuditsOver, SessionStartsFrom, HasRegistry, ListsOver, OverDatabase, RunsOver}
 
 -- the stored state when a session over the registry of what was opened begins
 record BeginsOver {S : Type 0} (g : Ghosts S) (opened : Opened S) (begun : State) : Type 0 where
@@ -41,9 +41,9 @@ begins_over g (Fresh old) begun has = record { was = new_stored; begins = (has.e
 begins_over g (Database old) begun has = record { was = has.stored; begins = has.spelled; is_open = has.spells }
 
 -- a session over the registry of what was opened
-pub SessionOver-has : {S : Type 0} (g : Ghosts S) (opened : Opened S) (store : Store S g) (back : Held S) (reader reader' writer writer' : Option (List ℕ)) (ended : Ended)
-    → (HasCleanDisk (state g back) → HasRegistry g opened (state_of store)) → ServesStore store back reader reader' writer writer' ended → SessionOver g opened (Some back) reader reader' writer writer' ended
-SessionOver-has {S} g opened store back reader reader' writer writer' ended has s = record {
+pub RunsOver-has : {S : Type 0} (g : Ghosts S) (opened : Opened S) (store : Store S g) (back : Held S) (reader reader' writer writer' : Option (List ℕ)) (ended : Ended)
+    → (HasCleanDisk (state g back) → HasRegistry g opened (state_of store)) → ServesStore store back reader reader' writer writer' ended → RunsOver g opened (Some back) reader reader' writer writer' ended
+RunsOver-has {S} g opened store back reader reader' writer writer' ended has s = record {
   before = s.before;
   after = s.after;
   given = ap Some s.ends;

@@ -15,7 +15,7 @@ use Rattle.reg_http.proofs.EndLemmas.{Session-same}
 use Rattle.reg_jobs.specs.declared.errors.Errors.{Errors}
 use Rattle.reg_jobs.specs.declared.outcome.Fault.TheVariants.{CannotAccept}
 use Rattle.reg_jobs.specs.Errors.{Puts}
-use Rattle.reg_jobs.specs.Listening.{ServesNext, ServesRounds, ReportsAcceptFailures, accept_failure_lines}
+use Rattle.reg_jobs.specs.Listening.{ServesRound, ServesRounds, ReportsAcceptFailures, accept_failure_lines}
 use Rattle.reg_jobs.specs.Outcomes.{line_of}
 use Rattle.reg_jobs.proofs.LineLemmas.{Puts-append, Puts-none}
 
@@ -25,12 +25,12 @@ module _ {S : Type 0} {g : Ghosts S} where
   StoredTransition-none s spelled was spells = record { stored = was; spells = spells; holds = record { exchanges = []; are = refl; serves = durable_none s was [] refl spelled } }
 
   -- no connection was accepted
-  pub StoredTransition-unaccepted : (s : Service S g) → RecoversSpelled (state_in s) → StoredTransition (state_in s) (state_in s) (ServesNext s s)
+  pub StoredTransition-unaccepted : (s : Service S g) → RecoversSpelled (state_in s) → StoredTransition (state_in s) (state_in s) (ServesRound s s)
   StoredTransition-unaccepted s spelled was spells = record { stored = was; spells = spells; holds = record { exchanges = []; are = inl refl; serves = durable_none s was [] refl spelled } }
 
   -- a session
   pub StoredTransition-session : (old new : Service S g) (reader reader' writer writer' : Option (List ℕ)) (ended : Ended)
-      → StoredTransition (state_in old) (state_in new) (λ was now. Session (ServesDurably old new was now) reader reader' writer writer' ended) → StoredTransition (state_in old) (state_in new) (ServesNext old new)
+      → StoredTransition (state_in old) (state_in new) (λ was now. Session (ServesDurably old new was now) reader reader' writer writer' ended) → StoredTransition (state_in old) (state_in new) (ServesRound old new)
   StoredTransition-session old new reader reader' writer writer' ended over was spells =
       let s = over was spells in
       let xs = exchanges s.holds.answered in
@@ -46,7 +46,7 @@ module _ {S : Type 0} {g : Ghosts S} where
 
   -- one more connection
   pub StoredTransition-next : (old mid new : Service S g) (count : ℕ) → HasCleanDisk (state_in new) → StoredTransition (state_in old) (state_in mid) (ServesRounds count old mid)
-      → StoredTransition (state_in mid) (state_in new) (ServesNext mid new) → StoredTransition (state_in old) (state_in new) (ServesRounds (count + 1) old new)
+      → StoredTransition (state_in mid) (state_in new) (ServesRound mid new) → StoredTransition (state_in old) (state_in new) (ServesRounds (count + 1) old new)
   StoredTransition-next old mid new count clean before next was spells =
       let b = before was spells in
       let n = next b.stored b.spells in

@@ -56,10 +56,10 @@ pub record FailsToOpen (old new : State) (error : StoreError) : Type 0 where
   pub found : CrashKeepsStored old new
   pub crash : (db : Trees) → new.may_leave db → old.may_leave db ⊎ IsIndexed old.now db
 
--- a transaction was open, or no registry was created
+-- a transaction was open, and the error is `Disk`; or no registry was created for the reasons of `FailsToCreate`
 abbrev pub CreatesNone : State → State → StoreError → Type 0
 CreatesNone old new error = (IsTrue old.in_transaction × (error ≡ Disk)) ⊎ FailsToCreate old new error
 
--- a transaction was open, or no registry was opened
+-- a transaction was open, and the error is `Disk`; or no registry was opened for the reasons of `FailsToOpen`
 abbrev pub OpensNone : State → State → StoreError → Type 0
 OpensNone old new error = (IsTrue old.in_transaction × (error ≡ Disk)) ⊎ FailsToOpen old new error

@@ -125,15 +125,16 @@ SessionStartsFrom g OrphanedLog was = ⊥
 SessionStartsFrom g (Fresh old) was = ¬ ((state g old).now.schema ≢ no_schema) × (was ≡ new_stored)
 SessionStartsFrom g (Database old) was = SpellsUnopened (state g old).now was
 
--- a session of a service led from that state to what the tables spell, and a crash preserves what was acknowledged
+-- A session of a service over what was opened. It led from the stored state at its start to what the tables spell, and a crash preserves what was
+-- acknowledged.
 pub record SessionFrom {S : Type 0} (g : Ghosts S) (opened : Opened S) (before after : Service S g) (reader reader' writer writer' : Option (List ℕ)) (ended : Ended) : Type 0 where
   pub was : Stored
   pub begins : SessionStartsFrom g opened was
   pub is_open : IsOpenOver (state_in before) was
   pub leads : StoredSatisfies (state_in after) (λ now. Session (ServesDurably before after was now) reader reader' writer writer' ended)
 
--- such a session over what was opened, after which the connection is returned
-pub record SessionOver {S : Type 0} (g : Ghosts S) (opened : Opened S) (returned : Option (Held S)) (reader reader' writer writer' : Option (List ℕ)) (ended : Ended) : Type 0 where
+-- A session over the database that was opened, whose connection is returned. If its disk is clean, `SessionFrom` is true of the session.
+pub record RunsOver {S : Type 0} (g : Ghosts S) (opened : Opened S) (returned : Option (Held S)) (reader reader' writer writer' : Option (List ℕ)) (ended : Ended) : Type 0 where
   pub before : Service S g
   pub after : Service S g
   pub given : returned ≡ Some (connection_of (store_in after))
@@ -147,7 +148,7 @@ pub record RunsWithoutRegistry {S : Type 0} (g : Ghosts S) (opened : Opened S) (
 
 -- the outcome of a session over what was opened
 abbrev pub RunsOn : {S : Type 0} (g : Ghosts S) → Opened S → Option (Held S) → Option (List ℕ) → Option (List ℕ) → Option (List ℕ) → Option (List ℕ) → Outcome → Type 0
-RunsOn g opened returned reader reader' writer writer' (SessionEnded ended) = SessionOver g opened returned reader reader' writer writer' ended
+RunsOn g opened returned reader reader' writer writer' (SessionEnded ended) = RunsOver g opened returned reader reader' writer writer' ended
 RunsOn g opened returned reader reader' writer writer' (Unopened error) = RunsWithoutRegistry g opened returned reader reader' writer writer' error
 RunsOn g opened returned reader reader' writer writer' (NotListening port) = ⊥
 RunsOn g opened returned reader reader' writer writer' (TextEnded printed) = ⊥

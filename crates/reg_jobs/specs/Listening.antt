@@ -21,7 +21,7 @@ pub record IsSession (xs : List Exchange) : Type 0 where
   pub ended : Ended
   pub session : Session (λ ys. ys ≡ xs) reader reader' writer writer' ended
 
--- a round: no connection was accepted, or one was, and its messages are a session
+-- the exchanges of a round: none if no connection was accepted, otherwise those of a session
 abbrev pub IsRound : List Exchange → Type 0
 IsRound xs = (xs ≡ []) ⊎ IsSession xs
 
@@ -30,26 +30,28 @@ abbrev pub AreRounds : ℕ → List Exchange → Type 0
 AreRounds zero xs = xs ≡ []
 AreRounds (suc count) xs = (before : List Exchange) × (last : List Exchange) × (xs ≡ before ++ last) × AreRounds count before × IsRound last
 
--- exchanges with the property `Are` lead from `was` to `now`, and a crash preserves every acknowledged one
-pub record ServesSome (Are : List Exchange → Type 0) {S : Type 0} {g : Ghosts S} (old new : Service S g) (was now : Stored) : Type 0 where
+-- Some exchanges have the property `Are`. Those whose reply isn't 50001 lead from `was` to `now`, and a crash preserves these, with or without one
+-- delivery in progress.
+pub record ServesExchanges (Are : List Exchange → Type 0) {S : Type 0} {g : Ghosts S} (old new : Service S g) (was now : Stored) : Type 0 where
   pub exchanges : List Exchange
   pub are : Are exchanges
   pub serves : ServesDurably old new was now exchanges
 
--- one round
-abbrev pub ServesNext : {S : Type 0} {g : Ghosts S} → Service S g → Service S g → Stored → Stored → Type 0
-ServesNext old new = ServesSome IsRound old new
+-- the same of the exchanges of one round
+abbrev pub ServesRound : {S : Type 0} {g : Ghosts S} → Service S g → Service S g → Stored → Stored → Type 0
+ServesRound old new = ServesExchanges IsRound old new
 
--- this number of rounds, one after another; each has at most one connection
+-- the same of the exchanges of this number of rounds, one after another; each has at most one connection
 abbrev pub ServesRounds : {S : Type 0} {g : Ghosts S} → ℕ → Service S g → Service S g → Stored → Stored → Type 0
-ServesRounds count old new = ServesSome (AreRounds count) old new
+ServesRounds count old new = ServesExchanges (AreRounds count) old new
 
 -- the line that no connection can be accepted, this number of times
 abbrev pub accept_failure_lines : ℕ → List ℕ
 accept_failure_lines zero = []
 accept_failure_lines (suc count) = accept_failure_lines count ++ line_of CannotAccept []
 
--- nothing but that line was written, at most `most` times
+-- The line that no connection can be accepted was written at most `most` times, and nothing else. If a write fails, or failed before, the rest is
+-- lost.
 pub record ReportsAcceptFailures {E : Type 0} (contents : E → Option (List ℕ)) (most : ℕ) (old new : Errors E) : Type 0 where
   pub times : ℕ
   pub within : times ≤ most

@@ -27,8 +27,8 @@ listed_as (Err (Store error)) = Unread error
 listed_as (Err Write) = NotWritten
 listed_as (Err ReportOutOfMemory) = OutOfMemory
 
--- The output of a listing, by its outcome. If the registry couldn't be read to the end, or an allocation failed, some whole lines were
--- written, from the header on. After a failed write nothing is said of the output.
+-- The output of a listing, by its outcome. If the registry couldn't be read to the end, or an allocation failed, its first lines were written,
+-- perhaps none, each in full. After a failed write nothing is said of the output.
 abbrev pub ListsAs : Listing → Registry → Option (List ℕ) → Option (List ℕ) → ListOutcome → Type 0
 ListsAs kind g writer writer' Whole = Appends writer writer' (listing kind g)
 ListsAs kind g writer writer' (Unread error) = WritesPrefix (header kind ∷ listing_lines kind g) writer writer'

@@ -11,7 +11,7 @@ HasNoControl text = list_any is_ascii_control text ≡ false
 abbrev pub hex_digit : ℕ → ℕ
 hex_digit n = slice_index (codes "0123456789abcdef") n
 
--- this project's choice: the escape of a control character is \t, \n, \r, or else \u{..} with two hexadecimal digits
+-- this project's choice: the escape of an ASCII control character is \t, \n, \r, or else \u{..} with two hexadecimal digits
 abbrev pub escape_of : ℕ → List ℕ
 escape_of byte =
     if byte == 9 then codes "\\t"
@@ -23,6 +23,6 @@ escape_of byte =
 abbrev pub shown_byte : ℕ → List ℕ
 shown_byte byte = if is_ascii_control byte then escape_of byte else byte ∷ []
 
--- this project's choice: a name is shown with each ASCII control character as its escape, so that the name has no line feed
+-- this project's choice: a name is shown with each ASCII control character as its escape, so that it can't end the line
 abbrev pub shown_name : List ℕ → List ℕ
 shown_name name = flat_map shown_byte name

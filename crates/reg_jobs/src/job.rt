@@ -220,7 +220,7 @@ fn list_on<S: Alter + Drop, W: Write>(
 }
 
 /// Migrates what was opened to this program's layout, and returns the connection. If no database
-/// was opened, nothing is written.
+/// was opened, or an empty one, nothing is written.
 fn migrate_on<S: Alter + Drop, W: Write>(
     alloc: Global,
     opened: Opened<S>,

@@ -4,7 +4,7 @@ ghost use Rattle.std.specs.Prelude.{◌≤◌, ℕ};
 ghost use Rattle.sqlite.specs.State.{HasCleanDisk};
 ghost use Rattle.reg_service.specs.Services.{state_in};
 ghost use Rattle.reg_http.specs.Transitions.{StoredTransition};
-ghost use Rattle.reg_jobs.specs.Listening.{ServesNext, ServesRounds, ReportsAcceptFailures};
+ghost use Rattle.reg_jobs.specs.Listening.{ServesRound, ServesRounds, ReportsAcceptFailures};
 
 mod ending;
 mod halves;
@@ -78,7 +78,7 @@ fn serve_next<C: Clock, S: Alter, E: Write + Drop>(
 )
     ensures clean { HasCleanDisk (state_in service.new) → HasCleanDisk (state_in service.old) }
     ensures session { HasCleanDisk (state_in service.new) → StoredTransition (state_in service.old) (state_in service.new)
-        (ServesNext service.old service.new) }
+        (ServesRound service.old service.new) }
     ensures reports { ReportsAcceptFailures E.contents 1 errors.old errors.new }
 {
     let Some(stream) = accept_next(clock, queue, errors) else {

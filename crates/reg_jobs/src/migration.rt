@@ -62,7 +62,8 @@ fn print_unmigrated<W: Write>(error: MigrateError, writer: &mut W) -> Outcome
 }
 
 /// Migrates the registry of a database to layout 2, prints the result, and returns the connection.
-/// If it fails, nothing is printed.
+/// If the database has layout 2 already, the result is that there is nothing to do. If the
+/// migration fails, nothing is printed.
 pub fn migrate_in<S: Alter, W: Write>(
     alloc: Global,
     connection: Connection<S>,

@@ -15,7 +15,7 @@ fn hex_digit(n: u8) -> u8
     b"0123456789abcdef"[usize::from(n)]
 }
 
-/// Writes a byte of a name, or the escape of a control character.
+/// Writes a byte of a name, or the escape of an ASCII control character.
 fn put_byte<E: Write + Drop>(errors: &mut Errors<E>, byte: u8)
     ensures { Puts E.contents errors.old errors.new (shown_byte byte) }
 {
@@ -34,8 +34,8 @@ fn put_byte<E: Write + Drop>(errors: &mut Errors<E>, byte: u8)
     }
 }
 
-/// Writes a file's name, with each ASCII control character as its escape, so that the name has no
-/// line feed.
+/// Writes a file's name, with each ASCII control character as its escape, so that it can't end the
+/// line.
 pub fn put_name<E: Write + Drop>(errors: &mut Errors<E>, name: &str)
     ensures puts { Puts E.contents errors.old errors.new (shown_name name.now) }
     ensures no_control { HasNoControl (shown_name name.now) }

@@ -9,7 +9,7 @@ use Rattle.httparse.specs.Ascii.{colon}
 use Rattle.httparse.specs.Spans.{RequestExceeds, IsRequestAt, IsRequestWithin, IsWithin, IsHeaderWithin, span_bytes, header_bytes}
 use Rattle.httparse.proofs.GrammarLemmas.{print_request-append}
 use Rattle.reg_core.specs.declared.code.Code.{Code}
-use Rattle.reg_messages.specs.Framing.{framing}
+use Rattle.reg_messages.specs.Framing.{body_length_from_fields}
 use Rattle.reg_messages.specs.Messages.{Message, StartsWithMessage, HasHead, HasNoHead, IsPartOfHead, Follows, Part, fields_of}
 use Rattle.reg_messages.specs.ParseOutcomes.{IsWholeMessage, IsPartialUntil}
 
@@ -103,13 +103,13 @@ HasHead-found bytes n headers r head le small x =
 
 -- the framing by the spans is the framing of the head
 pub framed : (front : List ℕ) (headers : List HeaderSpan) (r : RequestSpans) (head : RequestHead) (result : Result ℕ Code)
-    → IsRequestAt front headers r head → result ≡ framing (map (header_bytes front) (take r.headers headers)) → framing (fields_of head) ≡ result
-framed front headers r head result x e = sym (e ∙ ap framing x.fields)
+    → IsRequestAt front headers r head → result ≡ body_length_from_fields (map (header_bytes front) (take r.headers headers)) → body_length_from_fields (fields_of head) ≡ result
+framed front headers r head result x e = sym (e ∙ ap body_length_from_fields x.fields)
 
 -- the parser's head and a body make a whole message
 pub IsWholeMessage-found : (bytes : List ℕ) (n k : ℕ) (headers : List HeaderSpan) (r : RequestSpans) (head : RequestHead)
     → n ≤ length bytes → n ≤ 16384 → IsRequestAt (take n bytes) headers r head → IsRequestWithin (take n bytes) headers r
-    → framing (fields_of head) ≡ Ok k → k ≤ length bytes - r.len
+    → body_length_from_fields (fields_of head) ≡ Ok k → k ≤ length bytes - r.len
     → (message : Message) × IsWholeMessage bytes headers (record { head = r; body = k }) message
 IsWholeMessage-found bytes n k headers r head le small x within f fits =
     let size : length (take n bytes) ≡ n = length-take-le n bytes le in
@@ -177,7 +177,7 @@ IsPartialUntil-head bytes h = record {
     no_bytes (x ∷ more) few = absurd (omega arith)
 
 -- a whole head is incomplete until its body is there
-pub IsPartialUntil-body : (bytes : List ℕ) (head : RequestHead) (len size : ℕ) → size ≤ 1048576 → HasHead bytes head (drop len bytes) → framing (fields_of head) ≡ Ok size
+pub IsPartialUntil-body : (bytes : List ℕ) (head : RequestHead) (len size : ℕ) → size ≤ 1048576 → HasHead bytes head (drop len bytes) → body_length_from_fields (fields_of head) ≡ Ok size
     → len ≤ length bytes → len ≡ length (print_request head) → length bytes < len + size → IsPartialUntil bytes (len + size)
 IsPartialUntil-body bytes head len size most x f inside is short = record {
   short = short;

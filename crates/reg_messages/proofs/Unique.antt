@@ -4,7 +4,7 @@ use Rattle.std.specs.Prelude.{IsTrue}
 use Rattle.httparse.specs.Grammar.{lf, AllPass, is_token_byte, is_uri_byte, RequestHead, IsRequestHead, print_request, NeverHasRequest}
 use Rattle.httparse.proofs.GrammarLemmas.{request_unique, ReadsRequest-append}
 use Rattle.reg_core.specs.declared.code.Code.{Code}
-use Rattle.reg_messages.specs.Framing.{framing}
+use Rattle.reg_messages.specs.Framing.{body_length_from_fields}
 use Rattle.reg_messages.specs.Messages.{Message, HasHead, NeverHasHead, StartsWithMessage, StartsWithMessages, Follows, Agree, Messages, fields_of, Tail, End, Part, Faulty}
 use Rattle.reg_messages.proofs.Fronts.{head_some}
 
@@ -31,7 +31,7 @@ ok_or_err n code a b e f g = cc
 
 -- the body's length by the fields of a head, or the code of their fault
 abbrev framing_of : RequestHead → Result ℕ Code
-framing_of h = framing (fields_of h)
+framing_of h = body_length_from_fields (fields_of h)
 
 StartsWithMessage-unique : (bytes : List ℕ) (m k : Message) (r q : List ℕ) → StartsWithMessage bytes m r → StartsWithMessage bytes k q → (m ≡ k) × (r ≡ q)
 StartsWithMessage-unique bytes m k r q x y =

@@ -1,10 +1,10 @@
--- Whether the connection ends after the response to a message (RFC 9112, section 9.6).
+-- Whether the connection ends after the response to a message (RFC 9112, sections 9.3 and 9.6).
 use Rattle.std.specs.Prelude.{ℕ, Bool, ◌||◌, ◌==◌, List, codes}
 use Rattle.http1.specs.Fields.{has_option, elements_named}
 use Rattle.reg_messages.specs.Fields.{HeaderField}
 use Rattle.reg_messages.specs.Messages.{Message, fields_of}
 
--- for HTTP/1.0, or if a Connection field lists the token `close`, regardless of case
+-- whether the connection ends: the minor version is 0 (HTTP/1.0), or a Connection field lists the token `close`, regardless of case
 unfoldable pub closes_by : ℕ → List HeaderField → Bool
 closes_by minor fields = minor == 0 || has_option (codes "close") (elements_named (codes "connection") fields)
 

@@ -6,9 +6,9 @@ use Rattle.httparse.specs.Spans.{name_and_value}
 use Rattle.reg_core.specs.declared.code.Code.{Code}
 use Rattle.reg_core.specs.declared.code.Code.TheVariants.{MalformedRequest}
 use Rattle.reg_messages.specs.Fields.{HeaderField}
-use Rattle.reg_messages.specs.Framing.{framing}
+use Rattle.reg_messages.specs.Framing.{body_length_from_fields}
 
--- the maximum size of a head in bytes, including its empty line (this project's choice)
+-- the maximum size of a head in bytes, including the empty lines before its request line and at its end (this project's choice)
 abbrev pub max_head : ℕ
 max_head = 16384
 
@@ -28,7 +28,7 @@ fields_of head = map name_and_value head.fields
 -- the bytes are the message, followed by the rest
 pub record StartsWithMessage (bytes : List ℕ) (message : Message) (rest : List ℕ) : Type 0 where
   pub head : HasHead bytes message.head (message.body ++ rest)
-  pub body : framing (fields_of message.head) ≡ Ok (length message.body)
+  pub body : body_length_from_fields (fields_of message.head) ≡ Ok (length message.body)
 
 -- the bytes are these whole messages, in order, followed by the rest, which may begin with another message
 abbrev pub StartsWithMessages : List ℕ → List Message → List ℕ → Type 0
@@ -52,7 +52,7 @@ pub record IsPartOfBody (bytes : List ℕ) : Type 0 where
   pub rest : List ℕ
   pub size : ℕ
   pub has_head : HasHead bytes head rest
-  pub framed : framing (fields_of head) ≡ Ok size
+  pub framed : body_length_from_fields (fields_of head) ≡ Ok size
   pub short : length rest < size
 
 -- no further bytes can complete a head, or the bytes reach the size limit without one
@@ -64,15 +64,15 @@ pub record HasFaultyHead (bytes : List ℕ) (code : Code) : Type 0 where
   pub head : RequestHead
   pub rest : List ℕ
   pub has_head : HasHead bytes head rest
-  pub framed : framing (fields_of head) ≡ Err code
+  pub framed : body_length_from_fields (fields_of head) ≡ Err code
 
 -- what follows the whole messages
 pub data Tail : Type 0 where
   End Part : Tail
   Faulty : Code → Tail
 
--- Nothing follows the messages, or a part of a message, or the first fault in the order of the rules. If the bytes end inside a target that no bytes
--- can continue to a head, they are both a part and a fault: the grammar leaves this case open.
+-- Nothing follows, or a part of a message, or a fault: that of the head's fields, or `MalformedRequest` if the bytes never have a head. If the bytes
+-- end inside a target that no bytes can continue to a head, they are both a part and a fault: the grammar leaves this case open.
 abbrev pub Follows : List ℕ → Tail → Type 0
 Follows bytes End = bytes ≡ []
 Follows bytes Part = IsPartOfHead bytes ⊎ IsPartOfBody bytes

@@ -21,7 +21,7 @@ status_line status = codes "HTTP/1.1 " ++ decimal status ++ codes " " ++ reason_
 abbrev pub type_line : List ℕ
 type_line = codes "Content-Type: application/vnd.schemaregistry.v1+json" ++ line_end
 
--- the methods of the path, for a method that it doesn't have (RFC 9110, section 10.2.1)
+-- `Allow` with these methods, those of the path if the request's method isn't one of them; no bytes for `None` (RFC 9110, section 10.2.1)
 abbrev pub allow_line : Option (List ℕ) → List ℕ
 allow_line None = []
 allow_line (Some methods) = codes "Allow: " ++ methods ++ line_end
@@ -30,7 +30,7 @@ allow_line (Some methods) = codes "Allow: " ++ methods ++ line_end
 abbrev pub content_length_line : ℕ → List ℕ
 content_length_line length = codes "Content-Length: " ++ decimal length ++ line_end
 
--- for a response after which the connection ends (RFC 9112, section 9.6)
+-- `Connection: close` if the connection ends after the response, otherwise no bytes (RFC 9112, section 9.6)
 abbrev pub connection_line : Bool → List ℕ
 connection_line true = codes "Connection: close" ++ line_end
 connection_line false = []

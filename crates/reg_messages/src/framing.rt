@@ -2,7 +2,7 @@
 
 ghost use Rattle.std.specs.Prelude.{◌≡◌, ◌≤◌, IfOk, map, length, All};
 ghost use Rattle.httparse.specs.Spans.{IsHeaderWithin, header_bytes};
-ghost use Rattle.reg_messages.specs.Framing.{framing, body_length, max_body};
+ghost use Rattle.reg_messages.specs.Framing.{body_length_from_fields, parse_length, max_body};
 
 use crate::fields::FieldLookup;
 use httparse::spans::HeaderSpan;
@@ -11,10 +11,10 @@ use reg_core::Code;
 /// The maximum size of a body, in bytes.
 pub const MAX_BODY: u64 = 1_048_576;
 
-/// The length in bytes that the text of a `Content-Length` says. `MalformedRequest` unless the text
+/// The body's length in bytes, from a `Content-Length` value. `MalformedRequest` unless the value
 /// is 1 to 19 digits; `BodyTooLarge` above `MAX_BODY`.
 fn parse_length(text: &[u8]) -> Result<usize, Code>
-    ensures value { result ≡ body_length text.now }
+    ensures value { result ≡ parse_length text.now }
     ensures within { IfOk result (λ length. length ≤ max_body) }
 {
     if text.is_empty() || text.len() > 19 {
@@ -43,7 +43,7 @@ fn parse_length(text: &[u8]) -> Result<usize, Code>
 /// the length is above `MAX_BODY`.
 pub fn body_length_from_fields(head: &[u8], fields: &[HeaderSpan]) -> Result<usize, Code>
     requires { All (IsHeaderWithin (length head.now)) fields.now }
-    ensures value { result ≡ framing (map (header_bytes head.now) fields.now) }
+    ensures value { result ≡ body_length_from_fields (map (header_bytes head.now) fields.now) }
     ensures within { IfOk result (λ length. length ≤ max_body) }
 {
     match FieldLookup::by_name(head, fields, b"Transfer-Encoding") {

@@ -9,7 +9,8 @@ use httparse::spans::{HeaderSpan, RequestSpans, parse_request};
 use httparse::{Error, Status};
 use reg_core::Code;
 
-/// The maximum size of a head in bytes, including its empty line.
+/// The maximum size of a head in bytes, including the empty lines before its request line and at
+/// its end.
 pub const MAX_HEAD: usize = 16_384;
 
 /// The spans of a whole message at the front of the bytes: those of its head, and its body's length
@@ -33,7 +34,7 @@ pub enum ParseOutcome {
     /// Otherwise the code of a fault in the head's fields: `TransferCodingNotSupported`,
     /// `MalformedRequest` or `BodyTooLarge`.
     Faulty(Code),
-    /// A head with more fields than there is room for.
+    /// The bytes begin a head with more fields than there is room for. The head may be incomplete.
     TooManyFields,
 }
 

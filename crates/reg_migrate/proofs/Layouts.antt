@@ -10,7 +10,7 @@ use Rattle.reg_tables.specs.Layout.{layout_one, layout_one_unindexed, layout_two
 use Rattle.reg_tables.specs.Contents.{HoldsContents}
 use Rattle.reg_tables.specs.Changes.{marked_layout_two}
 use Rattle.reg_tables.specs.FailedCalls.{IsWriteFault, IsInsertFault}
-use Rattle.reg_migrate.specs.Inside.{CanMigrate, HasLayoutOne, HoldsMigrated, MigratesFrom, TreesHoldMigrated}
+use Rattle.reg_migrate.specs.Inside.{HasLayoutOneIfOpen, HasLayoutOne, HoldsMigrated, MigratesFrom, TreesHoldMigrated}
 
 -- contents under some schema of layout 1 are contents under the database's own schema
 pub holds_under : (schema : Schema) (db : Database) → db.schema ≡ schema → (it : HasLayoutOne db) → HoldsContents schema db it.contents
@@ -34,7 +34,7 @@ migrates_both schema before now one moves other known contents holds = moves con
 
 -- over a closed connection a write fails with a fault; over an open one, as its contract says
 pub fails_either : {X : Type 0} (old new : State) (r : Result X Error) → IfErr r (λ e. IsTrue old.is_open ⊎ IsWriteFault old new e)
-    → IfErr r (λ e. HasLayoutOne old.now → IsInsertFault old new e) → IfErr r (λ e. CanMigrate old → IsInsertFault old new e)
+    → IfErr r (λ e. HasLayoutOne old.now → IsInsertFault old new e) → IfErr r (λ e. HasLayoutOneIfOpen old → IsInsertFault old new e)
 fails_either old new (Ok x) shut fails = tt
 fails_either old new (Err e) (inl is_open) fails = λ can. fails (can is_open)
 fails_either old new (Err e) (inr fault) fails = λ can. inl (inl fault)

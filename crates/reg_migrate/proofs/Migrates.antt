@@ -13,7 +13,7 @@ use Rattle.reg_store.specs.Opening.{FindsLayoutOne}
 use Rattle.reg_store.specs.Spells.{SpellsLayoutOne}
 use Rattle.reg_store.specs.Stores.{AddsNoCrashState}
 use Rattle.reg_migrate.specs.Migrations.{RecoversToMigrated, CrashKeepsStored, Migrates, IsLayoutOneRegistry}
-use Rattle.reg_migrate.specs.Inside.{CanMigrate, HasLayoutOne, HoldsMigrated, IsMigratedOver, TreesHoldMigrated}
+use Rattle.reg_migrate.specs.Inside.{HasLayoutOneIfOpen, HasLayoutOne, HoldsMigrated, IsMigratedOver, TreesHoldMigrated}
 use Rattle.reg_migrate.proofs.Layouts.{taken_if_held}
 use Rattle.reg_migrate.proofs.NoEvidence.{no_evidence_left}
 use Rattle.reg_migrate.proofs.Spelled.{recovers_migrated, spells_migrated}
@@ -51,7 +51,7 @@ module _ (old mid : State) (reads : OnlyReads old mid) (settled : IsTrue old.is_
       reads.settled is_open ∙ (reads.commit_stays.committed is_open ∙ sym (settled was_open))
 
   -- tables that passed can be migrated
-  pub can_migrate : (count : ℕ) → FindsLayoutOne old.now count → CanMigrate mid
+  pub can_migrate : (count : ℕ) → FindsLayoutOne old.now count → HasLayoutOneIfOpen mid
   can_migrate count found is_open = subst HasLayoutOne (sym (same_now is_open)) (record { schema = found.spells.schema; known = found.spells.known; contents = found.spells.contents; holds = found.spells.holds })
 
   -- neither the test nor the migration committed anything

@@ -1,4 +1,4 @@
--- Why `migrate` fails, and what it leaves then.
+-- Why `migrate` fails, and what it leaves then. (Everything here is this project's choice.)
 use Rattle.std.specs.Prelude.{◌≡◌, ◌⊎◌, ◌<◌, ◌==◌, ℕ, Bool, true, false, IsTrue, Result, IfErr, OnErr, if◌then◌else◌}
 use Rattle.sqlite_disk.specs.Disk.{MoreFaults}
 use Rattle.sqlite.specs.Effect.{Database}
@@ -13,7 +13,7 @@ use Rattle.reg_store.specs.Stores.{RecoversLastCommit, AddsNoCrashState}
 use Rattle.reg_migrate.specs.declared.error.MigrateError.{MigrateError}
 use Rattle.reg_migrate.specs.declared.error.MigrateError.TheVariants.{Memory, Disk, NotARegistry, AlreadyNew, NewerLayout}
 
--- the error of `migrate` for an error of `check_first`, which reports layout 2 as a newer layout
+-- The error of `migrate` for a store's error. `check_first` reports layout 2 as newer. `OldLayout` never occurs, as no layout is below 1.
 abbrev pub migrate_error_of : StoreError → MigrateError
 migrate_error_of store.Memory = Memory
 migrate_error_of store.Disk = Disk
@@ -32,7 +32,7 @@ abbrev pub HasDiskCause : State → State → MigrateError → Type 0
 HasDiskCause old new Disk = HasDiskFault old new
 HasDiskCause old new _ = Unit {0}
 
--- `AlreadyNew` and `NewerLayout` have their layout number from the rows of `meta`
+-- if the error is `AlreadyNew`, `meta` names layout 2; if it is `NewerLayout`, `meta` names a layout above 2 with the error's number
 abbrev pub HasMetaNumber : Database → MigrateError → Type 0
 HasMetaNumber db AlreadyNew = ShowsLayout db 2 × (HasFiveTables db.schema → NamesLayout db 2)
 HasMetaNumber db (NewerLayout number) = (2 < number) × ShowsLayout db number × (HasFiveTables db.schema → NamesLayout db number)
@@ -49,14 +49,14 @@ IsErrorForLayout number _ = ⊥
 abbrev pub ReportsNewer : State → MigrateError → Type 0
 ReportsNewer s e = (number : ℕ) → IsTrue s.is_open → 1 < number → HasReadableMeta s.now → NamesLayout s.now number → IsErrorForLayout number e ⊎ IsTrue (is_fault e)
 
--- after an error other than `Disk`, a crash leaves only what it left before, unless the disk failed together with an allocation
+-- after an error other than `Disk`, a crash leaves only what it could leave before, unless the disk failed together with an allocation
 abbrev pub KeepsCrashStates : State → State → MigrateError → Type 0
 KeepsCrashStates old new Disk = Unit {0}
 KeepsCrashStates old new Memory = AddsNoCrashState old new ⊎ MoreFaults old.faults new.faults
 KeepsCrashStates old new _ = AddsNoCrashState old new
 
--- What `migrate` keeps of the connection, for every result. On a clean disk, nothing has changed after an error, a crash leaves what
--- `KeepsCrashStates` allows, and only a disk fault closes the connection.
+-- What `migrate` keeps of the connection, for every result. On a clean disk, nothing has changed after an error. If the connection was open too,
+-- a crash after an error leaves what `KeepsCrashStates` allows, and only a disk fault closes the connection.
 pub record KeepsConnection {T : Type 0} (old new : State) (result : Result T MigrateError) : Type 0 where
   pub nothing : HasCleanDisk new → OnErr result (OnlyReads old new)
   pub before : HasCleanDisk new → IfErr result (λ e. IsTrue old.is_open → KeepsCrashStates old new e)

@@ -20,16 +20,16 @@ HoldsMigrated before db = (schema : Schema) → IsLayoutOne schema → MigratesF
 abbrev pub TreesHoldMigrated : Database → Trees → Type 0
 TreesHoldMigrated before db = HoldsMigrated before (record { schema = layout_two; trees = db })
 
--- the tables are those of layout 1, with some contents
+-- the tables are those of layout 1, with or without the index, and have some contents
 pub record HasLayoutOne (db : Database) : Type 0 where
   pub schema : Schema
   pub known : IsLayoutOne schema
   pub contents : Contents
   pub holds : HoldsContents schema db contents
 
--- the same while the connection is open
-abbrev pub CanMigrate : State → Type 0
-CanMigrate s = IsTrue s.is_open → HasLayoutOne s.now
+-- if the connection is open, the tables are those of layout 1, with some contents
+abbrev pub HasLayoutOneIfOpen : State → Type 0
+HasLayoutOneIfOpen s = IsTrue s.is_open → HasLayoutOne s.now
 
 -- the connection was open and still is, and its last commit has the migrated contents
 pub record IsMigratedOver (old new : State) : Type 0 where

@@ -1,4 +1,4 @@
--- What `migrate` does to layout 1, and what a crash leaves.
+-- What `migrate` does to layout 1, and what a crash leaves. (Everything here is this project's choice.)
 use Rattle.std.specs.Prelude.{◌≡◌, ◌⊎◌, ℕ, length, IsTrue}
 use Rattle.std.specs.FinMap.{empty}
 use Rattle.sqlite.specs.Tree.{Trees}
@@ -42,6 +42,6 @@ pub record RecoversToMigrated (before : Database) (db : Trees) : Type 0 where
   pub found : IsLayoutOneRegistry before
   pub spells : (was : Stored) → SpellsLayoutOne before was → RecoversTo db was
 
--- a crash leaves what the tables of layout 1 spelled, in layout 1 or in layout 2
+-- if the connection was open, a crash leaves what the tables of layout 1 spelled, in layout 1 or in layout 2
 abbrev pub CrashKeepsStored : State → State → Type 0
 CrashKeepsStored old new = IsTrue old.is_open → (was : Stored) → SpellsLayoutOne old.now was → (db : Trees) → new.may_leave db → RecoversToLayoutOne db was ⊎ RecoversTo db was

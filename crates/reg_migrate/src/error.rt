@@ -13,16 +13,17 @@ pub enum MigrateError {
     /// An allocation failed.
     #[error("out of memory")]
     Memory,
-    /// The disk failed, or a limit of the file was reached.
+    /// The disk failed, the file is damaged, or a limit of the file was reached.
     #[error("the disk failed")]
     Disk,
-    /// A table or a column is missing or unknown, or the rows don't spell a registry.
+    /// A table or a column is missing or unknown, the database has a view, or the rows don't spell
+    /// a registry.
     #[error("not a registry")]
     NotARegistry,
-    /// The database has layout 2.
+    /// `meta` names layout 2.
     #[error("the layout is this program's")]
     AlreadyNew,
-    /// The database has a layout above 2, with this number.
+    /// `meta` names a layout above 2, with this number.
     #[error("layout {0} is newer than this program's")]
     NewerLayout(u32),
 }

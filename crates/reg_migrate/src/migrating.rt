@@ -6,7 +6,7 @@ ghost use Rattle.sqlite.specs.Held.{state};
 ghost use Rattle.sqlite.specs.State.{HasCleanDisk, Survives};
 ghost use Rattle.reg_tables.specs.Reads.{OnlyReads};
 ghost use Rattle.reg_migrate.specs.Errors.{KeepsCrashStates, KeepsConnection, is_fault};
-ghost use Rattle.reg_migrate.specs.Inside.{CanMigrate, IsMigratedOver, TreesHoldMigrated};
+ghost use Rattle.reg_migrate.specs.Inside.{HasLayoutOneIfOpen, IsMigratedOver, TreesHoldMigrated};
 ghost use Rattle.reg_migrate.specs.Migrations.{IsReasonOver, RecoversToMigrated, CrashKeepsStored, Migrates};
 
 use crate::error::MigrateError;
@@ -23,7 +23,7 @@ pub struct Report {
     pub versions: u64,
 }
 
-/// Migrates the tables of layout 1, and reports this number of versions.
+/// Migrates the tables of layout 1. The report has the caller's count `versions`.
 fn migrate_connection<S: Alter>(
     connection: Connection<S>,
     versions: u64,
@@ -34,7 +34,7 @@ fn migrate_connection<S: Alter>(
     ensures done { HasCleanDisk (state S.Store result.1)
         → OnOk result.0 (IsMigratedOver (state S.Store connection) (state S.Store result.1)) }
     ensures fault { HasCleanDisk (state S.Store result.1) → IfErr result.0 (λ e.
-        CanMigrate (state S.Store connection) → IsTrue (is_fault e)) }
+        HasLayoutOneIfOpen (state S.Store connection) → IsTrue (is_fault e)) }
     ensures idle { result.1.in_transaction ≡ false }
     ensures nothing { HasCleanDisk (state S.Store result.1)
         → OnErr result.0 (OnlyReads (state S.Store connection) (state S.Store result.1)) }
@@ -55,13 +55,16 @@ fn migrate_connection<S: Alter>(
 }
 
 /// Migrates the registry and its kept replies from layout 1 to layout 2, in one transaction. The
-/// connection is outside a transaction, and the call returns it without a step limit.
+/// connection must be outside a transaction. The call returns it outside a transaction and without
+/// a step limit.
 ///
 /// # Errors
 ///
-/// `AlreadyNew` if `meta` names layout 2, `NewerLayout` if it names a layout above 2, with any
-/// contents of the other tables. `NotARegistry` if the tables spell no registry in layout 1.
-/// `Memory` if an allocation fails, `Disk` if the disk fails or the file reaches a limit.
+/// If the database has no view and `meta` names a layout above 1: `AlreadyNew` for layout 2,
+/// `NewerLayout` for a greater one, with any contents of other tables. Otherwise
+/// `NotARegistry`, if the tables spell no registry in layout 1 or the database has a view.
+/// `Memory` if an allocation fails. `Disk` if the disk fails, the file is damaged, or it reaches a
+/// limit.
 ///
 /// The database stays as it was. But if its tables spelled a registry in layout 1, a crash may
 /// leave layout 2 after `Disk`, or after `Memory` if the disk failed too.
@@ -79,8 +82,8 @@ pub fn migrate<S: Alter>(
     ensures leaves { KeepsConnection (state S.Store connection) (state S.Store result.1) result.0 }
 
     // After `Ok`, a crash leaves layout 2. After an error it leaves layout 2 or what it could leave
-    // before; if layout 1 spelled no registry, only the latter. In every case a crash keeps the
-    // registry.
+    // before; if layout 1 spelled no registry, only the latter. If the connection was open, a crash
+    // keeps the registry in every case.
     ensures crash_after { HasCleanDisk (state S.Store result.1) → OnOk result.0 ((db : Trees)
         → (state S.Store result.1).may_leave db → RecoversToMigrated (state S.Store connection).now db) }
     ensures crash { HasCleanDisk (state S.Store result.1) → (db : Trees)

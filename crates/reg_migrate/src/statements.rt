@@ -10,7 +10,7 @@ ghost use Rattle.reg_tables.specs.Writing.{Transforms, Holding};
 ghost use Rattle.reg_tables.specs.FailedCalls.{IsInsertFault};
 ghost use Rattle.reg_store.specs.Failures.{failure_of, is_fault};
 ghost use Rattle.reg_store.specs.Stores.{KeepsCrashStates};
-ghost use Rattle.reg_migrate.specs.Inside.{CanMigrate, HoldsMigrated, IsMigratedOver, TreesHoldMigrated};
+ghost use Rattle.reg_migrate.specs.Inside.{HasLayoutOneIfOpen, HoldsMigrated, IsMigratedOver, TreesHoldMigrated};
 
 use reg_tables::{
     AutocommitConnection, add_tables, index_versions, is_unindexed_one, mark_layout_two,
@@ -42,7 +42,7 @@ fn migrate_tables<S: Alter>(tx: &mut Transaction<'_, S>, lacks_index: bool) -> R
     ensures migrated { HasCleanDisk (state_in S.Store tx.new)
         → OnOk result (HoldsMigrated (state_in S.Store tx.old).now (state_in S.Store tx.new).now) }
     ensures fault { HasCleanDisk (state_in S.Store tx.new) → IfErr result (λ e.
-        CanMigrate (state_in S.Store tx.old)
+        HasLayoutOneIfOpen (state_in S.Store tx.old)
         → IsInsertFault (state_in S.Store tx.old) (state_in S.Store tx.new) e) }
 {
     if lacks_index {
@@ -57,7 +57,7 @@ pub fn migrate_all<S: Alter>(db: &mut AutocommitConnection<S>) -> Result<(), Err
     requires unlimited { db.now.conn.step_limit ≡ None }
     ensures done { HasCleanDisk (conn_state db.new) → OnOk result (IsMigratedOver (conn_state db.old) (conn_state db.new)) }
     ensures fault { HasCleanDisk (conn_state db.new) → IfErr result (λ e.
-        CanMigrate (conn_state db.old) → IsTrue (is_fault (failure_of e))) }
+        HasLayoutOneIfOpen (conn_state db.old) → IsTrue (is_fault (failure_of e))) }
     ensures nothing { HasCleanDisk (conn_state db.new)
         → OnErr result (KeepsCommit (conn_state db.old) (conn_state db.new)) }
     ensures before { HasCleanDisk (conn_state db.new) → IfErr result (λ e. IsTrue (conn_state db.old).is_open

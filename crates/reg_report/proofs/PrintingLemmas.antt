@@ -50,7 +50,7 @@ module _ {S : Type 0} {g : Ghosts S} where
   lists_early kind a b w w' (Err failure) e unfailed keeps is begun fault =
       subst (λ (f : ReportError). PrintsListing kind a b w w' (Err f)) (sym is) (record {
         frame = keeps_listed a b (Err e) keeps (λ _. tt);
-        refused = λ failed. cc;
+        failed_before = λ failed. cc;
         ok = λ _. tt;
         begun = λ clean unless. begun clean (λ same. unless (ap (λ (f : ReportError). Err f) same));
         fault = λ clean _. fault clean;
@@ -71,7 +71,7 @@ module _ {S : Type 0} {g : Ghosts S} where
       → (HasCleanDisk (state_of b) → (was : Stored) → SpellsWhileOpen (state_of a) was → Appends w w' (listing kind was.registry)) → PrintsListing kind a b w w' (Ok tt)
   lists_whole kind a b w w' unfailed keeps was_open whole = record {
     frame = keeps_listed a b (Ok tt) keeps was_open;
-    refused = λ failed. cc;
+    failed_before = λ failed. cc;
     ok = whole;
     begun = λ clean _ was over.
         (let lines = listing_lines kind was.registry in
@@ -88,7 +88,7 @@ module _ {S : Type 0} {g : Ghosts S} where
   lists_refused kind a w (Err failure) e settles failed disk is =
       subst (λ (f : ReportError). PrintsListing kind a a w w (Err f)) (sym is) (subst (λ (told : StoreError). PrintsListing kind a a w w (Err (Stops told))) (sym disk) (record {
         frame = keeps_listed a a (Err (Stops Disk)) (keeps_still settles a) (λ _. tt);
-        refused = λ _. (refl, refl, refl);
+        failed_before = λ _. (refl, refl, refl);
         ok = λ _. tt;
         begun = λ _ _ was over. begun_none _ w;
         fault = λ _ unfailed. cc;
@@ -102,7 +102,7 @@ module _ {S : Type 0} {g : Ghosts S} where
   lists_ended kind a b w mid w' put r unfailed lists (inl failed) =
       subst (PrintsListing kind a b w w') (sym failed) (record {
         frame = record { failed = lists.frame.failed; clean = lists.frame.clean; was_open = λ _. tt; connection = lists.frame.connection; settled = lists.frame.settled };
-        refused = λ again. cc;
+        failed_before = λ again. cc;
         ok = λ _. tt;
         begun = λ _ unless. absurd (unless refl);
         fault = λ _ _. tt;
@@ -112,7 +112,7 @@ module _ {S : Type 0} {g : Ghosts S} where
   lists_ended kind a b w mid w' put r unfailed lists (inr ended) =
       subst (PrintsListing kind a b w w') (sym ended.0) (record {
         frame = lists.frame;
-        refused = λ again. cc;
+        failed_before = λ again. cc;
         ok = λ clean. on_ok_weaker put (λ whole was over. buffer_flushed w mid w' _ (whole was over) ended.1) (lists.ok clean);
         begun = λ clean unless was over. (let it = lists.begun clean unless was over in (it.0, buffer_flushed w mid w' _ it.1 ended.1));
         fault = lists.fault;

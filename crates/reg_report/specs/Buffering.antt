@@ -9,13 +9,14 @@ use Rattle.reg_report.specs.declared.buffer.OutputBuffer.{OutputBuffer}
 abbrev pub buffered_contents : {W : Type 0} → (W → Option (List ℕ)) → W → OutputBuffer → Option (List ℕ)
 buffered_contents contents writer buffer = append_known (contents writer) buffer.bytes.items
 
--- the bytes were appended; or an allocation failed, and nothing changed; or a write failed
+-- the bytes were appended; or an allocation failed, and nothing changed; or a write failed, and nothing is said of the bytes
 abbrev pub Buffers : Result (Unit {0}) ReportError → Option (List ℕ) → Option (List ℕ) → List ℕ → Type 0
 Buffers (Ok done) old new bytes = Appends old new bytes
 Buffers (Err OutOfMemory) old new bytes = new ≡ old
 Buffers (Err Write) old new bytes = Unit {0}
 Buffers (Err (Store error)) old new bytes = ⊥
 
--- the whole buffer was written, and the result is `put`, the result so far; or a write failed
+-- `old` is what the writer had, followed by the buffered bytes. The writer now has just that, and the result is `so_far`, the result up to here. Or
+-- a write failed, and nothing is said of the bytes.
 abbrev pub FlushesBuffer : Result (Unit {0}) ReportError → Option (List ℕ) → Option (List ℕ) → Result (Unit {0}) ReportError → Type 0
-FlushesBuffer put buffer written result = (result ≡ Err Write) ⊎ ((result ≡ put) × Keeps buffer written)
+FlushesBuffer so_far old new result = (result ≡ Err Write) ⊎ ((result ≡ so_far) × Keeps old new)

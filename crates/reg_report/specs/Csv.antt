@@ -22,6 +22,6 @@ header Schemas = codes "id" ∷ codes "text" ∷ []
 abbrev pub listing : Listing → Registry → List ℕ
 listing kind g = csv_text (header kind ∷ listing_lines kind g)
 
--- a number of these lines was written, from the first on, each in full
+-- the first of these lines, perhaps none or all, were written, each in full
 abbrev pub WritesPrefix : List Fields → Option (List ℕ) → Option (List ℕ) → Type 0
-WritesPrefix lines writer writer' = (count : ℕ) × Appends writer writer' (csv_text (take count lines))
+WritesPrefix lines old new = (count : ℕ) × Appends old new (csv_text (take count lines))

@@ -27,11 +27,11 @@ pub record IsAtStart {S : Type 0} {g : Ghosts S} (kind : Listing) (lines : Lines
   pub unfailed : has_failed (store_of lines) ≡ false
   pub starts : (registry : Registry) → HasYielded lines kind registry []
 
--- this project's choice: what a listing writes, for every result
+-- This project's choice: what a listing writes, and what it keeps of its store. After a failed write, no clause says what was written.
 pub record PrintsListing {S : Type 0} {g : Ghosts S} (kind : Listing) (old new : Store S g) (writer writer' : Option (List ℕ)) (result : Result (Unit {0}) ReportError) : Type 0 where
   pub frame : PreservesListed old new result
   -- a store that has failed yields no line, and nothing is written
-  pub refused : IsTrue (has_failed old) → (store_result result ≡ Err Disk) × (new ≡ old) × (writer' ≡ writer)
+  pub failed_before : IsTrue (has_failed old) → (store_result result ≡ Err Disk) × (new ≡ old) × (writer' ≡ writer)
   -- after `Ok`, the whole listing is written
   pub ok : HasCleanDisk (state_of new) → OnOk result ((was : Stored) → SpellsWhileOpen (state_of old) was → Appends writer writer' (listing kind was.registry))
   -- unless a write failed, a number of whole lines is written, from the header on

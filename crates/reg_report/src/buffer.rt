@@ -28,8 +28,9 @@ impl OutputBuffer {
         }
     }
 
-    /// Appends bytes, and writes the whole buffer if it is then longer than `capacity`. If the
-    /// allocation fails, nothing changes.
+    /// Appends bytes. If the buffer is then longer than `capacity`, writes all of it and empties
+    /// it. If the allocation fails, nothing changes. After a failed write, the buffer keeps its
+    /// bytes.
     pub fn put<W: Write>(&mut self, writer: &mut W, bytes: &[u8]) -> Result<(), ReportError>
         ensures { Buffers result (buffered_contents W.contents writer.old self.old)
             (buffered_contents W.contents writer.new self.new) bytes.now }

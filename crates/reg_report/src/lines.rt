@@ -73,7 +73,7 @@ fn put_header<W: Write>(
     }
 }
 
-/// Writes a line with these fields.
+/// Writes a CSV line with these fields, through the buffer.
 fn put_line<W: Write, T: AsSlice<u8>>(
     alloc: Global,
     writer: &mut W,

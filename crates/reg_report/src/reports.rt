@@ -17,16 +17,17 @@ use std::io::Write;
 /// reading the lines.
 const BUFFER_SIZE: usize = 65_536;
 
-/// Writes as CSV the subjects that have versions, each with its own level and its numbers of live
-/// and soft-deleted versions. The header is `subject,level,live,deleted`. The level is empty if the
-/// subject has none of its own.
+/// Writes as CSV the subjects that have versions, soft-deleted ones too, in the order of their
+/// bytes. Each line has the subject, its own level, and its numbers of live and soft-deleted
+/// versions. The header is `subject,level,live,deleted`. The level is empty if the subject has none
+/// of its own.
 ///
 /// # Errors
 ///
-/// `Store` if the store fails or runs out of memory. `OutOfMemory` if an allocation for the output
-/// fails. After either, what was written is the first lines of the listing, each of them whole;
-/// perhaps none. `Write` if a write fails; then part of a line may have been written. The registry
-/// stays the same in every case.
+/// `Store` if the store fails, runs out of memory, or failed before (then nothing is written).
+/// `OutOfMemory` if an allocation for the output fails. After either, the first lines of the
+/// listing were written, perhaps none, each in full. `Write` if a write fails; then part of a line
+/// may have been written. The registry stays the same in every case.
 pub fn list_subjects<W: Write, S: Alter>(
     alloc: Global,
     store: &mut Store<S>,
@@ -42,10 +43,10 @@ pub fn list_subjects<W: Write, S: Alter>(
 ///
 /// # Errors
 ///
-/// `Store` if the store fails or runs out of memory. `OutOfMemory` if an allocation for the output
-/// fails. After either, what was written is the first lines of the listing, each of them whole;
-/// perhaps none. `Write` if a write fails; then part of a line may have been written. The registry
-/// stays the same in every case.
+/// `Store` if the store fails, runs out of memory, or failed before (then nothing is written).
+/// `OutOfMemory` if an allocation for the output fails. After either, the first lines of the
+/// listing were written, perhaps none, each in full. `Write` if a write fails; then part of a line
+/// may have been written. The registry stays the same in every case.
 pub fn list_versions<W: Write, S: Alter>(
     alloc: Global,
     store: &mut Store<S>,
@@ -61,10 +62,10 @@ pub fn list_versions<W: Write, S: Alter>(
 ///
 /// # Errors
 ///
-/// `Store` if the store fails or runs out of memory. `OutOfMemory` if an allocation for the output
-/// fails. After either, what was written is the first lines of the listing, each of them whole;
-/// perhaps none. `Write` if a write fails; then part of a line may have been written. The registry
-/// stays the same in every case.
+/// `Store` if the store fails, runs out of memory, or failed before (then nothing is written).
+/// `OutOfMemory` if an allocation for the output fails. After either, the first lines of the
+/// listing were written, perhaps none, each in full. `Write` if a write fails; then part of a line
+/// may have been written. The registry stays the same in every case.
 pub fn list_schemas<W: Write, S: Alter>(
     alloc: Global,
     store: &mut Store<S>,
@@ -79,10 +80,10 @@ pub fn list_schemas<W: Write, S: Alter>(
 ///
 /// # Errors
 ///
-/// `Store` if the store fails or runs out of memory. `OutOfMemory` if an allocation for the output
-/// fails. After either, what was written is the first lines of the listing, each of them whole;
-/// perhaps none. `Write` if a write fails; then part of a line may have been written. The registry
-/// stays the same in every case.
+/// `Store` if the store fails, runs out of memory, or failed before (then nothing is written).
+/// `OutOfMemory` if an allocation for the output fails. After either, the first lines of the
+/// listing were written, perhaps none, each in full. `Write` if a write fails; then part of a line
+/// may have been written. The registry stays the same in every case.
 pub fn list<W: Write, S: Alter>(
     alloc: Global,
     store: &mut Store<S>,
@@ -99,10 +100,11 @@ pub fn list<W: Write, S: Alter>(
 ///
 /// # Errors
 ///
-/// `Store` if the store fails or runs out of memory. `OutOfMemory` if an allocation for the output
-/// fails. After either, what was written is the first lines of the listing, each of them whole;
-/// perhaps none. `Write` if a write fails; then part of a line may have been written. The registry
-/// stays the same in every case.
+/// `Store` if the store fails, runs out of memory, or failed before (then nothing is written).
+/// `OutOfMemory` if an allocation for the output fails. After either, the first lines of the
+/// listing were written, perhaps none, each in full. `Write` if a write fails, also one of the
+/// buffered lines after the store or an allocation failed; then part of a line may have been
+/// written. The registry stays the same in every case.
 pub fn list_in_pieces<W: Write, S: Alter>(
     alloc: Global,
     store: &mut Store<S>,

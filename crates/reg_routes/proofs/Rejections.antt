@@ -10,7 +10,7 @@ use Rattle.reg_routes.specs.declared.resource.Resource.{Resource}
 use Rattle.reg_routes.specs.declared.resource.Operation.{Operation}
 use Rattle.reg_routes.specs.Routes.{resource_of, methods_of, operation_for, allow_of}
 use Rattle.reg_routes.specs.Targets.{path_of}
-use Rattle.reg_routes.specs.Deliveries.{Rejection, without_allow, by_method, by_resource, requested, allow_field, IsRejected}
+use Rattle.reg_routes.specs.Deliveries.{Rejection, rejected_without_allow, by_method, by_resource, requested, allow_field, IsRejected}
 
 -- the methods of a rejection are those in the `Allow` field of its fault
 IsDue : Rejection → Type 0
@@ -25,7 +25,7 @@ none_due rejection none reply e = by (reply.status == 405)
     by true = refl
     by false = none
 
-plain_due : (what : Result Delivery Code) (rejection : Rejection) → without_allow what ≡ Err rejection → IsDue rejection
+plain_due : (what : Result Delivery Code) (rejection : Rejection) → rejected_without_allow what ≡ Err rejection → IsDue rejection
 plain_due (Ok delivery) rejection e = absurd (cc)
 plain_due (Err code) rejection e =
     let same : (code, None) ≡ rejection = cc in

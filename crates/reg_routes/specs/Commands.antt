@@ -1,6 +1,6 @@
--- The command of a request, by its operation, path, query and body. `None` if a part of the path isn't UTF-8 or no valid subject, or if the body
--- lacks a string member that the command needs. The number of a part is the number of slashes before it. (Schema Registry API reference, Subjects,
--- Schemas, Config, Compatibility and Mode.)
+-- The command of a request, by its operation, path, query and body. `None` if a part of the path that the command needs isn't UTF-8 after decoding,
+-- or if its subject isn't valid. `None` also if the body lacks a string member that the command needs: a body that isn't JSON has none. The number
+-- of a part is the number of slashes before it. (Schema Registry API reference, Subjects, Schemas, Config, Compatibility and Mode.)
 use Rattle.std.specs.Prelude.{ℕ, Bool, List, codes, Option, Some, option_map, option_and_then}
 use Rattle.reg_core.specs.declared.command.Command.{Command}
 use Rattle.reg_core.specs.declared.command.Command.TheVariants.{SetGlobal, SetLevel, Register, DeleteVersion, DeleteSubject, Global, LevelOf, Lookup, Subjects, Versions, Version, Text, ById, VersionsOfId, Types, Check, CheckAll, SetGlobalMode, SetMode, GlobalMode, ModeOf}
@@ -11,27 +11,27 @@ use Rattle.reg_routes.specs.Targets.{path_text, path_subject}
 use Rattle.reg_routes.specs.Queries.{query_flag}
 use Rattle.reg_routes.specs.Bodies.{body_string_member, body_schema}
 
--- a command with the subject in a part of the path
+-- `then` of the subject in this part of the path; `None` if the part is no valid subject
 abbrev pub for_subject : ℕ → List ℕ → (List ℕ → Option Command) → Option Command
-for_subject n path then = option_and_then then (path_subject n path)
+for_subject slashes path then = option_and_then then (path_subject slashes path)
 
--- a command with the text of a part of the path
+-- `then` of the text of this part of the path; `None` if the part isn't UTF-8 after decoding
 abbrev pub for_text : ℕ → List ℕ → (List ℕ → Option Command) → Option Command
-for_text n path then = option_and_then then (path_text n path)
+for_text slashes path then = option_and_then then (path_text slashes path)
 
--- a command with a string member of the body
+-- `then` of the body's string member with this name; `None` if the body has none
 abbrev pub for_string : List ℕ → List ℕ → (List ℕ → Command) → Option Command
 for_string name body then = option_map then (body_string_member name body)
 
--- a command with the level in the body
+-- `then` of the level's text, the body's string member `compatibility`; `None` if the body has none
 abbrev pub for_level : List ℕ → (List ℕ → Command) → Option Command
 for_level = for_string (codes "compatibility")
 
--- a command with the mode in the body
+-- `then` of the mode's text, the body's string member `mode`; `None` if the body has none
 abbrev pub for_mode : List ℕ → (List ℕ → Command) → Option Command
 for_mode = for_string (codes "mode")
 
--- a command with the schema in the body, and whether the schema is supported: its type is Avro, and it has no references
+-- `then` of the text of the schema in the body, and of whether it is supported (Avro without references); `None` if the body has no such text
 abbrev pub for_schema : List ℕ → (List ℕ → Bool → Command) → Option Command
 for_schema body then = option_map (λ schema. then schema.text schema.supported) (body_schema body)
 

@@ -16,11 +16,11 @@ use Rattle.reg_routes.specs.Targets.{path_of, query_of}
 use Rattle.reg_routes.specs.Commands.{command_from}
 use Rattle.reg_routes.specs.Keys.{retry_key_for}
 
--- the code of a fault, with the path's methods if the message has another method
+-- the code of a fault, and the path's methods if the message's method isn't one of them
 abbrev pub Rejection : Type 0
 Rejection = Code × Option (List ℕ)
 
--- the delivery of a command with its retry key, if it has one; or the code of the key's fault
+-- the delivery of a command with its retry key, or the code of the key's fault
 abbrev pub with_retry_key : Command → Result (Option (List ℕ)) Code → Result Delivery Code
 with_retry_key command (Err code) = Err code
 with_retry_key command (Ok key) = Ok (record { key = key; command = command })
@@ -34,15 +34,15 @@ abbrev pub delivery_from : Option Command → List HeaderField → Result Delive
 delivery_from None fields = Err MalformedRequest
 delivery_from (Some command) fields = with_retry_key command (retry_key_for command (keys_in fields))
 
--- a fault without methods for an `Allow` field
-abbrev pub without_allow : Result Delivery Code → Result Delivery Rejection
-without_allow (Ok delivery) = Ok delivery
-without_allow (Err code) = Err (code, None)
+-- the same delivery, or the fault without methods for an `Allow` field
+abbrev pub rejected_without_allow : Result Delivery Code → Result Delivery Rejection
+rejected_without_allow (Ok delivery) = Ok delivery
+rejected_without_allow (Err code) = Err (code, None)
 
 -- the result of `delivery_from` for an operation on a resource; MethodNotAllowed with the resource's methods if there is no operation
 abbrev pub by_method : Resource → Option Operation → List ℕ → List HeaderField → List ℕ → Result Delivery Rejection
 by_method resource None target fields body = Err (MethodNotAllowed, Some (allow_of resource))
-by_method resource (Some operation) target fields body = without_allow (delivery_from (command_from operation (path_of target) (query_of target) body) fields)
+by_method resource (Some operation) target fields body = rejected_without_allow (delivery_from (command_from operation (path_of target) (query_of target) body) fields)
 
 -- the result of `by_method` for a method on a resource; NotFound if there is no resource
 abbrev pub by_resource : Option Resource → List ℕ → List ℕ → List HeaderField → List ℕ → Result Delivery Rejection
@@ -61,7 +61,7 @@ delivery_of message = requested message.head.method message.head.target (fields_
 abbrev pub requested_by : Request → Result Delivery Rejection
 requested_by r = requested r.method.now r.target.now (fields_in r) r.body.now
 
--- why a message is rejected: by its contents, or because an allocation failed
+-- how a message is rejected: with the code and methods of `what`, or with `BackendFault` and none (the program does so only if an allocation fails)
 abbrev pub IsRejected : Result Delivery Rejection → Code → Option (List ℕ) → Type 0
 IsRejected what code allow = ((code ≡ BackendFault) × (allow ≡ None)) ⊎ (what ≡ Err (code, allow))
 

@@ -11,12 +11,13 @@ use Rattle.reg_core.specs.Machine.{is_write}
 abbrev pub is_key : List ℕ → Bool
 is_key text = nat_lt 0 (length text) && nat_le (length text) max_key_length && list_all is_key_byte text
 
--- the retry key by the values of its field: `None` without a value, or one valid key; otherwise MalformedRequest
-abbrev pub retry_key_field : List (List ℕ) → Result (Option (List ℕ)) Code
-retry_key_field [] = Ok None
-retry_key_field (text ∷ []) = if is_key text then Ok (Some text) else Err MalformedRequest
-retry_key_field (text ∷ other ∷ more) = Err MalformedRequest
+-- The retry key by the values of all fields of its name: `None` without a field, or one valid key. MalformedRequest for an invalid value, also an
+-- empty one, and for several values.
+abbrev pub retry_key_from : List (List ℕ) → Result (Option (List ℕ)) Code
+retry_key_from [] = Ok None
+retry_key_from (text ∷ []) = if is_key text then Ok (Some text) else Err MalformedRequest
+retry_key_from (text ∷ other ∷ more) = Err MalformedRequest
 
 -- The field is ignored in a read.
 abbrev pub retry_key_for : Command → List (List ℕ) → Result (Option (List ℕ)) Code
-retry_key_for command values = if is_write command then retry_key_field values else Ok None
+retry_key_for command values = if is_write command then retry_key_from values else Ok None

@@ -2,7 +2,7 @@
 use Rattle.std.specs.Prelude.{ℕ, ◌==◌, zero, suc, List}
 use Rattle.std.specs.List.{before_first, after_first}
 
--- the bytes before the first slash
+-- the bytes before the first slash, or all without a slash
 abbrev pub before_slash : List ℕ → List ℕ
 before_slash bytes = before_first (λ byte. byte == 47) bytes
 
@@ -13,4 +13,4 @@ after_slash bytes = after_first (λ byte. byte == 47) bytes
 -- the part after this number of slashes; no bytes if there are fewer
 abbrev pub part_at : ℕ → List ℕ → List ℕ
 part_at zero bytes = before_slash bytes
-part_at (suc n) bytes = part_at n (after_slash bytes)
+part_at (suc slashes) bytes = part_at slashes (after_slash bytes)

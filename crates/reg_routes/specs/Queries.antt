@@ -3,7 +3,7 @@ use Rattle.std.specs.Prelude.{ℕ, Bool, false, List, [], ◌∷◌, codes, cond
 use Rattle.std.specs.Str.Lossy.{utf8_lossy}
 use Rattle.form_urlencoded.specs.Form.{raw_pairs, decode}
 
--- a decoded name or value of a form
+-- a decoded name or value of a form, with U+FFFD for bytes that aren't UTF-8
 abbrev pub form_text : List ℕ → List ℕ
 form_text bytes = utf8_lossy (decode bytes)
 

@@ -6,7 +6,7 @@ use Rattle.percent_encoding.specs.Percent.{percent_decode}
 use Rattle.reg_core.specs.Subjects.{is_subject}
 use Rattle.reg_routes.specs.PathParts.{part_at}
 
--- the bytes before the first `?` (RFC 9110, section 7.1; RFC 3986, section 3.3)
+-- the bytes before the first `?`, or all without it (RFC 9110, section 7.1; RFC 3986, section 3.3)
 abbrev pub path_of : List ℕ → List ℕ
 path_of target = before_first (λ byte. byte == 63) target
 
@@ -18,11 +18,11 @@ query_of target = after_first (λ byte. byte == 63) target
 abbrev pub valid_utf8 : List ℕ → Option (List ℕ)
 valid_utf8 bytes = if is_utf8 bytes then Some bytes else None
 
--- the text of a part, percent-decoded once (RFC 3986, section 2.1)
+-- the text of a part, percent-decoded once (RFC 3986, section 2.1); `None` if it isn't UTF-8 then
 abbrev pub decoded_part : List ℕ → Option (List ℕ)
 decoded_part part = valid_utf8 (percent_decode part)
 
--- the text of the path segment after this number of slashes
+-- the percent-decoded text of the part after this number of slashes; `None` if it isn't UTF-8
 abbrev pub path_text : ℕ → List ℕ → Option (List ℕ)
 path_text slashes path = decoded_part (part_at slashes path)
 
@@ -30,6 +30,6 @@ path_text slashes path = decoded_part (part_at slashes path)
 abbrev pub valid_subject : List ℕ → Option (List ℕ)
 valid_subject text = if is_subject text then Some text else None
 
--- the subject in the path segment after this number of slashes
+-- the subject in the part after this number of slashes; `None` if the part is no valid subject
 abbrev pub path_subject : ℕ → List ℕ → Option (List ℕ)
 path_subject slashes path = option_and_then valid_subject (path_text slashes path)

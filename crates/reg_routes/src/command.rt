@@ -256,8 +256,9 @@ impl<'a> RequestParts<'a> {
         }))
     }
 
-    /// The command of this operation. `None` if a part of the path isn't UTF-8 or no valid subject,
-    /// or if the body lacks a string member that the command needs.
+    /// The command of this operation. `None` if a part of the path that the command needs isn't
+    /// UTF-8 after decoding, or if its subject isn't valid. `None` also if the body lacks a string
+    /// member that the command needs: a body that isn't JSON has none.
     ///
     /// # Errors
     ///

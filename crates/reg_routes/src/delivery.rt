@@ -1,7 +1,7 @@
 //! The delivery that a request makes, or why it is rejected.
 
 ghost use Rattle.std.specs.Prelude.{◌≡◌, ◌⊎◌, MatchResult, option_map, if◌then◌else◌};
-ghost use Rattle.reg_routes.specs.Keys.{is_key, retry_key_for, retry_key_field};
+ghost use Rattle.reg_routes.specs.Keys.{is_key, retry_key_for, retry_key_from};
 ghost use Rattle.reg_routes.specs.Deliveries.{requested_by, delivery_from, keys_in, IsRejected};
 ghost use Rattle.reg_messages.specs.BorrowedRequests.{fields_in};
 ghost use Rattle.reg_routes.specs.Commands.{command_in};
@@ -27,8 +27,8 @@ fn parse_key(text: &[u8]) -> Option<Key<'_>>
 
 /// The retry key in the field `Registry-Retry-Key`, or `None` without the field. `MalformedRequest`
 /// if the field is repeated or its value is no valid key.
-fn retry_key_field<'a>(request: &Request<'a>) -> Result<Option<Key<'a>>, Code>
-    ensures { result ≡ retry_key_field (keys_in (fields_in request.entry.now)) }
+fn retry_key_from<'a>(request: &Request<'a>) -> Result<Option<Key<'a>>, Code>
+    ensures { result ≡ retry_key_from (keys_in (fields_in request.entry.now)) }
 {
     match FieldLookup::by_name(request.head, request.fields, b"Registry-Retry-Key") {
         FieldLookup::Missing => Ok(None),
@@ -45,7 +45,7 @@ fn retry_key_for<'a>(command: &Command, request: &Request<'a>) -> Result<Option<
     ensures { result ≡ retry_key_for command.now (keys_in (fields_in request.entry.now)) }
 {
     if command.is_write() {
-        retry_key_field(request)
+        retry_key_from(request)
     } else {
         Ok(None)
     }
@@ -86,7 +86,7 @@ fn delivery_for<'a>(
     Ok(Delivery { key, command })
 }
 
-/// The delivery that a request makes: a command, and the retry key of a write if it has one.
+/// The delivery that a request makes: a command, and for a write its retry key, or `None`.
 ///
 /// # Errors
 ///

@@ -5,12 +5,12 @@ ghost use Rattle.reg_routes.specs.PathParts.{part_at};
 
 use crate::split_at_byte::split_at_byte;
 
-/// The part of the path after `count` slashes. Empty if the path has fewer.
-pub fn part_at(path: &[u8], count: u32) -> &[u8]
-    ensures { result.now ≡ part_at count path.entry.now }
+/// The part of the path after `slashes` slashes. Empty if the path has fewer.
+pub fn part_at(path: &[u8], slashes: u32) -> &[u8]
+    ensures { result.now ≡ part_at slashes path.entry.now }
 {
     let mut rest = path;
-    for _ in 0..count {
+    for _ in 0..slashes {
         rest = split_at_byte(rest, b'/').1;
     }
     split_at_byte(rest, b'/').0

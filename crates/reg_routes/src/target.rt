@@ -40,15 +40,15 @@ impl<'a> Target<'a> {
         Target { path, query }
     }
 
-    /// The percent-decoded part of the path after `count` slashes, or `None` if that isn't UTF-8.
+    /// The percent-decoded part of the path after `slashes` slashes, or `None` if that isn't UTF-8.
     ///
     /// # Errors
     ///
     /// `OutOfMemory` if an allocation fails.
-    pub fn path_text(&self, alloc: Global, count: u32) -> Result<Option<Text>, OutOfMemory>
-        ensures { IfOk result (λ text. text ≡ path_text count self.now.path.now) }
+    pub fn path_text(&self, alloc: Global, slashes: u32) -> Result<Option<Text>, OutOfMemory>
+        ensures { IfOk result (λ text. text ≡ path_text slashes self.now.path.now) }
     {
-        decoded_part(alloc, part_at(self.path, count))
+        decoded_part(alloc, part_at(self.path, slashes))
     }
 
     /// The same part as a subject, or `None` if it isn't a valid one.
@@ -56,10 +56,10 @@ impl<'a> Target<'a> {
     /// # Errors
     ///
     /// `OutOfMemory` if an allocation fails.
-    pub fn path_subject(&self, alloc: Global, count: u32) -> Result<Option<Subject>, OutOfMemory>
-        ensures { IfOk result (λ subject. subject ≡ path_subject count self.now.path.now) }
+    pub fn path_subject(&self, alloc: Global, slashes: u32) -> Result<Option<Subject>, OutOfMemory>
+        ensures { IfOk result (λ subject. subject ≡ path_subject slashes self.now.path.now) }
     {
-        match self.path_text(alloc, count)? {
+        match self.path_text(alloc, slashes)? {
             Some(text) => Ok(Subject::new(text.into_string())),
             None => Ok(None),
         }

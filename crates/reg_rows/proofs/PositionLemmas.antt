@@ -16,7 +16,7 @@ use Rattle.std.proofs.lemmas.List.Elements.{All-contains, All-map, All-from_recu
 use Rattle.std.proofs.lemmas.List.Sorted.{Contains-permutation, IsPermutation-map, IsPermutation-sym, searchable_from_sorted}
 use Rattle.std.proofs.lemmas.Map.Lookups.{exact_bytes, exact_unsigned, exact_pairs}
 use Rattle.reg_core.specs.Registry.{RowKey}
-use Rattle.reg_rows.specs.Positions.{VersionPosition, IsContiguousFor, AreContiguous, HaveEvidence, version_view, position_view}
+use Rattle.reg_rows.specs.Positions.{PositionKey, IsContiguousFor, AreContiguous, HaveEvidence, version_view, position_view}
 use Rattle.reg_rows.specs.Inside.Search.{version_order, position_order, HasVersion, HasPredecessor, HasPredecessorIn}
 
 -- ---- a search
@@ -64,9 +64,9 @@ version_exact : (x y : RowKey) → version_order x y ≡ Equal → x ≡ y
 version_exact = exact_pairs (slice_cmp nat_cmp) nat_cmp exact_bytes exact_unsigned
 
 position_total : IsTotalOrder position_order
-position_total = then_total (on_total (λ (p : VersionPosition). p.0) version_total) (on_total (λ (p : VersionPosition). p.1) nat_cmp_total)
+position_total = then_total (on_total (λ (p : PositionKey). p.0) version_total) (on_total (λ (p : PositionKey). p.1) nat_cmp_total)
 
-position_exact : (x y : VersionPosition) → position_order x y ≡ Equal → x ≡ y
+position_exact : (x y : PositionKey) → position_order x y ≡ Equal → x ≡ y
 position_exact = exact_pairs version_order nat_cmp version_exact exact_unsigned
 
 pub version_search : (sorted : List (Bor (List ℕ) × ℕ)) (key : Bor (List ℕ) × ℕ) → Any (λ y. version_order (version_view y) (version_view key) ≡ Equal) sorted ↔ Contains (map version_view sorted) (version_view key)
@@ -118,16 +118,16 @@ permuted_back f xs ys y same = permuted f ys xs y (IsPermutation-sym xs ys same)
 -- ---- positions
 
 -- the greatest position of a version, or 0 if it has none
-record Greatest (version : RowKey) (positions : List VersionPosition) : Type 0 where
+record Greatest (version : RowKey) (positions : List PositionKey) : Type 0 where
   at : ℕ
   above : (position : ℕ) → Contains positions (version, position) → position ≤ at
   there : (at ≡ 0) ⊎ Contains positions (version, at)
 
-module _ (version : RowKey) (position : VersionPosition) (positions : List VersionPosition) (rest : Greatest version positions) where
+module _ (version : RowKey) (position : PositionKey) (positions : List PositionKey) (rest : Greatest version positions) where
   after_other : (position.0 ≡ version → ⊥) → Greatest version (position ∷ positions)
   after_other other = record {
     at = rest.at;
-    above = λ p h. elim (cons_cases position positions (version, p) h) [ inl e ↦ absurd (other (ap (λ (q : VersionPosition). q.0) e)) | inr h ↦ rest.above p h ];
+    above = λ p h. elim (cons_cases position positions (version, p) h) [ inl e ↦ absurd (other (ap (λ (q : PositionKey). q.0) e)) | inr h ↦ rest.above p h ];
     there = elim (rest.there) [ inl none ↦ inl none | inr h ↦ inr (later position positions (version, rest.at) h) ];
   }
 
@@ -135,24 +135,24 @@ module _ (version : RowKey) (position : VersionPosition) (positions : List Versi
   after_own own = elim (cases_lt rest.at position.1) [
     | inl less ↦ record {
       at = position.1;
-      above = λ p h. elim (cons_cases position positions (version, p) h) [ inl e ↦ (let same : position.1 ≡ p = ap (λ (q : VersionPosition). q.1) e in omega arith) | inr h ↦ (let low = rest.above p h in omega arith) ];
+      above = λ p h. elim (cons_cases position positions (version, p) h) [ inl e ↦ (let same : position.1 ≡ p = ap (λ (q : PositionKey). q.1) e in omega arith) | inr h ↦ (let low = rest.above p h in omega arith) ];
       there = inr (here position positions (version, position.1) (ap (λ (v : RowKey). (v, position.1)) own));
     }
     | inr more ↦ record {
       at = rest.at;
-      above = λ p h. elim (cons_cases position positions (version, p) h) [ inl e ↦ (let same : position.1 ≡ p = ap (λ (q : VersionPosition). q.1) e in omega arith) | inr h ↦ rest.above p h ];
+      above = λ p h. elim (cons_cases position positions (version, p) h) [ inl e ↦ (let same : position.1 ≡ p = ap (λ (q : PositionKey). q.1) e in omega arith) | inr h ↦ rest.above p h ];
       there = elim (rest.there) [ inl none ↦ inl none | inr h ↦ inr (later position positions (version, rest.at) h) ];
     }
   ]
 
-greatest : (version : RowKey) (positions : List VersionPosition) → Greatest version positions
+greatest : (version : RowKey) (positions : List PositionKey) → Greatest version positions
 greatest version [] = record { at = 0; above = λ p h. absurd (omega (arith, h.1)); there = inl refl }
 greatest version (position ∷ positions) = elim (same_or_not version_order version_total version_exact position.0 version) [
   | inl own ↦ after_own version position positions (greatest version positions) own
   | inr other ↦ after_other version position positions (greatest version positions) other
 ]
 
-module _ (positions : List VersionPosition) (follow : (position : VersionPosition) → Contains positions position → HasPredecessor positions position) (version : RowKey) where
+module _ (positions : List PositionKey) (follow : (position : PositionKey) → Contains positions position → HasPredecessor positions position) (version : RowKey) where
   -- if the list has a position of the version, it has all smaller ones
   below : (n : ℕ) → Contains positions (version, n) → (p : ℕ) → 0 < p → p ≤ n → Contains positions (version, p)
   below zero h p low high = absurd (omega arith)
@@ -173,7 +173,7 @@ module _ (positions : List VersionPosition) (follow : (position : VersionPositio
     );
   }
 
-follows : (positions : List VersionPosition) → AreContiguous positions → (position : VersionPosition) → Contains positions position → HasPredecessor positions position
+follows : (positions : List PositionKey) → AreContiguous positions → (position : PositionKey) → Contains positions position → HasPredecessor positions position
 follows positions are position h =
     let c = are position.0 in
     let within = (c.positions position.1).0 h in
@@ -183,7 +183,7 @@ follows positions are position h =
 
 -- sorting keeps the members
 module _ (evidence sorted : List (Bor (List ℕ) × ℕ)) (positions : List (Bor (List ℕ) × ℕ × ℕ)) (same : IsPermutation evidence sorted) where
-  abbrev HasOwn : VersionPosition → Type 0
+  abbrev HasOwn : PositionKey → Type 0
   HasOwn position = Contains (map version_view sorted) position.0
 
   pub evidence_sorted : AllByRecursion (HasVersion sorted) positions ↔ HaveEvidence (map version_view evidence) (map position_view positions)
@@ -193,10 +193,10 @@ module _ (evidence sorted : List (Bor (List ℕ) × ℕ)) (positions : List (Bor
   )
 
 module _ (positions sorted : List (Bor (List ℕ) × ℕ × ℕ)) (same : IsPermutation positions sorted) where
-  to_sorted : (position : VersionPosition) → HasPredecessor (map position_view positions) position → HasPredecessor (map position_view sorted) position
+  to_sorted : (position : PositionKey) → HasPredecessor (map position_view positions) position → HasPredecessor (map position_view sorted) position
   to_sorted position f = (f.0, elim (f.1) [ inl one ↦ inl one | inr before ↦ inr (permuted position_view positions sorted (position.0, position.1 - 1) same before) ])
 
-  from_sorted : (position : VersionPosition) → HasPredecessor (map position_view sorted) position → HasPredecessor (map position_view positions) position
+  from_sorted : (position : PositionKey) → HasPredecessor (map position_view sorted) position → HasPredecessor (map position_view positions) position
   from_sorted position f = (f.0, elim (f.1) [ inl one ↦ inl one | inr before ↦ inr (permuted_back position_view positions sorted (position.0, position.1 - 1) same before) ])
 
   -- each position is 1 or has its predecessor, exactly if the positions are 1 to their number

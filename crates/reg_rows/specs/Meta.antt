@@ -9,10 +9,10 @@ use Rattle.reg_core.specs.Numbers.{parse_number}
 abbrev pub MetaPair : Type 0
 MetaPair = List ℕ × List ℕ
 
--- the value of the first row with the name
-abbrev pub value_at : List ℕ → List MetaPair → Option (List ℕ)
-value_at name [] = None
-value_at name (row ∷ rows) = if bytes_eq row.0 name then Some row.1 else value_at name rows
+-- the value of the first row with the name; `None` if no row has it
+abbrev pub value_of : List ℕ → List MetaPair → Option (List ℕ)
+value_of name [] = None
+value_of name (row ∷ rows) = if bytes_eq row.0 name then Some row.1 else value_of name rows
 
 -- the names that `meta` has in layout 1
 abbrev pub layout_one_names : List (List ℕ)
@@ -44,18 +44,18 @@ has_mode (Some value) = is_some (mode_of value)
 abbrev pub number_in : List ℕ → Option ℕ
 number_in text = parse_number 999999999 text
 
--- the layout number of the rows; `None` if they have no valid number, or another format than `avroreg`
-abbrev pub layout_in : List MetaPair → Option ℕ
-layout_in rows = if has_value (codes "avroreg") (value_at (codes "format") rows) then option_and_then number_in (value_at (codes "layout") rows) else None
+-- the layout number of the rows; `None` unless they have the format `avroreg` and a valid number
+abbrev pub layout_of : List MetaPair → Option ℕ
+layout_of rows = if has_value (codes "avroreg") (value_of (codes "format") rows) then option_and_then number_in (value_of (codes "layout") rows) else None
 
 -- the format `avroreg`, this layout number, and a global level
 abbrev pub has_common : List ℕ → List MetaPair → Bool
-has_common number rows = has_value (codes "avroreg") (value_at (codes "format") rows) && has_value number (value_at (codes "layout") rows) && has_level (value_at (codes "global") rows)
+has_common number rows = has_value (codes "avroreg") (value_of (codes "format") rows) && has_value number (value_of (codes "layout") rows) && has_level (value_of (codes "global") rows)
 
--- a `meta` table of layout 1, with no other name
+-- a `meta` table of layout 1: the format `avroreg`, layout number 1, a global level, and no other name
 abbrev pub is_layout_one_meta : List MetaPair → Bool
 is_layout_one_meta rows = has_common (codes "1") rows && has_only_known_names layout_one_names rows
 
--- a `meta` table of layout 2: with a global mode, and no other name
+-- a `meta` table of layout 2: the format `avroreg`, layout number 2, a global level, a global mode, and no other name
 abbrev pub is_layout_two_meta : List MetaPair → Bool
-is_layout_two_meta rows = has_common (codes "2") rows && has_mode (value_at (codes "mode") rows) && has_only_known_names layout_two_names rows
+is_layout_two_meta rows = has_common (codes "2") rows && has_mode (value_of (codes "mode") rows) && has_only_known_names layout_two_names rows

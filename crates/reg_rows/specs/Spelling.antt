@@ -14,7 +14,7 @@ use Rattle.reg_core.specs.Replies.{IsKeptStatus}
 use Rattle.reg_core.specs.Registry.{RowKey, max_number}
 use Rattle.reg_core.specs.Subjects.{is_subject}
 use Rattle.reg_rows.specs.Meta.{MetaPair, is_layout_one_meta, is_layout_two_meta}
-use Rattle.reg_rows.specs.Positions.{VersionPosition, AreContiguous, HaveEvidence}
+use Rattle.reg_rows.specs.Positions.{PositionKey, AreContiguous, HaveEvidence}
 use Rattle.reg_rows.specs.declared.tables.Tables.{Tables}
 
 -- a text in a row
@@ -37,7 +37,7 @@ abbrev pub AreConsecutive : ℕ → List ℕ → Type 0
 AreConsecutive first [] = ⊤
 AreConsecutive first (number ∷ numbers) = (number ≡ first) × AreConsecutive (first + 1) numbers
 
--- each row has the identity text of a schema, and the ids are 1, 2, .. in this order, up to the maximum
+-- each row has the identity text of a schema, and the ids are 1, 2, .. in this order, and at most `max_number`
 pub record AreTexts (rows : List (ℕ × Text)) : Type 0 where
   pub numbered : AreConsecutive 1 (map (λ row. row.0) rows)
   pub few : length rows ≤ max_number
@@ -89,7 +89,7 @@ IsModeRow row = FitsModes (string_bytes row.0) (string_bytes row.1)
 
 -- ---- evidence, and the ids that a version was checked against
 
--- the third column is the name of a level; subject and number are free, and the table enforces that the version exists
+-- the third column is the name of a level; subject and number aren't tested, since the table enforces that the version exists
 abbrev pub IsEvidenceRow : Text × ℕ × Text → Type 0
 IsEvidenceRow row = IsLevelName (string_bytes row.2)
 
@@ -98,7 +98,7 @@ abbrev pub version_of : Text × ℕ × Text → RowKey
 version_of row = (string_bytes row.0, row.1)
 
 -- the version and the position of a row of `against`
-abbrev pub version_position : Text × ℕ × ℕ × ℕ → VersionPosition
+abbrev pub version_position : Text × ℕ × ℕ × ℕ → PositionKey
 version_position row = ((string_bytes row.0, row.1), row.2)
 
 -- ---- meta
@@ -131,7 +131,7 @@ rows_in t = record {
   against = t.against.items;
 }
 
--- the tables that both layouts share
+-- the tables with the same rules in both layouts: the rows of `texts`, `versions`, `levels` and `kept` are valid
 pub record FitsBase (rows : Rows) : Type 0 where
   pub texts : AreTexts rows.texts
   pub versions : AllByRecursion IsVersionRow rows.versions

@@ -2,14 +2,14 @@
 //! mode.
 
 ghost use Rattle.std.specs.Prelude.{IsTrue, ◌↔◌, ◌≡◌, map, option_map, string_bytes};
-ghost use Rattle.reg_rows.specs.Meta.{value_at, layout_one_names, layout_two_names, is_name, has_only_known_names, layout_in, has_common, is_layout_one_meta, is_layout_two_meta};
+ghost use Rattle.reg_rows.specs.Meta.{value_of, layout_one_names, layout_two_names, is_name, has_only_known_names, layout_of, has_common, is_layout_one_meta, is_layout_two_meta};
 ghost use Rattle.reg_rows.specs.Spelling.{meta_pair};
 
 use reg_core::{Level, Mode, parse_number};
 
 /// The value of the first row with this name, or `None` if there is none.
 fn value_of<'a>(rows: &'a [(String, String)], name: &str) -> Option<&'a str>
-    ensures { option_map (λ value. value.now) result ≡ value_at name.now (map meta_pair rows.now) }
+    ensures { option_map (λ value. value.now) result ≡ value_of name.now (map meta_pair rows.now) }
 {
     for row in rows {
         if row.0.as_str() == name {
@@ -22,10 +22,10 @@ fn value_of<'a>(rows: &'a [(String, String)], name: &str) -> Option<&'a str>
 /// The greatest layout number.
 const MAX_LAYOUT: u32 = 999_999_999;
 
-/// The layout number in the rows of `meta`, 1 to 999,999,999. `None` if they have no such number,
-/// or another format than `avroreg`.
+/// The layout number in the rows of `meta`, 1 to 999,999,999. `None` unless they have such a number
+/// and the format `avroreg`.
 pub fn layout_of(rows: &[(String, String)]) -> Option<u32>
-    ensures { result ≡ layout_in (map meta_pair rows.now) }
+    ensures { result ≡ layout_of (map meta_pair rows.now) }
 {
     if value_of(rows, "format") != Some("avroreg") {
         return None;
@@ -81,7 +81,7 @@ fn has_common(rows: &[(String, String)], number: &str) -> bool
         && Level::parse(global).is_some()
 }
 
-/// Whether the rows are a `meta` table of layout 1: the format, the layout number and a global
+/// Whether the rows are a `meta` table of layout 1: the format `avroreg`, layout number 1, a global
 /// level, and no other name.
 pub fn is_layout_one_meta(rows: &[(String, String)]) -> bool
     ensures { result ≡ is_layout_one_meta (map meta_pair rows.now) }
@@ -89,8 +89,8 @@ pub fn is_layout_one_meta(rows: &[(String, String)]) -> bool
     has_common(rows, "1") && has_only_layout_one_names(rows)
 }
 
-/// Whether the rows are a `meta` table of layout 2: the format, the layout number, a global level
-/// and a global mode, and no other name.
+/// Whether the rows are a `meta` table of layout 2: the format `avroreg`, layout number 2, a global
+/// level, a global mode, and no other name.
 pub fn is_layout_two_meta(rows: &[(String, String)]) -> bool
     ensures { result ≡ is_layout_two_meta (map meta_pair rows.now) }
 {

@@ -73,8 +73,8 @@ fn positions_of(
     Ok(positions)
 }
 
-/// Whether each version in `against` has a row of `evidence`, and its positions are 1, 2, .. up to
-/// their number.
+/// Whether each version in `against` has a row of `evidence`, and its positions are 1, 2, ..
+/// without a gap, in any order. Duplicates aren't detected.
 fn fits_against(
     alloc: Global,
     evidence: &[(String, u32, String)],
@@ -113,7 +113,8 @@ fn fits_layout(alloc: Global, tables: &Tables) -> Result<bool, AllocError>
     fits_layout_two(alloc, tables)
 }
 
-/// Whether the tables that both layouts share are valid: `texts`, `versions`, `levels` and `kept`.
+/// Whether the tables with the same rules in both layouts are valid: `texts`, `versions`, `levels`
+/// and `kept`.
 fn fits_base(alloc: Global, tables: &Tables) -> Result<bool, OutOfMemory>
     ensures { IfOk result (λ yes. IsTrue yes ↔ FitsBase (rows_in tables.now)) }
 {

@@ -37,7 +37,7 @@ abbrev pub RecoversAcknowledged : {S : Type 0} {g : Ghosts S} → Service S g �
 RecoversAcknowledged old new was xs = ((db : Trees) → (state_in new).may_leave db → RecoversExchanges was (served xs) db) ⊎ RecoversInFlight old new was xs
 
 -- This project's choice: the exchanges other than those with reply 50001 lead from `was` to `now`, each with the reply that is due. They
--- are durable: a crash preserves every acknowledged one, with or without one delivery in progress.
+-- are durable: if the connection was open over `was`, a crash preserves every acknowledged one, with or without one delivery in progress.
 pub record ServesDurably {S : Type 0} {g : Ghosts S} (old new : Service S g) (was now : Stored) (xs : List Exchange) : Type 0 where
   pub serves : Serves was (served xs) now
   -- if all evidence was true, it still is

@@ -34,7 +34,7 @@ is_new k before key = is_none (k key) && not (list_any (λ x. has_key key x.0) b
 abbrev pub is_first : Kept → List Exchange → Delivery → Bool
 is_first k before d = is_write d.command && option_map_or (is_new k before) (key_of d) true
 
--- The commands of the first deliveries in a list that follows `before`, in order.
+-- The commands of the first deliveries in the second list, which comes after `before`, in order.
 abbrev pub firsts_after : Kept → List Exchange → List Exchange → List Command
 firsts_after k before [] = []
 firsts_after k before (x ∷ xs) =

@@ -36,11 +36,12 @@ ServesOver old new xs = (was : Stored) → SpellsWhileOpen old was → ServesTo 
 abbrev pub AreBackendFaults : List ReplyView → Type 0
 AreBackendFaults replies = All (λ reply. reply ≡ fault BackendFault) replies
 
--- This project's choice: what each call over a store preserves. `OnlyFaultReplies` says that every reply of the call is 50001.
+-- This project's choice: each call keeps a failed store failed, an unclean disk unclean and, on a clean disk, a closed connection closed. It may
+-- change the tables. `OnlyFaultReplies` says that every reply of the call is 50001.
 pub record PreservesStore {S : Type 0} {g : Ghosts S} (old new : Store S g) (OnlyFaultReplies : Type 0) : Type 0 where
   -- if the store had failed, it still has, and every reply is 50001
   pub failed : IsTrue (has_failed old) → OnlyFaultReplies × IsTrue (has_failed new)
-  -- on a clean disk, if the connection was closed, every reply is 50001, and a crash leaves only what it left before
+  -- on a clean disk, if the connection was closed, every reply is 50001, and a crash leaves only what it could leave before
   pub closed : HasCleanDisk (state_of new) → (IsTrue (state_of old).is_open → ⊥) → OnlyFaultReplies × AddsNoCrashState (state_of old) (state_of new)
   -- an unclean disk stays unclean
   pub clean : HasCleanDisk (state_of new) → HasCleanDisk (state_of old)

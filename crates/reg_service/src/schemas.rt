@@ -26,7 +26,7 @@ pub(crate) struct SchemaCaches {
 }
 
 impl SchemaCaches {
-    /// Empty caches. They allocate nothing.
+    /// Empty caches. They allocate nothing before the first schema.
     pub fn new() -> SchemaCaches {
         SchemaCaches {
             registered: SchemaCache::new(),
@@ -84,8 +84,10 @@ impl SchemaCaches {
         }
     }
 
-    /// Stores the schema by the sent text. Only a text that was sent recently evicts others from a
-    /// full cache, so a text that is sent once evicts nothing.
+    /// Stores the schema under the hash of the sent text. If the cache is full, a text that was
+    /// sent recently evicts others, and the schema of any other text is dropped. So a text that is
+    /// sent once evicts nothing, unless its slot has its hash: from another text, or 0 from the
+    /// start. It may replace a cached text with an equal hash.
     fn keep_sent(&mut self, alloc: Global, text: &str, schema: Schema)
         requires { denoted_nodes text.now ≡ Some (nodes_view schema) }
     {

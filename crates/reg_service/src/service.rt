@@ -34,7 +34,7 @@ pub struct Service<S: Alter> {
 }
 
 impl<S: Alter> Service<S> {
-    /// A service over a store. It allocates nothing.
+    /// A service over a store. This call allocates nothing.
     pub fn new(alloc: Global, store: Store<S>) -> Service<S>
         ensures { store_in result ≡ store }
     {
@@ -168,7 +168,7 @@ impl<S: Alter> Service<S> {
         }
     }
 
-    /// Executes a command whose reply isn't kept.
+    /// Executes a read, or a write without a key. Its reply isn't kept.
     fn answer_unkept(&mut self, command: &Command) -> Result<Reply, AnswerError>
         ensures frame { PreservesService self.old self.new (OnOk result ⊥) }
         ensures fails { IsTrue (has_failed (store_in self.new)) → OnOk result ⊥ }

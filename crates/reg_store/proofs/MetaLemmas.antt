@@ -26,7 +26,7 @@ use Rattle.reg_tables.proofs.ListingLemmas.{find_had, stored, listed_if_shown}
 use Rattle.reg_tables.proofs.UniqueKeys.{rowids_of}
 use Rattle.reg_tables.proofs.Tables.{openable_has_eight, five, eight_has_five}
 use Rattle.reg_tables.proofs.Statements.{laid_out, one_has_five}
-use Rattle.reg_rows.specs.Meta.{value_at, layout_one_names, layout_two_names, has_value, has_level, has_mode, has_common, has_only_known_names, number_in, layout_in}
+use Rattle.reg_rows.specs.Meta.{value_of, layout_one_names, layout_two_names, has_value, has_level, has_mode, has_common, has_only_known_names, number_in, layout_of}
 use Rattle.reg_store.specs.declared.error.StoreError.{StoreError}
 use Rattle.reg_store.specs.declared.error.StoreError.TheVariants.{Memory, Disk, NotARegistry, OldLayout, NewerLayout}
 use Rattle.reg_store.specs.declared.layout.Layout.{Layout}
@@ -41,18 +41,18 @@ use Rattle.reg_store.proofs.Failing.{fault_if_by, fault_by, disk_cause_if_by, nu
 use Rattle.reg_store.proofs.Maps.{same_bytes}
 use Rattle.reg_store.proofs.CheckLemmas.{framed, some_known, some_can_be_read}
 
-layout_named : (number : ℕ) (text : List ℕ) (lines : List RawMeta) → number_in text ≡ Some number → has_common text (pairs_of lines) ≡ true → layout_in (pairs_of lines) ≡ Some number
+layout_named : (number : ℕ) (text : List ℕ) (lines : List RawMeta) → number_in text ≡ Some number → has_common text (pairs_of lines) ≡ true → layout_of (pairs_of lines) ≡ Some number
 layout_named number text lines is common =
-    let format = has_value (codes "avroreg") (value_at (codes "format") (pairs_of lines)) in
-    let layout = has_value text (value_at (codes "layout") (pairs_of lines)) in
-    let one = (and_parts format layout (and_parts (format && layout) (has_level (value_at (codes "global") (pairs_of lines))) common).0).0 in
-    ap (λ b. if b then option_and_then number_in (value_at (codes "layout") (pairs_of lines)) else None) one ∙ ap (option_and_then number_in) (layout_is lines text common) ∙ is
+    let format = has_value (codes "avroreg") (value_of (codes "format") (pairs_of lines)) in
+    let layout = has_value text (value_of (codes "layout") (pairs_of lines)) in
+    let one = (and_parts format layout (and_parts (format && layout) (has_level (value_of (codes "global") (pairs_of lines))) common).0).0 in
+    ap (λ b. if b then option_and_then number_in (value_of (codes "layout") (pairs_of lines)) else None) one ∙ ap (option_and_then number_in) (layout_is lines text common) ∙ is
 
-names_own : (layout : Layout) (lines : List RawMeta) → IsTrue (is_meta_of layout (pairs_of lines)) → layout_in (pairs_of lines) ≡ Some (number_of layout)
+names_own : (layout : Layout) (lines : List RawMeta) → IsTrue (is_meta_of layout (pairs_of lines)) → layout_of (pairs_of lines) ≡ Some (number_of layout)
 names_own One lines passes = layout_named 1 (codes "1") lines refl (and_parts (has_common (codes "1") (pairs_of lines)) (has_only_known_names layout_one_names (pairs_of lines)) passes).0
 names_own Two lines passes =
-    let parts = and_parts (has_common (codes "2") (pairs_of lines) && has_mode (value_at (codes "mode") (pairs_of lines))) (has_only_known_names layout_two_names (pairs_of lines)) passes in
-    layout_named 2 (codes "2") lines refl (and_parts (has_common (codes "2") (pairs_of lines)) (has_mode (value_at (codes "mode") (pairs_of lines))) parts.0).0
+    let parts = and_parts (has_common (codes "2") (pairs_of lines) && has_mode (value_of (codes "mode") (pairs_of lines))) (has_only_known_names layout_two_names (pairs_of lines)) passes in
+    layout_named 2 (codes "2") lines refl (and_parts (has_common (codes "2") (pairs_of lines)) (has_mode (value_of (codes "mode") (pairs_of lines))) parts.0).0
 
 spelled_passes : (layout : Layout) (db : Database) → SpellsAs layout db → (lines : List RawMeta) → ListsMeta db lines → PassesMeta layout lines
 spelled_passes One db s lines lists =
@@ -80,23 +80,23 @@ text_of (Some text) number h = (text, refl, h)
 
 module _ (lines : List RawMeta) (rows : List Row) (lists : Lists pair_form rows (map meta_entry lines)) where
   -- a row has each name and value of the list
-  said : (q v : List ℕ) → value_at q (pairs_of lines) ≡ Some v → HasMetaRow rows q v
+  said : (q v : List ℕ) → value_of q (pairs_of lines) ≡ Some v → HasMetaRow rows q v
   said q v there =
       let entries = map meta_entry lines in
       let e = find_had text_cmp text_order entries q v (sym (get-from_entries text_order.total (map without_rowid entries) q) ∙ sym (meta_found lines q) ∙ there) in
       let r = stored pair_form text_cmp text_order distinct_texts rows entries lists e.0 e.1 in
       (r.0, r.1, (sym (ap (λ (p : RowParts). p.1) r.2) ∙ ap pair_form.key_cells e.2, sym (ap (λ (p : RowParts). p.2) r.2) ∙ ap pair_form.value_cells e.3))
 
-  pub names_if_in : (number : ℕ) → layout_in (pairs_of lines) ≡ Some number → RowsNameLayout rows number
+  pub names_if_in : (number : ℕ) → layout_of (pairs_of lines) ≡ Some number → RowsNameLayout rows number
   names_if_in number h =
-      let both = named_in (has_value (codes "avroreg") (value_at (codes "format") (pairs_of lines))) (option_and_then number_in (value_at (codes "layout") (pairs_of lines))) number h in
-      let it = text_of (value_at (codes "layout") (pairs_of lines)) number both.1 in
+      let both = named_in (has_value (codes "avroreg") (value_of (codes "format") (pairs_of lines))) (option_and_then number_in (value_of (codes "layout") (pairs_of lines))) number h in
+      let it = text_of (value_of (codes "layout") (pairs_of lines)) number both.1 in
       record { format = said (codes "format") (codes "avroreg") (value_is (codes "avroreg") _ both.0); text = it.0; layout = said (codes "layout") it.0 it.1; is = it.2 }
 
 module _ (lines : List RawMeta) (db : Database) (lists : ListsMeta db lines) where
   -- and the list has those of each row, if the names differ
   module _ (holds : HasReadableMeta db) where
-    found : (q v : List ℕ) → HasMetaRow (db.trees meta.tree) q v → value_at q (pairs_of lines) ≡ Some v
+    found : (q v : List ℕ) → HasMetaRow (db.trees meta.tree) q v → value_of q (pairs_of lines) ≡ Some v
     found q v says =
         let shown = listed_if_shown pair_form text_cmp text_order distinct_texts (db.trees meta.tree) (map meta_entry lines) lists holds.values distinct_texts holds.shows in
         let entry = holds.shows.sound says.0 says.1 in
@@ -104,19 +104,19 @@ module _ (lines : List RawMeta) (db : Database) (lists : ListsMeta db lines) whe
         let value : entry.1 ≡ v = distinct_texts entry.1 v (sym entry.3.1 ∙ says.2.1) in
         meta_found lines q ∙ ap (λ m. get m q) (sym shown.is) ∙ ap (get holds.values) (sym key) ∙ entry.2 ∙ ap Some value
 
-    pub in_if_names : (number : ℕ) → NamesLayout db number → layout_in (pairs_of lines) ≡ Some number
+    pub in_if_names : (number : ℕ) → NamesLayout db number → layout_of (pairs_of lines) ≡ Some number
     in_if_names number n =
-        ap (λ o. if has_value (codes "avroreg") o then option_and_then number_in (value_at (codes "layout") (pairs_of lines)) else None) (found (codes "format") (codes "avroreg") n.format)
-        ∙ ap (λ b. if b then option_and_then number_in (value_at (codes "layout") (pairs_of lines)) else None) (same_bytes (codes "avroreg"))
+        ap (λ o. if has_value (codes "avroreg") o then option_and_then number_in (value_of (codes "layout") (pairs_of lines)) else None) (found (codes "format") (codes "avroreg") n.format)
+        ∙ ap (λ b. if b then option_and_then number_in (value_of (codes "layout") (pairs_of lines)) else None) (same_bytes (codes "avroreg"))
         ∙ ap (option_and_then number_in) (found (codes "layout") n.text n.layout) ∙ n.is
 
-shows_layout : (lines : List RawMeta) (db : Database) → db.schema.views ≡ [] → ReadsMeta db lines → (number : ℕ) → layout_in (pairs_of lines) ≡ Some number → ShowsLayout db number
+shows_layout : (lines : List RawMeta) (db : Database) → db.schema.views ≡ [] → ReadsMeta db lines → (number : ℕ) → layout_of (pairs_of lines) ≡ Some number → ShowsLayout db number
 shows_layout lines db none reads number is =
     let entries = map (entry_parts pair_form) (map meta_entry lines) in
     let lists : Lists pair_form reads.rows (map meta_entry lines) = subst (λ (parts : List RowParts). IsPermutation parts entries) (sym reads.read) (IsPermutation-refl entries) in
     record { no_views = none; rows = reads.rows; shows = reads.shows; names = names_if_in lines reads.rows lists number is }
 
-pub judged : (layout : Layout) (lines : List RawMeta) (named : Option ℕ) (passes : Bool) (r : Result (Unit {0}) StoreError) → named ≡ layout_in (pairs_of lines) → (IsTrue passes → PassesMeta layout lines) → (PassesMeta layout lines → IsTrue passes)
+pub judged : (layout : Layout) (lines : List RawMeta) (named : Option ℕ) (passes : Bool) (r : Result (Unit {0}) StoreError) → named ≡ layout_of (pairs_of lines) → (IsTrue passes → PassesMeta layout lines) → (PassesMeta layout lines → IsTrue passes)
     → Allows (number_of layout) named passes r → JudgesMeta layout lines r
 judged layout lines named passes (Ok y) is to from a = to a
 judged layout lines named passes (Err Memory) is to from a = absurd a
@@ -161,7 +161,7 @@ module _ {S : Type 0} (g : Ghosts S) (old new : Held S) (layout : Layout) where
     spelled : HasCleanDisk (state g new) → SpellsAs layout db → PassesMeta layout lines
     spelled clean s = spelled_passes layout db s lines (listed clean (spelled_has_five layout db s))
 
-    other_spelled : HasCleanDisk (state g new) → SpellsAs layout db → (number : ℕ) → layout_in (pairs_of lines) ≡ Some number → number ≡ number_of layout
+    other_spelled : HasCleanDisk (state g new) → SpellsAs layout db → (number : ℕ) → layout_of (pairs_of lines) ≡ Some number → number ≡ number_of layout
     other_spelled clean s number named = same_number number (number_of layout) (sym named ∙ names_own layout lines (spelled clean s).1)
 
     -- `meta` was read and checked
@@ -183,7 +183,7 @@ module _ {S : Type 0} (g : Ghosts S) (old new : Held S) (layout : Layout) where
       disk_cause = λ clean known. tt;
     }
 
-    names_first : HasCleanDisk (state g new) → (number : ℕ) → layout_in (pairs_of lines) ≡ Some number → HasFiveTables db.schema → NamesLayout db number
+    names_first : HasCleanDisk (state g new) → (number : ℕ) → layout_of (pairs_of lines) ≡ Some number → HasFiveTables db.schema → NamesLayout db number
     names_first clean number is first = names_if_in lines (db.trees meta.tree) (listed clean first) number is
 
     pub meta_number_of : db.schema.views ≡ [] → (HasCleanDisk (state g new) → ReadsMeta db lines) → (r : Result (Unit {0}) StoreError) → JudgesMeta layout lines r → HasCleanDisk (state g new) → IfErr r (HasMetaNumberOf (number_of layout) db)
@@ -203,7 +203,7 @@ module _ {S : Type 0} (g : Ghosts S) (old new : Held S) (layout : Layout) where
     meta_disk_cause (Err (OldLayout number)) j = tt
     meta_disk_cause (Err (NewerLayout number)) j = tt
 
-    named : HasCleanDisk (state g new) → (number : ℕ) → HasOtherLayout (number_of layout) db number → layout_in (pairs_of lines) ≡ Some number
+    named : HasCleanDisk (state g new) → (number : ℕ) → HasOtherLayout (number_of layout) db number → layout_of (pairs_of lines) ≡ Some number
     named clean number out = in_if_names lines db (listed clean out.holds.first) out.holds number out.names
 
     pub meta_other : (r : Result (Unit {0}) StoreError) → JudgesMeta layout lines r → HasCleanDisk (state g new) → IfErr r (ReportsOther (number_of layout) (state g old))

@@ -19,7 +19,7 @@ use Rattle.reg_tables.proofs.MapLemmas.{tied_key, other_key, same_or_not, get-in
 use Rattle.reg_tables.proofs.KeyedTables.{text_order}
 use Rattle.reg_tables.proofs.ListingLemmas.{found_first, find_had}
 use Rattle.reg_rows.specs.Spelling.{meta_pair}
-use Rattle.reg_rows.specs.Meta.{MetaPair, value_at, layout_one_names, layout_two_names, is_name, has_only_known_names, has_value, has_level, has_mode, has_common, is_layout_one_meta, is_layout_two_meta}
+use Rattle.reg_rows.specs.Meta.{MetaPair, value_of, layout_one_names, layout_two_names, is_name, has_only_known_names, has_value, has_level, has_mode, has_common, is_layout_one_meta, is_layout_two_meta}
 use Rattle.reg_store.specs.Spells.{layout_two_meta}
 use Rattle.reg_store.specs.Opening.{meta_columns}
 use Rattle.reg_store.proofs.Bridge.{find_passes, spelt}
@@ -81,9 +81,9 @@ same_test name q = elim (same_or_not text_cmp text_order q name) [
   | inr other ↦ other_bytes name q other ∙ sym (other_key text_cmp text_order q name other)
 ]
 
-value_found : (q : List ℕ) (rows : List MetaPair) → value_at q rows ≡ find text_cmp q rows
+value_found : (q : List ℕ) (rows : List MetaPair) → value_of q rows ≡ find text_cmp q rows
 value_found q [] = refl
-value_found q (row ∷ rows) = ap (λ b. cond b (Some row.1) (value_at q rows)) (same_test row.0 q) ∙ ap (cond (is_eq (text_cmp q row.0)) (Some row.1)) (value_found q rows)
+value_found q (row ∷ rows) = ap (λ b. cond b (Some row.1) (value_of q rows)) (same_test row.0 q) ∙ ap (cond (is_eq (text_cmp q row.0)) (Some row.1)) (value_found q rows)
 
 pairs_are : (lines : List RawMeta) → map meta_pair (map meta_columns lines) ≡ map without_rowid (map meta_entry lines)
 pairs_are [] = refl
@@ -152,9 +152,9 @@ module _ (lines : List RawMeta) where
   abbrev pub pairs_in : List MetaPair
   pairs_in = map meta_pair (map meta_columns lines)
 
-  pub meta_found : (q : List ℕ) → value_at q pairs_in ≡ get meta_in q
+  pub meta_found : (q : List ℕ) → value_of q pairs_in ≡ get meta_in q
   meta_found q =
-      ap (value_at q) (pairs_are lines) ∙ value_found q (map without_rowid (map meta_entry lines)) ∙ sym (get-from_entries text_order.total (map without_rowid (map meta_entry lines)) q)
+      ap (value_of q) (pairs_are lines) ∙ value_found q (map without_rowid (map meta_entry lines)) ∙ sym (get-from_entries text_order.total (map without_rowid (map meta_entry lines)) q)
 
   meta_has_no_other : (known : List (List ℕ)) → has_only_known_names known pairs_in ≡ true → (q : List ℕ) → is_name known q ≡ false → get meta_in q ≡ None
   meta_has_no_other known all q other = go (get meta_in q) refl
@@ -187,25 +187,25 @@ module _ (lines : List RawMeta) where
 
   module _ (number : List ℕ) (common : has_common number pairs_in ≡ true) where
     abbrev format : Bool
-    format = has_value (codes "avroreg") (value_at (codes "format") pairs_in)
+    format = has_value (codes "avroreg") (value_of (codes "format") pairs_in)
 
     abbrev layout : Bool
-    layout = has_value number (value_at (codes "layout") pairs_in)
+    layout = has_value number (value_of (codes "layout") pairs_in)
 
     abbrev global : Bool
-    global = has_level (value_at (codes "global") pairs_in)
+    global = has_level (value_of (codes "global") pairs_in)
 
     two : (format && layout ≡ true) × (global ≡ true)
     two = and_parts (format && layout) global common
 
     format_is : get meta_in (codes "format") ≡ Some (codes "avroreg")
-    format_is = sym (meta_found (codes "format")) ∙ value_is (codes "avroreg") (value_at (codes "format") pairs_in) (and_parts format layout two.0).0
+    format_is = sym (meta_found (codes "format")) ∙ value_is (codes "avroreg") (value_of (codes "format") pairs_in) (and_parts format layout two.0).0
 
-    pub layout_is : value_at (codes "layout") pairs_in ≡ Some number
-    layout_is = value_is number (value_at (codes "layout") pairs_in) (and_parts format layout two.0).1
+    pub layout_is : value_of (codes "layout") pairs_in ≡ Some number
+    layout_is = value_is number (value_of (codes "layout") pairs_in) (and_parts format layout two.0).1
 
     global_is : (level : Level) × (get meta_in (codes "global") ≡ Some (level_text level))
-    global_is = let it = level_is (value_at (codes "global") pairs_in) two.1 in (it.0, sym (meta_found (codes "global")) ∙ it.1)
+    global_is = let it = level_is (value_of (codes "global") pairs_in) two.1 in (it.0, sym (meta_found (codes "global")) ∙ it.1)
 
     common_is : (q : List ℕ) → Has layout_one_names q → get meta_in q ≡ get (meta_of_layout number (level_text global_is.0)) q
     common_is q (inl e) = ap (get meta_in) e ∙ format_is ∙ sym (has_format number (level_text global_is.0)) ∙ ap (get (meta_of_layout number (level_text global_is.0))) (sym e)
@@ -238,10 +238,10 @@ module _ (lines : List RawMeta) where
   -- the same in layout 2, with a mode
   pub layout_two_meta_is : IsTrue (is_layout_two_meta pairs_in) → (level : Level) × (mode : Mode) × (meta_in ≡ layout_two_meta (level_text level) (mode_text mode))
   layout_two_meta_is passes =
-      let parts = and_parts (has_common (codes "2") pairs_in && has_mode (value_at (codes "mode") pairs_in)) (has_only_known_names layout_two_names pairs_in) passes in
-      let both = and_parts (has_common (codes "2") pairs_in) (has_mode (value_at (codes "mode") pairs_in)) parts.0 in
+      let parts = and_parts (has_common (codes "2") pairs_in && has_mode (value_of (codes "mode") pairs_in)) (has_only_known_names layout_two_names pairs_in) passes in
+      let both = and_parts (has_common (codes "2") pairs_in) (has_mode (value_of (codes "mode") pairs_in)) parts.0 in
       let level = (global_is (codes "2") both.0).0 in
-      let mode = mode_is (value_at (codes "mode") pairs_in) both.1 in
+      let mode = mode_is (value_of (codes "mode") pairs_in) both.1 in
       (level, mode.0, same_meta layout_two_names parts.1 (layout_two_meta (level_text level) (mode_text mode.0)) (values both.0 mode.0 (sym (meta_found (codes "mode")) ∙ mode.1)) (two_no_other (level_text level) (mode_text mode.0)))
     where
       values : (common : has_common (codes "2") pairs_in ≡ true) (mode : Mode) → get meta_in (codes "mode") ≡ Some (mode_text mode) → (q : List ℕ) → Has layout_two_names q

@@ -24,7 +24,7 @@ use Rattle.reg_tables.proofs.ListMembers.{has_mapped}
 use Rattle.reg_tables.proofs.ListingLemmas.{listed_if_shown}
 use Rattle.reg_tables.proofs.MapLemmas.{same_or_not, tied_key}
 use Rattle.reg_tables.proofs.Tables.{shown_by}
-use Rattle.reg_rows.specs.Positions.{VersionPosition, IsContiguousFor, AreContiguous}
+use Rattle.reg_rows.specs.Positions.{PositionKey, IsContiguousFor, AreContiguous}
 use Rattle.reg_store.specs.Spells.{SpellsUnopened}
 use Rattle.reg_store.specs.Inside.TableChecks.{AreDistinct, against_fits, version_at, position_at, evidence_fits, ArePositionsInOrder, JudgesVersions, EvidenceFits, EvidenceTablesPass, SpellsSome}
 use Rattle.reg_store.proofs.EvidenceMaps.{evidence_if_spelled}
@@ -59,7 +59,7 @@ has_among (first ∷ versions) version row (inr later) is = go (is_of first row)
 
 -- each row has a position
 abbrev HavePositions : List Row → Type 0
-HavePositions rows = (row : Row) → Has rows row → (position : VersionPosition) × (against_form.key_of row ≡ position_cells position)
+HavePositions rows = (row : Row) → Has rows row → (position : PositionKey) × (against_form.key_of row ≡ position_cells position)
 
 module _ (db : Database) (keyed : HavePositions (against_rows db)) where
   parted : (versions : List RowKey) → IsDistinct (eq_by_cmp version_cmp) versions → IsPermutation (filter (among versions) (against_rows db)) (rows_of db versions)
@@ -109,7 +109,7 @@ module _ (db : Database) (evidence : List RawEvidence) (lists : ListsEvidence db
           placed = (
             λ position h.
                 (let l = has_mapped position_at ids position (has_contained (map position_at ids) position h) in
-                subst (λ (p : VersionPosition). Contains versions p.0) (sym l.2) (contains_had versions (position_at l.0).0 (version_read db versions it.parts it.lists l.0 l.1))),
+                subst (λ (p : PositionKey). Contains versions p.0) (sym l.2) (contains_had versions (position_at l.0).0 (version_read db versions it.parts it.lists l.0 l.1))),
             positions_if_fit db versions rowids fit it listed sure,
           );
         };
@@ -173,7 +173,7 @@ module _ (db : Database) (evidence : List RawEvidence) (lists : ListsEvidence db
               let l = has_mapped position_at lines (other, position) (has_contained (map position_at lines) (other, position) h) in
               let r = line_row (filter (is_of version) (against_rows db)) lines lists.0 l.0 l.1 in
               let kept = has_filtered (is_of version) (against_rows db) r.0 r.1 in
-              apart (ap (λ (p : VersionPosition). p.0) l.2 ∙ of_one r.0 (position_at l.0) version (key_is r.0 l.0 r.2) kept.1))
+              apart (ap (λ (p : PositionKey). p.0) l.2 ∙ of_one r.0 (position_at l.0) version (key_is r.0 l.0 r.2) kept.1))
         ]
 
     pub parts_apart : AreDistinct rowids

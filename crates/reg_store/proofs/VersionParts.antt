@@ -28,7 +28,7 @@ use Rattle.reg_tables.proofs.ListingLemmas.{same_id, same_id_swaps, apart_if_dis
 use Rattle.reg_tables.proofs.MapLemmas.{same_key, tied_key, same_or_not}
 use Rattle.reg_tables.proofs.Keys.{distinct_positions}
 use Rattle.reg_tables.proofs.VersionIds.{is_of_told}
-use Rattle.reg_rows.specs.Positions.{VersionPosition, IsContiguousFor, AreContiguous}
+use Rattle.reg_rows.specs.Positions.{PositionKey, IsContiguousFor, AreContiguous}
 use Rattle.reg_store.specs.Inside.TableChecks.{AreDistinct, against_fits, position_at, ArePositionsInOrder, rowids_in, JudgesVersions}
 use Rattle.reg_store.proofs.TextParts.{mapped-append}
 
@@ -65,7 +65,7 @@ all_rows_are (x ∷ xs) ys up among few =
 
 -- ---- rows and lines
 
-abbrev pub HasPosition : List Row → VersionPosition → Type 0
+abbrev pub HasPosition : List Row → PositionKey → Type 0
 HasPosition rows position = (row : Row) × Has rows row × (against_form.key_of row ≡ position_cells position)
 
 -- the positions of a version in these rows are the numbers from 1 to a count
@@ -92,7 +92,7 @@ module _ (rows : List Row) (lines : List RawAgainst) (lists : Lists against_form
       let r = has_mapped (parts_of against_form) rows entry (has_permuted shown (map (parts_of against_form) rows) entry (IsPermutation-sym (map (parts_of against_form) rows) shown lists) (maps_had (entry_parts against_form) (map against_entry lines) (against_entry line) (maps_had against_entry lines line there))) in
       (r.0, r.1, sym r.2)
 
-  pub placed : (position : VersionPosition) → Contains (map position_at lines) position ↔ HasPosition rows position
+  pub placed : (position : PositionKey) → Contains (map position_at lines) position ↔ HasPosition rows position
   placed position = (
     λ h.
         (let l = has_mapped position_at lines position (has_contained (map position_at lines) position h) in
@@ -128,13 +128,13 @@ module _ (rows : List Row) (lines : List RawAgainst) (lists : Lists against_form
 
 -- ---- the rows of a version
 
-version_cells_are : (row : Row) (position : VersionPosition) → against_form.key_of row ≡ position_cells position → column row 1 ∷ column row 2 ∷ [] ≡ column (position_cells position) 0 ∷ column (position_cells position) 1 ∷ []
+version_cells_are : (row : Row) (position : PositionKey) → against_form.key_of row ≡ position_cells position → column row 1 ∷ column row 2 ∷ [] ≡ column (position_cells position) 0 ∷ column (position_cells position) 1 ∷ []
 version_cells_are row position is = ap (λ (r : Row). column r 0 ∷ column r 1 ∷ []) is
 
-pub of_itself : (row : Row) (position : VersionPosition) → against_form.key_of row ≡ position_cells position → is_of position.0 row ≡ true
+pub of_itself : (row : Row) (position : PositionKey) → against_form.key_of row ≡ position_cells position → is_of position.0 row ≡ true
 of_itself row position is = is_of_told position.0 row position.0 (version_cells_are row position is) ∙ tied_key version_cmp version_order position.0 position.0 refl
 
-pub of_one : (row : Row) (position : VersionPosition) (version : RowKey) → against_form.key_of row ≡ position_cells position → is_of version row ≡ true → position.0 ≡ version
+pub of_one : (row : Row) (position : PositionKey) (version : RowKey) → against_form.key_of row ≡ position_cells position → is_of version row ≡ true → position.0 ≡ version
 of_one row position version is passes = same_key version_cmp version_order position.0 version (sym (is_of_told version row position.0 (version_cells_are row position is)) ∙ passes)
 
 module _ (rows : List Row) (version : RowKey) where
@@ -150,7 +150,7 @@ module _ (rows : List Row) (version : RowKey) where
   pub close : Counted rows version → Counted (filter (is_of version) rows) version
   close it = record { count = it.count; positions = λ position. (λ h. (it.positions position).0 (widen position h), λ within. narrow position ((it.positions position).1 within)) }
 
-pub uncounted : (positions : List VersionPosition) (version : RowKey) → ((position : ℕ) → Contains positions (version, position) → ⊥) → IsContiguousFor positions version
+pub uncounted : (positions : List PositionKey) (version : RowKey) → ((position : ℕ) → Contains positions (version, position) → ⊥) → IsContiguousFor positions version
 uncounted positions version none = record { count = 0; positions = λ position. (λ h. absurd (none position h), λ within. absurd (let low = within.0 in let high = within.1 in omega (arith, low, high))) }
 
 module _ (db : Database) where
@@ -231,7 +231,7 @@ module _ (db : Database) where
           if_counted rows against all version (wide rows version (counted_if (filter (is_of version) rows) part.0 part.1 version (part.2.1 version)))
       | inr none ↦ uncounted (map position_at against) version (λ position h.
           let l = has_mapped position_at against (version, position) (has_contained (map position_at against) (version, position) h) in
-          none (subst (λ (position : VersionPosition). Has versions position.0) (sym l.2) (version_read versions it.parts it.lists l.0 l.1)))
+          none (subst (λ (position : PositionKey). Has versions position.0) (sym l.2) (version_read versions it.parts it.lists l.0 l.1)))
     ]
 
     pub fits_if_fit : IsTrue fit → AllByRecursion against_fits against

@@ -17,7 +17,7 @@ use Rattle.reg_tables.specs.Contents.{Contents}
 use Rattle.reg_tables.proofs.MapLemmas.{same_or_not}
 use Rattle.reg_tables.proofs.KeyedTables.{number_order}
 use Rattle.reg_core.proofs.RowLemmas.{All-mapped}
-use Rattle.reg_store.specs.Inside.Viewing.{HasText, AreTrueTexts, AddsText, PutsText, IsViewButTexts}
+use Rattle.reg_store.specs.Inside.Viewing.{HasText, AreTrueTexts, AddsText, InsertsText, IsViewButTexts}
 
 -- ---- texts that are there
 
@@ -28,7 +28,7 @@ none_there : (o : Option (String Global)) → is_some o ≡ false → option_map
 none_there None h = refl
 none_there (Some text) h = absurd (cc)
 
-pub text_comes : (old new : Texts) (schemas : Schemas) (id : ℕ) (found : Option (String Global)) → is_some (tree.get nat_cmp old id) ≡ false → option_map string_bytes found ≡ text_at schemas id → PutsText old new id found → AddsText old new schemas id
+pub text_comes : (old new : Texts) (schemas : Schemas) (id : ℕ) (found : Option (String Global)) → is_some (tree.get nat_cmp old id) ≡ false → option_map string_bytes found ≡ text_at schemas id → InsertsText old new id found → AddsText old new schemas id
 text_comes old new schemas id found absent is puts =
     let here : HasText new schemas id = puts.here (none_there (tree.get nat_cmp old id) absent) ∙ is in
     record {

@@ -19,7 +19,7 @@ abbrev pub with_reply : Option Keep → Kept → Kept
 with_reply None k = k
 with_reply (Some keep) k = kept_with k keep.key.now (keep_entry keep)
 
--- this project's choice: the key has no reply yet
+-- this project's choice: the key of the reply, if any, has no reply yet
 abbrev pub IsNewTo : Kept → Option Keep → Type 0
 IsNewTo k None = ⊤
 IsNewTo k (Some keep) = k keep.key.now ≡ None
@@ -45,7 +45,7 @@ stored_after_changes changes was = record was { registry = after_changes changes
 abbrev pub stored_after_apply : List Change → Option Keep → Stored → Stored
 stored_after_apply changes keep was = record (stored_after_changes changes was) { replies = with_reply keep was.replies }
 
--- this project's choice: `P` is true of each stored state that the tables spell while the connection is open, and that the changes and the reply fit
+-- this project's choice: `P` is true of each stored state that the changes and the reply fit, and that the tables spell if the connection is open
 abbrev pub WhenApplicable : State → List Change → Option Keep → (Stored → Type 0) → Type 0
 WhenApplicable s changes keep P = (was : Stored) → SpellsWhileOpen s was → CanApply changes keep was → P was
 
@@ -54,8 +54,8 @@ pub record HoldsAfterChanges (changes : List Change) (keep : Option Keep) (was :
   pub holds : Holds (stored_after_apply changes keep was)
   pub stays_true : HasTrueEvidence was → HasTrueEvidence (stored_after_apply changes keep was)
 
--- SQLite, transactions: a crash leaves the state after the changes, or a database that it left before; the latter spells the state before them if the
--- connection was open
+-- SQLite, transactions: a crash leaves the state after the changes and the reply, or a database that it could leave before; the latter spells the
+-- state before them if the connection was open
 abbrev pub RecoversToEither : State → State → List Change → Option Keep → Stored → Type 0
 RecoversToEither old new changes keep was = (db : Trees) → new.may_leave db → (old.may_leave db × (IsTrue old.is_open → RecoversTo db was)) ⊎ HoldsAfterChanges changes keep was (RecoversTo db)
 

@@ -48,6 +48,6 @@ HasNoLayoutNumber (OldLayout number) = ⊥
 HasNoLayoutNumber (NewerLayout number) = ⊥
 HasNoLayoutNumber _ = Unit {0}
 
--- this project's choice: if the tables spell a registry, only memory or the disk fails
+-- this project's choice: if the connection was closed, or the tables spelled a registry, only failed allocation or a disk fault is the cause
 abbrev pub IsFaultOver : State → State → StoreError → Type 0
 IsFaultOver old new e = (was : Stored) → SpellsWhileOpen old was → IsFaultBy old new e

@@ -48,7 +48,7 @@ own_text (Some level) = level_text level
 abbrev pub deleted_rows : List Row → List Row
 deleted_rows rows = filter (λ (row : Row). row.1.deleted) rows
 
--- this project's choice: the subject, its own level, and the numbers of its live and of its soft-deleted versions
+-- this project's choice: the subject, its own level, and the counts of its live and of its soft-deleted versions
 abbrev pub subject_line : List ℕ → Option Level → List Row → Fields
 subject_line subject own rows = subject ∷ own_text own ∷ decimal (length (live_rows rows)) ∷ decimal (length (deleted_rows rows)) ∷ []
 

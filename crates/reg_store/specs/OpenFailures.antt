@@ -15,8 +15,9 @@ IsFaultOverLayoutTwo old new e = (was : Stored) → (IsTrue old.is_open → Spel
 abbrev pub IsFaultOverLayoutOne : State → State → StoreError → Type 0
 IsFaultOverLayoutOne old new e = (was : Stored) → (IsTrue old.is_open → SpellsLayoutOne old.now was) → IsFaultBy old new e
 
--- This project's choice: why `open` fails. In any database `Disk` has a disk fault as its cause, and a number comes from the rows of `meta`. A registry in
--- layout 2 fails to open only because of memory or the disk. Another layout is reported with its number.
+-- This project's choice: why `open` fails. In any database `Disk` has a disk fault as its cause, and a number comes from the rows of `meta`. A
+-- registry in layout 2 fails to open only because of memory or the disk. For another layout (`HasOtherLayout`), the error has its number, or it is
+-- `Memory` or `Disk`.
 pub record IsOpenFailure (old new : State) (e : StoreError) : Type 0 where
   pub fault : IsFaultOverLayoutTwo old new e
   pub disk_cause : HasDiskCause old new e

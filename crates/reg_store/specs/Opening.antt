@@ -56,7 +56,7 @@ pub record RowsNameLayout (rows : List Row) (number : ℕ) : Type 0 where
 abbrev pub NamesLayout : Database → ℕ → Type 0
 NamesLayout db number = RowsNameLayout (db.trees meta.tree) number
 
--- in any database without a view, the rows that SQLite returns for `meta` name this layout
+-- the database has no view, and the rows that SQLite returns for `meta` name this layout
 pub record ShowsLayout (db : Database) (number : ℕ) : Type 0 where
   pub no_views : db.schema.views ≡ []
   pub rows : List Row
@@ -73,17 +73,17 @@ pub record HasOtherLayout (own : ℕ) (db : Database) (number : ℕ) : Type 0 wh
 abbrev pub layout_error : ℕ → ℕ → StoreError
 layout_error own number = if nat_lt number own then OldLayout number else NewerLayout number
 
--- a number in the error comes from the rows of `meta`, and is that of an older or newer layout
+-- `OldLayout` has a number above 0 and below `own`, `NewerLayout` one above `own`, and `meta` names that number
 abbrev pub HasMetaNumberOf : ℕ → Database → StoreError → Type 0
 HasMetaNumberOf own db (OldLayout number) = (0 < number) × (number < own) × ShowsLayout db number × (HasFiveTables db.schema → NamesLayout db number)
 HasMetaNumberOf own db (NewerLayout number) = (own < number) × ShowsLayout db number × (HasFiveTables db.schema → NamesLayout db number)
 HasMetaNumberOf own db _ = Unit {0}
 
--- if `meta` names another layout, the error has its number, or memory or the disk failed
+-- if the connection is open and `meta` names another layout (`HasOtherLayout`), the error has its number, or memory or the disk failed
 abbrev pub ReportsOther : ℕ → State → StoreError → Type 0
 ReportsOther own s e = (number : ℕ) → IsTrue s.is_open → HasOtherLayout own s.now number → (e ≡ layout_error own number) ⊎ IsTrue (is_fault e)
 
--- this project's choice: stores open layout 2
+-- this project's choice: `HasMetaNumberOf` for stores, which open layout 2
 abbrev pub HasMetaNumber : Database → StoreError → Type 0
 HasMetaNumber = HasMetaNumberOf 2
 
@@ -106,7 +106,7 @@ pub record IsIndexed (before : Database) (db : Trees) : Type 0 where
 abbrev pub RecoversToUnopened : Trees → Stored → Type 0
 RecoversToUnopened = RecoversToIn IsOpenable IsSpelledLayoutTwo
 
--- this project's choice: a crash leaves what the tables of the open connection spelled
+-- this project's choice: if the connection was open, a crash leaves what its tables spelled, with or without the index
 abbrev pub CrashKeepsStored : State → State → Type 0
 CrashKeepsStored old new = IsTrue old.is_open → (was : Stored) → SpellsUnopened old.now was → (db : Trees) → new.may_leave db → RecoversToUnopened db was
 

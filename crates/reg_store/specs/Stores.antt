@@ -30,11 +30,12 @@ has_failed store = store.failed
 abbrev pub RecoversLastCommit : State → Type 0
 RecoversLastCommit s = IsTrue s.is_open → (db : Trees) → s.may_leave db → db ≡ s.committed.trees
 
--- SQLite, transactions: a crash leaves only what it left before
+-- SQLite, transactions: a crash leaves only what it could leave before
 abbrev pub AddsNoCrashState : State → State → Type 0
 AddsNoCrashState old new = (db : Trees) → new.may_leave db → old.may_leave db
 
--- This project's choice: after an error other than `Disk`, a crash leaves only what it left before, unless the disk failed together with an allocation.
+-- This project's choice: after an error other than `Disk`, a crash leaves only what it could leave before, unless the disk failed together with an
+-- allocation.
 abbrev pub KeepsCrashStates : State → State → StoreError → Type 0
 KeepsCrashStates old new Disk = Unit {0}
 KeepsCrashStates old new Memory = AddsNoCrashState old new ⊎ MoreFaults old.faults new.faults
@@ -46,15 +47,16 @@ pub record KeepsOpen (old new : State) : Type 0 where
   pub stays_closed : HasCleanDisk new → IsTrue new.is_open → IsTrue old.is_open
   pub closes : HasCleanDisk new → IsTrue old.is_open → IsTrue new.is_open ⊎ MoreFaults old.faults new.faults
 
--- This project's choice: what a failed call leaves of the connection that it returns. On a clean disk, nothing has changed, a crash leaves what
--- `KeepsCrashStates` allows, and only a disk fault closes the connection.
+-- This project's choice: what a failed call leaves of the connection that it returns. On a clean disk, nothing has changed. If the connection was
+-- open too, a crash leaves what `KeepsCrashStates` allows, and only a disk fault closes the connection.
 pub record KeepsConnection (old new : State) (e : StoreError) : Type 0 where
   pub nothing : HasCleanDisk new → OnlyReads old new
   pub before : HasCleanDisk new → IsTrue old.is_open → KeepsCrashStates old new e
   pub closes : HasCleanDisk new → IsTrue old.is_open → IsTrue new.is_open ⊎ MoreFaults old.faults new.faults
   pub settled : RecoversLastCommit new
 
--- This project's choice: why `create` fails: in an empty database on a clean disk, memory or a disk fault is the cause. A crash may leave the new registry.
+-- This project's choice: why `create` fails: in an empty database on a clean disk, memory or a disk fault is the cause. A crash leaves what it could
+-- leave before, or the new registry.
 pub record IsCreateFailure (RecoversToNew : Trees → Type 0) (old new : State) (e : StoreError) : Type 0 where
   pub fault : HasCleanDisk new → old.now.schema ≡ no_schema → IsFaultBy old new e
   pub leaves : KeepsConnection old new e
@@ -86,7 +88,8 @@ pub record LinesKeepStore {S T : Type 0} {g : Ghosts S} (old new : Store S g) (r
 abbrev pub StillSpells : State → State → Type 0
 StillSpells old new = (was : Stored) → SpellsWhileOpen old was → SpellsWhileOpen new was
 
--- This project's choice: what a call that only reads returns and leaves. `Ok` has facts about the stored state. `Err` is a fault, if the store `WasUsable`.
+-- This project's choice: what a call that only reads returns and leaves. If the tables spell a stored state while the connection is open, `Ok` has
+-- facts about it. If the store `WasUsable` too, `Err` is a fault.
 pub record AnswersFromStored {T : Type 0} (old new : State) (WasUsable : Type 0) (result : Result T StoreError) (IsAnswer : Stored → T → Type 0) : Type 0 where
   pub answers : (was : Stored) → SpellsWhileOpen old was → MatchResult result (IsAnswer was) (λ e. WasUsable → IsFaultBy old new e)
   pub same : StillSpells old new

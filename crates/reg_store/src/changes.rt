@@ -106,7 +106,8 @@ fn apply_change<S: Alter>(tx: &mut Transaction<'_, S>, change: &Change) -> Resul
     }
 }
 
-/// Applies the changes in order.
+/// Applies the changes in order. After an error a part may have been applied, and the caller rolls
+/// back.
 pub(crate) fn apply_changes<S: Alter>(
     tx: &mut Transaction<'_, S>,
     changes: &[Change],

@@ -16,8 +16,8 @@ pub enum StoreError {
     /// Allocation failed. The store stays usable, unless the disk failed too.
     #[error("out of memory")]
     Memory,
-    /// The disk failed, or a limit of the file was reached. Every later call of the `Store` or the
-    /// `Lines` that returned this error returns it too.
+    /// The disk failed, the file is damaged, or a limit of the file was reached. Every later call
+    /// of the `Store` or the `Lines` that returned this error returns it too.
     #[error("the disk failed")]
     Disk,
     /// A table or a column is missing or unknown, the database has a view, or the rows don't spell
@@ -25,10 +25,10 @@ pub enum StoreError {
     /// may also return it if a change doesn't fit the registry, or the key has a reply.
     #[error("not a registry")]
     NotARegistry,
-    /// The database has an older layout, of this number.
+    /// `meta` names an older layout, with this number.
     #[error("layout {0} is older than this program's")]
     OldLayout(u32),
-    /// The database has a newer layout, of this number.
+    /// `meta` names a newer layout, with this number.
     #[error("layout {0} is newer than this program's")]
     NewerLayout(u32),
 }

@@ -10,8 +10,8 @@ use crate::conn::Conn;
 use crate::error::StoreError;
 use sqlite::Alter;
 
-/// Fails if the connection is closed. It prepares a statement that reads no table, which SQLite
-/// does only over an open connection.
+/// Fails with `Memory` or `Disk` if the connection is closed or a fault occurs. It prepares a
+/// statement that reads no table, which SQLite does only over an open connection.
 pub(crate) fn require_open<S: Alter>(db: &mut Conn<S>) -> Result<(), StoreError>
     ensures frame { ReadsInAutocommit S.Store db.old.idle.conn db.new.idle.conn result }
     ensures is_open { HasCleanDisk (shown db.new) → OnOk result (IsTrue (shown db.new).is_open) }

@@ -28,6 +28,7 @@ PositionKey = (List ℕ × ℕ) × ℕ
 abbrev pub position_cmp : PositionKey → PositionKey → Ordering
 position_cmp = then_cmp (on (λ (key : PositionKey). key.0) version_cmp) (on (λ (key : PositionKey). key.1) nat_cmp)
 
+-- a finite map whose keys are texts
 abbrev pub TextMap : Type 0 → Type 0
 TextMap V = FinMap text_cmp V
 
@@ -96,7 +97,7 @@ version_form = record {
   value_cells = version_cells;
 }
 
--- a table whose key is the text in its first column
+-- the form of a table whose key is the text in its first column
 abbrev pub keyed_by_text : {V : Type 0} → (Row → Row) → (V → Row) → Form (List ℕ) V
 keyed_by_text value_of value_cells = record { key_of = λ row. column row 1 ∷ []; value_of = value_of; key_cells = text_cells; value_cells = value_cells }
 
@@ -139,10 +140,11 @@ ordinal_of Modes = 5
 ordinal_of Evidence = 6
 ordinal_of Against = 7
 
+-- the table at the index of this name; its own name isn't compared
 abbrev pub table_in : Schema → TableName → Table
 table_in schema name = table_at schema (ordinal_of name)
 
--- the schema has this table at its index
+-- the schema has this table at its index: it begins with the five tables, or has exactly the eight if layout 2 adds this one; it has no view
 abbrev pub HasTable : TableName → Schema → Type 0
 HasTable Texts = HasFiveTables
 HasTable Versions = HasFiveTables
@@ -231,7 +233,7 @@ ShowsAll schema trees contents = (name : TableName) → ShowsIn (form_of name) t
 -- the database has this schema and these contents
 pub record HoldsContents (schema : Schema) (db : Database) (contents : Contents) : Type 0 where
   pub declared : db.schema ≡ schema
-  -- the database lists its schema, which SQLite reads when it opens the database, and obeys it
+  -- `sqlite_schema` lists the schema, each row of its tables passes their constraints, and each index has one entry for each row of its table
   pub sound : IsDatabase db
   pub shows : ShowsAll schema db.trees contents
 

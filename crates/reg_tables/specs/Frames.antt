@@ -27,7 +27,8 @@ pub record KeepsTransaction {S : Type 0} (g : Ghosts S) (old new : Transaction S
   pub commit_stays : HasCleanDisk (state_in g new) → KeepsCommit (state_in g old) (state_in g new)
   pub survives : Survives (state_in g old) (state_in g new) (λ _. ⊥)
 
--- A call that runs a statement inside a transaction. If it succeeds, the connection was open and the transaction continues. Over a closed connection it fails with a fault, or because an earlier failure had ended the transaction.
+-- A call that runs a statement inside a transaction. If it succeeds, the connection was open and the transaction continues.
+-- Over a closed connection it fails with a fault, or because an earlier failure had ended the transaction.
 pub record RunsInTransaction {S X : Type 0} (g : Ghosts S) (old new : Transaction S) (result : Result X Error) : Type 0 where
   pub keeps : KeepsTransaction g old new
   pub shut : HasCleanDisk (state_in g new) → IfErr result (λ e. IsTrue (state_in g old).is_open ⊎ IsWriteFault (state_in g old) (state_in g new) e)

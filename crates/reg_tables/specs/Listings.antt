@@ -45,6 +45,7 @@ without_rowid entry = (entry.1, entry.2)
 
 -- ---- the rows of the tables
 
+-- each `x_entry` is the entry of a row as read: its rowid, its key and its value
 abbrev pub text_entry : RawText → ℤ × ℕ × List ℕ
 text_entry line = (pos line.id, line.id, string_bytes line.text)
 

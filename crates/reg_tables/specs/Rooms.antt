@@ -13,6 +13,7 @@ use Rattle.reg_tables.specs.Layout.{layout_one}
 abbrev pub CanBeStoredIn : Schema → Table → Row → Type 0
 CanBeStoredIn schema table cells = (id : ℤ) → ¬ IsOversized schema table (Int id ∷ cells)
 
+-- the same in layout 1
 abbrev pub CanBeStored : Table → Row → Type 0
 CanBeStored = CanBeStoredIn layout_one
 

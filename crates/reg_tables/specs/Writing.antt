@@ -12,7 +12,7 @@ use Rattle.reg_tables.specs.Frames.{state_in, RunsInTransaction}
 
 -- ---- in layout 2
 
--- if the tables hold some contents in layout 2, this is true of them
+-- if the tables have some contents in layout 2, this is true of them
 abbrev pub ForHeldContents : State → (Contents → Type 0) → Type 0
 ForHeldContents s P = (schema : Schema) → IsLayoutTwo schema → (contents : Contents) → HoldsContents schema s.now contents → P contents
 
@@ -20,7 +20,7 @@ ForHeldContents s P = (schema : Schema) → IsLayoutTwo schema → (contents : C
 abbrev pub ChangesIf : State → State → (Contents → Type 0) → (Contents → Contents) → Type 0
 ChangesIf old new Was change = (schema : Schema) → IsLayoutTwo schema → (contents : Contents) → HoldsContents schema old.now contents → Was contents → HoldsContents schema new.now (change contents)
 
--- whatever contents the tables had in layout 2, they now have the changed contents, in the same schema
+-- if the tables had some contents in layout 2, they now have the changed contents, in the same schema
 abbrev pub Changes : State → State → (Contents → Contents) → Type 0
 Changes old new change = (schema : Schema) → IsLayoutTwo schema → (contents : Contents) → HoldsContents schema old.now contents → HoldsContents schema new.now (change contents)
 

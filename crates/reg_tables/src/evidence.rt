@@ -20,7 +20,7 @@ ghost use Rattle.reg_tables.specs.Reads.{CanBeReadIn, HasTablesIn};
 ghost use Rattle.reg_tables.specs.Inside.ReadableRows.{IsReadableEvidence, IsReadableAgainst, IsReadableCount};
 
 use crate::autocommit::AutocommitConnection;
-use crate::keyed::{FilledTable, KeyedTable, find, put};
+use crate::keyed::{InsertableTable, KeyedTable, find, put};
 use crate::statement::{FromRow, first, list};
 use sqlite::{Alter, Error, Row, Transaction, params};
 use std::alloc::Global;
@@ -39,7 +39,7 @@ impl KeyedTable for Evidence {
     }
 }
 
-impl FilledTable for Evidence {
+impl InsertableTable for Evidence {
     ghost Written = { IsLayoutTwo };
 
     fn put_sql() -> &'static str {
@@ -61,7 +61,7 @@ impl KeyedTable for Against {
     }
 }
 
-impl FilledTable for Against {
+impl InsertableTable for Against {
     ghost Written = { IsLayoutTwo };
 
     fn put_sql() -> &'static str {
@@ -141,8 +141,8 @@ impl FromRow for RawAgainst {
     }
 }
 
-/// Adds the level under which a version was checked. The caller must know that the version exists
-/// and has no evidence.
+/// Inserts the level under which a version was checked. The caller must know that the version
+/// exists and has no evidence; otherwise the INSERT fails.
 ///
 /// # Errors
 ///
@@ -165,8 +165,8 @@ pub fn put_evidence<S: Alter>(
     put::<S, Evidence>(tx, params![subject, number, level])
 }
 
-/// Adds the id of a text that a version was checked against. The caller must know that the version
-/// and the text exist and that the position is free.
+/// Inserts the id of a text that a version was checked against. The caller must know that the
+/// version and the text exist and that the position is free; otherwise the INSERT fails.
 ///
 /// # Errors
 ///
@@ -190,12 +190,13 @@ pub fn put_against<S: Alter>(
     put::<S, Against>(tx, params![subject, number, position, id])
 }
 
-/// The level of a version's evidence, or `None`.
+/// Only the level of a version's evidence; `against_at` returns the ids. `None` if the version has
+/// no evidence or doesn't exist.
 ///
 /// # Errors
 ///
 /// A read error; others only if the tables can't be read.
-pub fn evidence_of<S: Alter>(
+pub fn evidence_level_of<S: Alter>(
     db: &mut AutocommitConnection<S>,
     subject: &str,
     number: u32,

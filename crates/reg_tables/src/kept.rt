@@ -17,12 +17,12 @@ ghost use Rattle.reg_tables.specs.Inside.ReadableRows.{IsReadableKept};
 ghost use Rattle.reg_tables.specs.Reads.{CanBeRead};
 
 use crate::autocommit::AutocommitConnection;
-use crate::keyed::{FilledTable, KeyedTable, find, put};
+use crate::keyed::{InsertableTable, KeyedTable, find, put};
 use crate::statement::{FromRow, list};
 use sqlite::{Alter, Error, Row, Transaction, params};
 use std::alloc::Global;
 
-/// A kept reply: the text of a command, and the status and body of its reply.
+/// A kept reply without its retry key: the text of a command, and the status and body of its reply.
 #[derive(Debug, Drop)]
 pub struct KeptReply {
     pub command: String,
@@ -61,7 +61,7 @@ impl KeyedTable for Kept {
     }
 }
 
-impl FilledTable for Kept {
+impl InsertableTable for Kept {
     ghost Written = { IsLayoutTwo };
 
     fn put_sql() -> &'static str {
@@ -99,8 +99,8 @@ impl FromRow for RawKept {
     }
 }
 
-/// Keeps a command's text and its reply under a retry key. The caller must know that the key has no
-/// reply.
+/// Inserts a command's text and its reply under a retry key. The caller must know that the key has
+/// no reply; otherwise the INSERT fails.
 ///
 /// # Errors
 ///

@@ -36,8 +36,8 @@ pub(crate) trait KeyedTable {
             → get (map_of name contents) key ≡ Some value → Self.Found.is_readable ((form_of name).value_cells value) };
 }
 
-/// A table into which rows are inserted.
-pub(crate) trait FilledTable: KeyedTable {
+/// A table that permits INSERT (`put`).
+pub(crate) trait InsertableTable: KeyedTable {
     /// The schemas in which rows are written.
     ghost Written: { Schema → Type 0 };
 
@@ -47,8 +47,9 @@ pub(crate) trait FilledTable: KeyedTable {
         ensures puts { (schema : Schema) → Written schema → PutsRow schema Self.name result.now };
 }
 
-/// A table whose rows are also deleted. That deletes no row of another table.
-pub(crate) trait ChangedTable: FilledTable {
+/// A table that permits DELETE too (`delete`, `set`). Deleting a row deletes no row of another
+/// table.
+pub(crate) trait DeletableTable: InsertableTable {
     /// The DELETE of a row. Its parameters are the columns of the key.
     fn drop_sql() -> &'static str
         ensures keyed { (schema : Schema) → Self.Written schema → IsKeyed schema Self.name }
@@ -67,8 +68,9 @@ impl FromRow for String {
     }
 }
 
-/// Inserts a row under a free key.
-pub(crate) fn put<S: Alter, T: FilledTable>(
+/// Inserts a row under a free key. If the key is taken, the INSERT fails. `values` are the columns
+/// of the key, then those of the value.
+pub(crate) fn put<S: Alter, T: InsertableTable>(
     tx: &mut Transaction<'_, S>,
     values: &[ValueRef<'_>],
 ) -> Result<(), Error>
@@ -101,7 +103,7 @@ pub(crate) fn put<S: Alter, T: FilledTable>(
 }
 
 /// Deletes the row of a key, if it exists.
-pub(crate) fn delete<S: Alter, T: ChangedTable>(
+pub(crate) fn delete<S: Alter, T: DeletableTable>(
     tx: &mut Transaction<'_, S>,
     values: &[ValueRef<'_>],
 ) -> Result<(), Error>
@@ -118,8 +120,9 @@ pub(crate) fn delete<S: Alter, T: ChangedTable>(
     run(tx, T::drop_sql(), values)
 }
 
-/// Inserts a row under a key, or replaces the key's row.
-pub(crate) fn set<S: Alter, T: ChangedTable>(
+/// Inserts a row under a key, or replaces the key's row. `values` contain the key's columns too, as
+/// for `put`. An error may leave the old row deleted in the transaction.
+pub(crate) fn set<S: Alter, T: DeletableTable>(
     tx: &mut Transaction<'_, S>,
     key_values: &[ValueRef<'_>],
     values: &[ValueRef<'_>],

@@ -13,7 +13,7 @@ ghost use Rattle.reg_tables.specs.Inside.ReadableRows.{IsReadablePair};
 ghost use Rattle.reg_tables.specs.Reads.{CanBeRead};
 
 use crate::autocommit::AutocommitConnection;
-use crate::keyed::{ChangedTable, FilledTable, KeyedTable, delete, find, set};
+use crate::keyed::{DeletableTable, InsertableTable, KeyedTable, delete, find, set};
 use crate::statement::{FromRow, list};
 use sqlite::{Alter, Error, Row, Transaction, params};
 use std::alloc::Global;
@@ -32,7 +32,7 @@ impl KeyedTable for Levels {
     }
 }
 
-impl FilledTable for Levels {
+impl InsertableTable for Levels {
     ghost Written = { IsLayoutTwo };
 
     fn put_sql() -> &'static str {
@@ -40,7 +40,7 @@ impl FilledTable for Levels {
     }
 }
 
-impl ChangedTable for Levels {
+impl DeletableTable for Levels {
     fn drop_sql() -> &'static str {
         "DELETE FROM levels WHERE subject = ?1"
     }
@@ -72,7 +72,7 @@ impl FromRow for RawLevel {
     }
 }
 
-/// Deletes the own level of a subject, if it has one.
+/// Deletes the own level of a subject. If the subject has none, nothing changes.
 ///
 /// # Errors
 ///

@@ -55,7 +55,7 @@ pub use declared::{
     has_layout_one, has_layout_two, has_no_tables, is_unindexed_one, is_unindexed_two,
 };
 pub use evidence::{
-    RawAgainst, RawEvidence, against_at, against_count, against_of, evidence_of, put_against,
+    RawAgainst, RawEvidence, against_at, against_count, against_of, evidence_level_of, put_against,
     put_evidence, raw_evidence,
 };
 pub use kept::{KeptReply, RawKept, keep_reply, kept_reply, raw_kept};

@@ -1,5 +1,6 @@
 //! Lists of versions, in the order of their subjects and numbers, and single versions of such
-//! lists. Subjects are in the order of their bytes.
+//! lists. Subjects are in the order of their bytes. Only `last_live_version_of` leaves out deleted
+//! versions.
 
 ghost use Rattle.std.specs.Prelude.{◌≡◌, ◌≢◌, ℕ, List, [], ◌∷◌, MatchOption, None, Some, not, map, filter, find, option_map};
 ghost use Rattle.std.specs.Ordering.{is_gt, nat_cmp};
@@ -87,7 +88,7 @@ pub fn versions_of<S: Alter>(
     )
 }
 
-/// The version of a subject with the greatest number, or `None`.
+/// The version of a subject with the greatest number, deleted or not, or `None`.
 ///
 /// # Errors
 ///

@@ -19,7 +19,7 @@ ghost use Rattle.reg_tables.specs.Reads.{CanReadMeta};
 ghost use Rattle.reg_tables.specs.Selects.{ReadsMeta};
 
 use crate::autocommit::AutocommitConnection;
-use crate::keyed::{ChangedTable, FilledTable, KeyedTable, find, put, set};
+use crate::keyed::{DeletableTable, InsertableTable, KeyedTable, find, put, set};
 use crate::statement::{FromRow, list};
 use sqlite::{Alter, Error, Row, Transaction, params};
 use std::alloc::Global;
@@ -38,7 +38,7 @@ impl KeyedTable for Meta {
     }
 }
 
-impl FilledTable for Meta {
+impl InsertableTable for Meta {
     ghost Written = { TakesMeta };
 
     fn put_sql() -> &'static str {
@@ -46,7 +46,7 @@ impl FilledTable for Meta {
     }
 }
 
-impl ChangedTable for Meta {
+impl DeletableTable for Meta {
     fn drop_sql() -> &'static str {
         "DELETE FROM meta WHERE name = ?1"
     }
@@ -78,7 +78,7 @@ impl FromRow for RawMeta {
     }
 }
 
-/// Inserts a value under a free name, in layout 1.
+/// Inserts a value under a free name, in layout 1. If the name is taken, the INSERT fails.
 pub(crate) fn put_meta<S: Alter>(
     tx: &mut Transaction<'_, S>,
     name: &str,

@@ -15,7 +15,7 @@ ghost use Rattle.reg_tables.specs.Inside.ReadableRows.{IsReadablePair};
 ghost use Rattle.reg_tables.specs.Lookups.{ReadsTable};
 
 use crate::autocommit::AutocommitConnection;
-use crate::keyed::{ChangedTable, FilledTable, KeyedTable, delete, find, set};
+use crate::keyed::{DeletableTable, InsertableTable, KeyedTable, delete, find, set};
 use crate::statement::{FromRow, list};
 use sqlite::{Alter, Error, Row, Transaction, params};
 use std::alloc::Global;
@@ -34,7 +34,7 @@ impl KeyedTable for Modes {
     }
 }
 
-impl FilledTable for Modes {
+impl InsertableTable for Modes {
     ghost Written = { IsLayoutTwo };
 
     fn put_sql() -> &'static str {
@@ -42,7 +42,7 @@ impl FilledTable for Modes {
     }
 }
 
-impl ChangedTable for Modes {
+impl DeletableTable for Modes {
     fn drop_sql() -> &'static str {
         "DELETE FROM modes WHERE subject = ?1"
     }
@@ -74,7 +74,7 @@ impl FromRow for RawMode {
     }
 }
 
-/// Deletes the own mode of a subject, if it has one.
+/// Deletes the own mode of a subject. If the subject has none, nothing changes.
 ///
 /// # Errors
 ///

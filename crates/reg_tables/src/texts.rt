@@ -29,8 +29,8 @@ impl KeyedTable for Texts {
     }
 }
 
-/// Adds a text under an id. The caller must know that the id is free and that no other id has the
-/// text.
+/// Inserts a text under an id. The caller must know that the id is free and that no other id has
+/// the text; otherwise the INSERT fails.
 ///
 /// # Errors
 ///

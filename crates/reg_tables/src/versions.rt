@@ -18,7 +18,7 @@ ghost use Rattle.reg_tables.specs.Reads.{CanBeRead};
 ghost use Rattle.reg_tables.specs.Inside.FailedLists.{IsReadingError};
 
 use crate::autocommit::AutocommitConnection;
-use crate::keyed::{FilledTable, KeyedTable, find, put};
+use crate::keyed::{InsertableTable, KeyedTable, find, put};
 use crate::statement::{FromRow, list, run};
 use sqlite::{Alter, Error, ErrorCode, Row, Transaction, params};
 use std::alloc::Global;
@@ -59,7 +59,7 @@ impl KeyedTable for Versions {
     }
 }
 
-impl FilledTable for Versions {
+impl InsertableTable for Versions {
     ghost Written = { IsLayoutTwo };
 
     fn put_sql() -> &'static str {
@@ -113,8 +113,8 @@ pub(crate) fn flag_in(row: &Row, at: usize) -> Result<bool, Error>
     }
 }
 
-/// Adds a version of a subject. The caller must know that its number is free and that its id has a
-/// text.
+/// Inserts a version of a subject. The caller must know that its number is free and that its id has
+/// a text; otherwise the INSERT fails.
 ///
 /// # Errors
 ///

@@ -15,8 +15,8 @@ use std::alloc::Global;
 /// The most versions that `some_versions_of_id` returns.
 pub const VERSIONS_LIMIT: usize = 33;
 
-/// At most `VERSIONS_LIMIT` versions with this id, in any order. If they are fewer, they are all. The
-/// limit and the index bound the steps of the query.
+/// At most `VERSIONS_LIMIT` versions with this id, deleted or not, in any order. If they are fewer,
+/// they are all. The limit and the index bound the steps of the query.
 ///
 /// # Errors
 ///

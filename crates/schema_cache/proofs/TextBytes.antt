@@ -5,31 +5,31 @@ use Rattle.std.specs.Prelude.{option_map}
 use Rattle.std.specs.Map.{lookup, lookup_entry, remove_entry}
 use Rattle.lru.specs.LruCache.{LruCache, promoted, put_entries, displaced, last_entry}
 use Rattle.lru.proofs.CallerLemmas.{Contains-lookup_entry}
-use Rattle.schema_cache.specs.Entries.{EntryView, size, text_bytes}
+use Rattle.schema_cache.specs.Entries.{EntryView, entry_text_bytes, text_bytes}
 
-pub text_bytes-take : (n : ℕ) (es : List (ℕ × EntryView)) → length es ≤ suc n → text_bytes (take n es) + size (slice_get es n) ≡ text_bytes es
+pub text_bytes-take : (n : ℕ) (es : List (ℕ × EntryView)) → length es ≤ suc n → text_bytes (take n es) + entry_text_bytes (slice_get es n) ≡ text_bytes es
 text_bytes-take zero [] h = refl
 text_bytes-take zero (e ∷ []) h = omega arith
 text_bytes-take zero (e ∷ f ∷ es) h = absurd (omega arith)
 text_bytes-take (suc n) [] h = refl
 text_bytes-take (suc n) (e ∷ es) h = let later = text_bytes-take n es (omega arith) in omega arith
 
-pub text_bytes-last : (es : List (ℕ × EntryView)) → text_bytes (take (length es - 1) es) + size (last_entry es) ≡ text_bytes es
+pub text_bytes-last : (es : List (ℕ × EntryView)) → text_bytes (take (length es - 1) es) + entry_text_bytes (last_entry es) ≡ text_bytes es
 text_bytes-last es = text_bytes-take (length es - 1) es (omega arith)
 
 module _ (test : ℕ → Bool) where
-  pub text_bytes-remove_entry : (es : List (ℕ × EntryView)) → text_bytes (remove_entry test es) + size (lookup_entry test es) ≡ text_bytes es
+  pub text_bytes-remove_entry : (es : List (ℕ × EntryView)) → text_bytes (remove_entry test es) + entry_text_bytes (lookup_entry test es) ≡ text_bytes es
   text_bytes-remove_entry [] = refl
   text_bytes-remove_entry (e ∷ es) = by (test e.0) (text_bytes-remove_entry es)
     where
-      by : (b : Bool) → text_bytes (remove_entry test es) + size (lookup_entry test es) ≡ text_bytes es → text_bytes (cond b es (e ∷ remove_entry test es)) + size (cond b (Some e) (lookup_entry test es)) ≡ text_bytes (e ∷ es)
+      by : (b : Bool) → text_bytes (remove_entry test es) + entry_text_bytes (lookup_entry test es) ≡ text_bytes es → text_bytes (cond b es (e ∷ remove_entry test es)) + entry_text_bytes (cond b (Some e) (lookup_entry test es)) ≡ text_bytes (e ∷ es)
       by true later = omega arith
       by false later = omega arith
 
   pub text_bytes-promoted : (es : List (ℕ × EntryView)) → text_bytes (promoted test es) ≡ text_bytes es
   text_bytes-promoted es = by (lookup_entry test es) (text_bytes-remove_entry es)
     where
-      by : (o : Option (ℕ × EntryView)) → text_bytes (remove_entry test es) + size o ≡ text_bytes es → text_bytes (option_map_or (λ e. e ∷ remove_entry test es) o es) ≡ text_bytes es
+      by : (o : Option (ℕ × EntryView)) → text_bytes (remove_entry test es) + entry_text_bytes o ≡ text_bytes es → text_bytes (option_map_or (λ e. e ∷ remove_entry test es) o es) ≡ text_bytes es
       by None h = refl
       by (Some e) h = omega arith
 
@@ -51,11 +51,11 @@ module _ (test : ℕ → Bool) where
 
 module _ (eq : ℕ → ℕ → Bool) (c : LruCache ℕ EntryView) (k : ℕ) (v : EntryView) where
   -- `push` adds an entry, and returns the displaced one
-  pub text_bytes-put : length c.entries ≤ c.cap → 0 < c.cap → text_bytes (put_entries eq c k v) + size (displaced eq c k v) ≡ text_bytes c.entries + length v.text
+  pub text_bytes-put : length c.entries ≤ c.cap → 0 < c.cap → text_bytes (put_entries eq c k v) + entry_text_bytes (displaced eq c k v) ≡ text_bytes c.entries + length v.text
   text_bytes-put few some = by (lookup_entry (eq k) c.entries) (lookup (eq k) c.entries) (lookup-by_entry (eq k) c.entries) (text_bytes-remove_entry (eq k) c.entries)
     where
-      by : (o : Option (ℕ × EntryView)) (p : Option EntryView) → p ≡ option_map (λ e. e.1) o → text_bytes (remove_entry (eq k) c.entries) + size o ≡ text_bytes c.entries
+      by : (o : Option (ℕ × EntryView)) (p : Option EntryView) → p ≡ option_map (λ e. e.1) o → text_bytes (remove_entry (eq k) c.entries) + entry_text_bytes o ≡ text_bytes c.entries
           → text_bytes (option_map_or (λ e. (e.0, v) ∷ remove_entry (eq k) c.entries) o ((k, v) ∷ take (c.cap - 1) c.entries))
-          + size (option_map_or (λ old. Some (k, old)) p (slice_get c.entries (c.cap - 1))) ≡ text_bytes c.entries + length v.text
+          + entry_text_bytes (option_map_or (λ old. Some (k, old)) p (slice_get c.entries (c.cap - 1))) ≡ text_bytes c.entries + length v.text
       by None p e h = rw e (let all = text_bytes-take (c.cap - 1) c.entries (omega arith) in omega arith)
       by (Some f) p e h = rw e (omega arith)

@@ -7,12 +7,12 @@ use Rattle.schema_cache.specs.declared.cache_lookup.CacheLookup.{CacheLookup}
 use Rattle.schema_cache.specs.declared.cache_lookup.CacheLookup.TheVariants as found
 use Rattle.schema_cache.specs.Entries.{EntryView}
 
--- the nodes of the schema
+-- the nodes of the schema, cached or just parsed
 abbrev pub found_schema : CacheLookup → List Node
 found_schema (found.Cached schema) = schema.now
 found_schema (found.Uncached schema) = schema
 
--- the uncached schema, or without one the cached entry, is that of the text
+-- If a schema is given, it is uncached, and the text denotes it. Otherwise an entry is given, and it has this text.
 abbrev pub IsSchemaOf : List ℕ → Option (List Node) → Option EntryView → Type 0
 IsSchemaOf text (Some schema) entry = denoted_nodes text ≡ Some (nodes_view schema)
 IsSchemaOf text None (Some entry) = entry.text ≡ text

@@ -6,7 +6,7 @@ use Rattle.avro_nodes.specs.declared.node.Node.{Node}
 use Rattle.avro_nodes.specs.contracts.node.Node.{the_row}
 use Rattle.avro_schema.specs.DenotedNodes.{denoted_nodes}
 
--- a text, and the nodes of the schema that was parsed from it
+-- a text, and the nodes of a schema that it denotes
 pub record EntryView : Type 0 where
   pub text : List ℕ
   pub nodes : List Node
@@ -15,23 +15,23 @@ pub record EntryView : Type 0 where
 abbrev pub entry_code : Coded EntryView
 entry_code = code_by (List ℕ × List Node) (coded× (coded_list coded_ℕ) (coded_list the_row.coded)) (λ r. (r.text, r.nodes)) (λ p. record { text = p.0; nodes = p.1 }) (λ _. refl)
 
--- the bytes of the texts of these entries
+-- the total length of these entries' texts, in bytes
 abbrev pub text_bytes : List (ℕ × EntryView) → ℕ
 text_bytes [] = 0
 text_bytes (e ∷ es) = length e.1.text + text_bytes es
 
 -- the bytes of an entry's text, or 0 without an entry
-abbrev pub size : Option (ℕ × EntryView) → ℕ
-size None = 0
-size (Some e) = length e.1.text
+abbrev pub entry_text_bytes : Option (ℕ × EntryView) → ℕ
+entry_text_bytes None = 0
+entry_text_bytes (Some e) = length e.1.text
 
 -- the maximum number of entries
 abbrev pub max_entries : ℕ
 max_entries = 256
 
 -- the maximum length of all texts together: 384 KiB
-abbrev pub max_text_bytes : ℕ
-max_text_bytes = 393216
+abbrev pub max_total_bytes : ℕ
+max_total_bytes = 393216
 
 -- the maximum length of a text: 64 KiB
 abbrev pub max_cached_text : ℕ

@@ -6,11 +6,11 @@ ghost use Rattle.avro_nodes.specs.Nodes.{NodeView, nodes_view};
 ghost use Rattle.avro_schema.specs.Texts.{TextDenotes};
 ghost use Rattle.avro_schema.specs.DenotedNodes.{denoted_nodes};
 ghost use Rattle.schema_cache.specs.Answers.{IsSchemaOf, found_schema};
-ghost use Rattle.schema_cache.specs.Entries.{text_bytes, max_entries, max_cached_text, max_text_bytes};
+ghost use Rattle.schema_cache.specs.Entries.{text_bytes, max_entries, max_cached_text, max_total_bytes};
 
 use crate::cache_lookup::CacheLookup;
 use crate::entry::Entry;
-use crate::lru_entries::{LruEntries, MAX_ENTRIES, MAX_TEXT_BYTES};
+use crate::lru_entries::{LruEntries, MAX_ENTRIES, MAX_TOTAL_BYTES};
 use avro_schema::{Schema, SchemaError};
 use std::alloc::Global;
 use std::marker::Model;
@@ -29,10 +29,11 @@ pub enum EvictionPolicy {
 
 impl EvictionPolicy {
     /// Returns the policy for a scan that reads this many schemas, with this many bytes of texts.
-    /// If they don't all fit, it is `NeverEvict`: each schema would be evicted before its next use.
-    /// Else it is `EvictIfFull`.
+    /// If either number exceeds the cache's limit, it is `NeverEvict`, since `EvictIfFull` could
+    /// evict each schema before its next use. Otherwise it is `EvictIfFull`. Texts of more than
+    /// 64 KiB count too, though they aren't cached.
     pub fn for_scan(schemas: usize, bytes: usize) -> EvictionPolicy {
-        if schemas > MAX_ENTRIES || bytes > MAX_TEXT_BYTES {
+        if schemas > MAX_ENTRIES || bytes > MAX_TOTAL_BYTES {
             EvictionPolicy::NeverEvict
         } else {
             EvictionPolicy::EvictIfFull
@@ -68,12 +69,12 @@ impl SchemaCache {
         SchemaCache { lru_entries: None }
     }
 
-    /// Returns the number of cached schemas, and the bytes of their texts.
+    /// Returns the number of cached schemas, and the total length of their texts in bytes.
     pub fn len_and_bytes(&self) -> (usize, usize)
         ensures schemas { result.0 ≡ length self.now }
         ensures bytes { result.1 ≡ text_bytes self.now }
         ensures few { result.0 ≤ max_entries }
-        ensures small { result.1 ≤ max_text_bytes }
+        ensures small { result.1 ≤ max_total_bytes }
     {
         match &self.lru_entries {
             Some(lru_entries) => lru_entries.len_and_bytes(),
@@ -81,14 +82,14 @@ impl SchemaCache {
         }
     }
 
-    /// Returns the schema that is cached under the id, if it was parsed from this text, and makes
-    /// it the most recently used. Otherwise parses the text as `Schema::read` does, and caches the
-    /// schema in place of any other one of the id. A text of more than 64 KiB isn't cached. Nor is
-    /// any if the policy is `NeverEvict` and there is no room, or if an allocation fails.
+    /// If a schema is cached under the id with this text, returns it and makes it the most recently
+    /// used. Otherwise parses the text as `Schema::read` does, and caches the schema in place of an
+    /// earlier one of the id. A text of more than 64 KiB isn't cached. Nor is any if the policy is
+    /// `NeverEvict` and there is no room, or if an allocation fails.
     ///
     /// # Errors
     ///
-    /// The errors of `Schema::read`.
+    /// The errors of `Schema::read`. The cache is then unchanged.
     pub fn read(
         &mut self,
         alloc: Global,
@@ -128,7 +129,8 @@ impl SchemaCache {
         let _unremembered = self.insert(alloc, id, text, schema, eviction_policy);
     }
 
-    /// Removes and returns the schema of the id, if it was parsed from this text.
+    /// If a schema is cached under the id with this text, removes and returns it. Otherwise returns
+    /// `None`, and the cache is unchanged.
     pub fn take(&mut self, id: u32, text: &str) -> Option<Schema>
         ensures { IfSome result (λ schema. denoted_nodes text.now ≡ Some (nodes_view schema)) }
     {
@@ -141,8 +143,9 @@ impl SchemaCache {
         }
     }
 
-    /// Parses the text and caches the schema, unless it is cached. Returns the schema if it can't
-    /// be cached, and `None` if it is in the cache.
+    /// If the id has an entry with this text, makes it the most recently used. Otherwise parses the
+    /// text, and caches the schema as `insert` does. Returns `None` if the schema is in the cache
+    /// now, otherwise the schema.
     fn load(
         &mut self,
         alloc: Global,
@@ -193,8 +196,8 @@ impl SchemaCache {
         }
     }
 
-    /// Caches the schema of the text. Returns it if there is no room for the text, or if an
-    /// allocation fails.
+    /// Caches the schema of the text and returns `None`. If `has_room` is false for the text, or if
+    /// an allocation fails, returns the schema.
     fn insert(
         &mut self,
         alloc: Global,
@@ -222,7 +225,8 @@ impl SchemaCache {
         }
     }
 
-    /// Whether a text of this many bytes may be cached.
+    /// Whether a text of this many bytes may be cached: it has at most 64 KiB, and if the policy is
+    /// `NeverEvict`, there is room for one more entry.
     fn has_room(&self, bytes: usize, eviction_policy: EvictionPolicy) -> bool
         ensures { IsTrue result → bytes ≤ max_cached_text }
     {

@@ -30,8 +30,8 @@ impl Model for Entry {
 }
 
 impl Entry {
-    /// Copies the text, and adds the schema that was parsed from it. Returns the schema if the
-    /// allocation fails.
+    /// Copies the text, and adds a schema that the text denotes. If the allocation fails, returns
+    /// the schema.
     pub fn new(alloc: Global, text: &str, schema: Schema) -> Result<Entry, Schema>
         requires { IsCacheable text.now schema }
         ensures ok { IfOk result (λ entry. entry ≡ record { text = text.now; nodes = schema }) }

@@ -3,7 +3,7 @@
 ghost use Rattle.std.specs.Prelude.{◌≡◌, ◌+◌, ◌-◌, ◌≤◌, ◌<◌, [], IfOk, IfErr, OnOk, length, take, option_copied, nat_eq};
 ghost use Rattle.std.specs.Map.{lookup};
 ghost use Rattle.lru.specs.LruCache.{promoted};
-ghost use Rattle.schema_cache.specs.Entries.{size, text_bytes, max_text_bytes, max_entries};
+ghost use Rattle.schema_cache.specs.Entries.{entry_text_bytes, text_bytes, max_total_bytes, max_entries};
 
 use crate::entry::Entry;
 use lru::LruCache;
@@ -13,7 +13,7 @@ use std::num::NonZeroUsize;
 
 /// The maximum length of all cached texts together: 384 KiB. Parsed texts full of small objects
 /// take about 130 times their length, so a cache of them takes about 51 MB.
-pub const MAX_TEXT_BYTES: usize = 393216;
+pub const MAX_TOTAL_BYTES: usize = 393216;
 
 /// The maximum number of entries.
 pub const MAX_ENTRIES: usize = 256;
@@ -43,7 +43,7 @@ impl Model for LruEntries {
 
 /// Drops a removed entry, and returns the length of its text; 0 for `None`.
 fn freed_bytes(removed: Option<(u32, Entry)>) -> usize
-    ensures { result ≡ size removed }
+    ensures { result ≡ entry_text_bytes removed }
 {
     match removed {
         Some((_, entry)) => entry.text().len(),
@@ -52,7 +52,7 @@ fn freed_bytes(removed: Option<(u32, Entry)>) -> usize
 }
 
 impl LruEntries {
-    /// Returns no entries.
+    /// Returns an empty list of entries.
     pub fn new(alloc: Global) -> Result<LruEntries, AllocError>
         ensures { IfOk result (λ lru_entries. lru_entries ≡ []) }
     {
@@ -60,12 +60,12 @@ impl LruEntries {
         Ok(LruEntries { cache, bytes: 0 })
     }
 
-    /// Returns the number of entries, and the bytes of their texts.
+    /// Returns the number of entries, and the total length of their texts in bytes.
     pub fn len_and_bytes(&self) -> (usize, usize)
         ensures entries { result.0 ≡ length self.now }
         ensures bytes { result.1 ≡ text_bytes self.now }
         ensures few { result.0 ≤ max_entries }
-        ensures small { result.1 ≤ max_text_bytes }
+        ensures small { result.1 ≤ max_total_bytes }
     {
         (self.cache.len(), self.bytes)
     }
@@ -95,7 +95,7 @@ impl LruEntries {
 
     /// Whether there is room for another entry with a text of this many bytes.
     pub fn has_room(&self, more: usize) -> bool {
-        self.cache.len() < MAX_ENTRIES && self.bytes.saturating_add(more) <= MAX_TEXT_BYTES
+        self.cache.len() < MAX_ENTRIES && self.bytes.saturating_add(more) <= MAX_TOTAL_BYTES
     }
 
     /// Evicts the least recently used entry.
@@ -109,18 +109,18 @@ impl LruEntries {
     /// Evicts the least recently used entries until there is room for another text of this many
     /// bytes.
     fn make_room(&mut self, more: usize)
-        requires { more ≤ max_text_bytes }
-        ensures text_bytes { text_bytes self.new + more ≤ max_text_bytes }
+        requires { more ≤ max_total_bytes }
+        ensures text_bytes { text_bytes self.new + more ≤ max_total_bytes }
         ensures few { length self.new < max_entries }
     {
-        while self.cache.len() >= MAX_ENTRIES || self.bytes > MAX_TEXT_BYTES - more {
+        while self.cache.len() >= MAX_ENTRIES || self.bytes > MAX_TOTAL_BYTES - more {
             self.evict();
         }
     }
 
-    /// Adds the entry under the id, in place of any other one of the id. First evicts entries until
-    /// there is room for one more. Returns the entry if an allocation fails; what was evicted is
-    /// gone all the same.
+    /// Inserts the entry under the id, or replaces the id's entry. First evicts the least recently
+    /// used entries until there is room for one more, even if the entry replaces another. If an
+    /// allocation fails, returns the entry; evicted entries aren't restored.
     pub fn add(&mut self, id: u32, entry: Entry) -> Result<(), Entry>
         ensures ok { OnOk result (lookup (nat_eq id) self.new ≡ Some entry) }
         ensures err { IfErr result (λ back. back ≡ entry) }

@@ -36,7 +36,7 @@ abbrev pub rest_after : List ℕ → Members → Members
 rest_after k no_members = no_members
 rest_after k (member l e ms) = match_ordering (slice_cmp nat_cmp k l) (member l e ms) ms (rest_after k ms)
 
--- the attributes, each after the members that sort before it
+-- the members with these attributes: each that has a value comes after the members that sort before it, and replaces one of its name
 abbrev pub merged : List Attribute → Members → Members
 merged [] others = others
 merged ((k, None) ∷ ps) others = merged ps others
@@ -44,6 +44,7 @@ merged ((k, Some d) ∷ ps) others = members_before_then k others (member k d (m
 
 -- ---- the tokens of members
 
+-- the JSON denotes the data, nests no deeper, and has its members in order and its integers in decimal
 abbrev pub IsJsonOf : json.Json → Data → Type 0
 IsJsonOf j d = (of_json j ≡ Some d) × (tree.depth j ≤ depth d) × (blank j ≡ outline d)
 
@@ -114,7 +115,7 @@ record_end enclosing name = (codes "name", Some (string name)) ∷ (codes "names
 
 -- ---- places
 
--- the value is written, and `written` is its number of places
+-- the value is written, and `written` is the number of places up to its end
 abbrev pub WritesCounted : Counted Data → List Token → List Token → ℕ → Type 0
 WritesCounted s old new written = WritesValue s.0 old new × (written ≡ s.1)
 

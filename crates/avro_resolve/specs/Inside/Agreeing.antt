@@ -87,7 +87,7 @@ symbol_ranks (Rec named fields) = []
 abbrev pub AreSymbolsMapped : List (List ℕ) → List (List ℕ) → Option (Vec ℕ Global) → Type 0
 AreSymbolsMapped names symbols found = MatchOption found (All (Contains names) symbols → ⊥) (λ v. AreSortedRanks names symbols v.items)
 
--- exactly the symbols with these indexes have a number in the slots of their ranks: their index plus 1
+-- exactly the symbols whose index is at least low and below high have a number in the slots of their ranks: their index plus 1
 pub record AreNumbered (slots symbols : List ℕ) (low high : ℕ) : Type 0 where
   pub only : (rank k : ℕ) → get_or slots rank 0 ≡ k + 1 → (low ≤ k) × (k < high) × (get_or symbols k 0 ≡ rank)
   pub each : (k : ℕ) → low ≤ k → k < high → get_or slots (get_or symbols k 0) 0 ≡ k + 1

@@ -7,6 +7,6 @@ use Rattle.avro_resolve.specs.declared.pair_set.PairSet.{PairSet}
 unfoldable pub bit : List ℕ → ℕ → Bool
 bit words k = bit_at (slice_index_or words (k / 64) 0) (k % 64) == 1
 
--- whether the pair is in the set, whose bits are row by row
+-- if j is a place of the reader: whether the pair is in the set, whose bits are row by row
 abbrev pub has : PairSet → ℕ → ℕ → Bool
 has s i j = bit s.words.items (i * s.readers + j)

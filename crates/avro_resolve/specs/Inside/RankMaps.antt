@@ -10,7 +10,7 @@ MapsName names name rank_map = MatchOption rank_map (Contains names name → ⊥
 abbrev pub AreMapped : List (List ℕ) → List (List ℕ) → List (Option ℕ) → Type 0
 AreMapped w r rank_map = AllZip (MapsName r) w rank_map
 
--- the rank to which a rank is mapped, or `None` past the last rank
+-- the rank to which a rank is mapped, or `None` if the reader lacks the name, or past the last rank
 abbrev pub mapped_rank : List (Option ℕ) → ℕ → Option ℕ
 mapped_rank rank_map rank = get_or rank_map rank None
 
@@ -18,7 +18,7 @@ mapped_rank rank_map rank = get_or rank_map rank None
 abbrev pub RanksDecideNames : List (List ℕ) → List (List ℕ) → List (Option ℕ) → Type 0
 RanksDecideNames w r rank_map = (a b : ℕ) (x y : List ℕ) → slice_get w a ≡ Some x → slice_get r b ≡ Some y → (mapped_rank rank_map a ≡ Some b) ↔ (x ≡ y)
 
--- the ranks to which these ranks are mapped, in order
+-- all of the first ranks are mapped, and the second ranks are those to which they are mapped, in order
 abbrev pub AreMappedRanks : List (Option ℕ) → List ℕ → List ℕ → Type 0
 AreMappedRanks rank_map ranks found = map (λ rank. Some rank) found ≡ map (λ rank. mapped_rank rank_map rank) ranks
 

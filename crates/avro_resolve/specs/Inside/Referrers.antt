@@ -46,7 +46,7 @@ pub record HasUnions (nodes : List NodeView) (lists : List (Vec ℕ Global)) : T
   pub named : (i : ℕ) (a : NodeView) → slice_get nodes i ≡ Some a → IsUnionListed lists i a
   pub meant : (i place : ℕ) → IsListedAt lists i place → (a : NodeView) → slice_get nodes i ≡ Some a → HasBranch a place
 
--- the list has the places of all unions
+-- the list has the places of all unions; other places aren't excluded
 pub record AreUnions (nodes : List NodeView) (unions : List ℕ) : Type 0 where
   pub within : All (λ i. i < length nodes) unions
   pub all : (i : ℕ) (branches : List ℕ) → slice_get nodes i ≡ Some (union branches) → Contains unions i
@@ -137,7 +137,8 @@ pub record OnlyAddsLinks (Such : Link → ℕ → Type 0) (old new : Links) : Ty
 abbrev pub AreSorted : List (Vec Link Global) → Type 0
 AreSorted lists = (place : ℕ) → IsNonDecreasingBy (λ (x : Link). x.label) (list_at lists place)
 
--- the list of each place has a link for each reference to it, by each label, and no other link
+-- The list of each place has a link for each reference to it, by each label. Its links are only of such references (IsOfNode); the label of a link
+-- by element or alias isn't restricted.
 pub record HasLinks (names : List (List ℕ)) (rank_map : Option (List (Option ℕ))) (nodes : List NodeView) (links : Links) : Type 0 where
   pub within : (x : Link) (place : ℕ) → IsListedAt links.lists.items x place → x.referrer < length nodes
   pub sorted : AreSorted links.lists.items
@@ -168,6 +169,6 @@ CanMatchKinds sources writer_place referrer _ _ = ⊥
 abbrev pub LinkKindsMatch : List (Vec ℕ Global) → ℕ → Link → Link → Type 0
 LinkKindsMatch sources writer_place writer_link reader_link = CanMatchKinds sources writer_place writer_link.referrer writer_link.kind reader_link.kind
 
--- if a link of each list have the same label and matching kinds, their referrers are in the relation
+-- if two links, one of each list, have the same label and matching kinds, their referrers are in the relation
 abbrev pub Joins : List (Vec ℕ Global) → ℕ → (ℕ → ℕ → Type 0) → List Link → List Link → Type 0
 Joins sources place Looked xs ys = (x y : Link) → Contains xs x → Contains ys y → x.label ≡ y.label → LinkKindsMatch sources place x y → Looked x.referrer y.referrer

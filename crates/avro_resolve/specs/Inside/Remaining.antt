@@ -9,7 +9,7 @@ use Rattle.avro_resolve.specs.Inside.Agreeing.{Agree}
 use Rattle.avro_resolve.specs.Inside.Schemas.{columns, rows, IsValidSchemaPair}
 use Rattle.avro_resolve.specs.Witnesses.{Pair, member, without, RefutesAfter, AreDistinct}
 
--- the flag of a pair, in a list of flags row by row
+-- the flag of the pair (i, j), in a list with `readers` flags for each row; false past the last row or column
 unfoldable pub flag : List Bool → ℕ → ℕ → ℕ → Bool
 flag flags readers i j = nat_lt j readers && slice_index_or flags (i * readers + j) false
 
@@ -69,7 +69,7 @@ NeedsBranch t ps i branch j = IsTrue (remains t i j) → IsTrue (remains_or_queu
 abbrev pub AreEliminated : Table → List Pair → Type 0
 AreEliminated t ps = All (λ (p : Pair). remains t p.0 p.1 ≡ false) ps
 
--- some pairs were eliminated, and each was queued
+-- some pairs, or none, were eliminated, and each was queued
 pub record QueuesEliminated (old : Table) (before : List Pair) (new : Table) (after : List Pair) : Type 0 where
   pub fewer : (i j : ℕ) → IsTrue (remains new i j) → IsTrue (remains old i j)
   pub remains_or_queued : (i j : ℕ) → IsTrue (remains_or_queued old before i j) → IsTrue (remains_or_queued new after i j)
@@ -98,7 +98,7 @@ HasAgreedRemainder schemas p = IsValidSchemaPair schemas × IsAgreedRemainder (r
 abbrev pub IsPopped : SchemaPair → Progress → Pair → Type 0
 IsPopped schemas p popped = HasAgreedRemainder schemas p × (remains p.table popped.0 popped.1 ≡ false)
 
--- some unsupported pairs were eliminated, and each was queued
+-- some unsupported pairs, or none, were eliminated, and each was queued
 abbrev pub Eliminates : SchemaPair → Progress → Progress → Type 0
 Eliminates schemas p q = IsAgreedRemainder (rows schemas) (columns schemas) q.table × QueuesEliminated p.table p.eliminated.items q.table q.eliminated.items
 

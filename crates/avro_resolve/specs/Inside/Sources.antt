@@ -22,7 +22,7 @@ source_entry (Some place) = place + 1
 abbrev pub field_at : List NodeView → Aliased → Option FieldView
 field_at nodes aliased = option_and_then (λ a. slice_get (fields_of a) aliased.index) (slice_get nodes aliased.place)
 
--- the number is the source entry of the field, if the schema has this field
+-- if the reader's nodes have the field, the entry is its source entry; `fields` are the writer's
 abbrev pub IsSourceEntry : List NodeView → List FieldView → Aliased → ℕ → Type 0
 IsSourceEntry nodes fields aliased entry = (f : FieldView) → field_at nodes aliased ≡ Some f → entry ≡ source_entry (source_place fields f)
 
@@ -30,7 +30,7 @@ IsSourceEntry nodes fields aliased entry = (f : FieldView) → field_at nodes al
 abbrev pub Describes : List (List ℕ) → ReaderField → FieldView → Type 0
 Describes names wanted f = (wanted.place ≡ f.place) × (IsTrue wanted.has_default ↔ IsSome f.value) × IsFieldRanked names f wanted.names.now
 
--- a description, if there is one, is that of some field; if the schema has the aliased field, there is one, and it is that field's
+-- The description is `None`, or that of some field. If the schema has the aliased field, it is that field's.
 pub record IsReaderField (indexed : IndexedSchema) (aliased : Aliased) (wanted : Option ReaderField) : Type 0 where
   pub some : IfSome wanted (λ w. (f : FieldView) × Describes (names_of indexed) w f)
   pub known : (f : FieldView) → field_at (nodes_of indexed) aliased ≡ Some f → IsSomeAnd wanted (λ w. Describes (names_of indexed) w f)
@@ -39,6 +39,6 @@ pub record IsReaderField (indexed : IndexedSchema) (aliased : Aliased) (wanted :
 abbrev pub AreSources : List NodeView → List NodeView → List Aliased → List (Vec ℕ Global) → Type 0
 AreSources w r aliased sources = AllZip (λ a (row : Vec ℕ Global). AllZip (IsSourceEntry r (fields_of a)) aliased row.items) w sources
 
--- the source entry for a writer's place and a field's number
+-- the source entry for a writer's place and a field's number, or 0 past the last one
 abbrev pub entry_at : List (Vec ℕ Global) → ℕ → ℕ → ℕ
 entry_at sources i number = get_or (list_at sources i) number 0

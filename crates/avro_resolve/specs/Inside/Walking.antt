@@ -45,7 +45,8 @@ HasWalkInvariant w r s = WalkInvariant w r s.assumed.items s.failed.items s.visi
 abbrev pub ExtendsWalk : List NodeView → List NodeView → Walk → Walk → Type 0
 ExtendsWalk w r s t = Extends w r s.assumed.items s.failed.items t.assumed.items t.failed.items
 
--- the recursion may continue, at this depth, from these assumed and failed pairs, their bit sets and this number of visits
+-- The recursion may continue over these nodes, at this depth (the number of open pairs). Its state is given in parts: the assumed and failed pairs,
+-- their bit sets, and the number of visits.
 pub record CanContinue (w r : List NodeView) (depth : ℕ) (ps qs : List Pair) (s t : PairSet) (visits : ℕ) : Type 0 where
   pub writer : IsSelfContained w
   pub reader : IsSelfContained r
@@ -56,15 +57,16 @@ pub record CanContinue (w r : List NodeView) (depth : ℕ) (ps qs : List Pair) (
   pub assumed : Represents (length r) s ps
   pub failed : Represents (length r) t qs
 
--- the recursion may continue from this state, at this depth
+-- CanContinue, with the parts of this state
 abbrev pub IsReady : List NodeView → List NodeView → ℕ → Walk → Type 0
 IsReady w r depth s = CanContinue w r depth s.assumed.items s.failed.items s.assumed_set s.failed_set s.visits
 
--- the same for the nodes of two schemas
+-- both schemas are valid, their name ranks are mapped (IsValidSchemaPair), and the recursion may continue over their nodes (IsReady)
 abbrev pub MayContinue : SchemaPair → ℕ → Walk → Type 0
 MayContinue schemas depth s = IsValidSchemaPair schemas × IsReady (rows schemas) (columns schemas) depth s
 
--- From a state with these assumed and failed pairs: yes proves the first property, no the second. Unfinished comes only after a thousand visits.
+-- What the answer means, from a state with these assumed and failed pairs to the state t. Yes proves the first property, No the second; either way,
+-- t extends the earlier state and is ready (IsReady). After Unfinished, t has only the invariant, and at least a thousand visits.
 abbrev pub AnswerHolds : List NodeView → List NodeView → ℕ → List Pair → List Pair → Walk → Type 0 → Type 0 → Answer → Type 0
 AnswerHolds w r depth ps qs t held lost Yes = IsReady w r depth t × Extends w r ps qs t.assumed.items t.failed.items × held
 AnswerHolds w r depth ps qs t held lost No = IsReady w r depth t × Extends w r ps qs t.assumed.items t.failed.items × lost
@@ -73,7 +75,7 @@ AnswerHolds w r depth ps qs t held lost Unfinished = HasWalkInvariant w r t × (
 abbrev pub WalkAnswerHolds : SchemaPair → ℕ → Walk → Walk → Type 0 → Type 0 → Answer → Type 0
 WalkAnswerHolds schemas depth s t held lost answer = AnswerHolds (rows schemas) (columns schemas) depth s.assumed.items s.failed.items t held lost answer
 
--- What the recursion's answer for the pair of the roots proves after this many visits. A yes and a no have a witness of at most so many pairs.
+-- What the recursion's answer for the pair of the roots proves after this many visits. A yes and a no have a witness of at most this number of pairs.
 -- Unfinished proves only that there were at least a thousand visits.
 abbrev pub RootAnswerProves : List NodeView → List NodeView → ℕ → Answer → Type 0
 RootAnswerProves w r visits Yes = Resolves w r × HasClosedSet w r visits

@@ -53,7 +53,7 @@ named_in space ms known = do
   aliases ← texts_if_any (alias_in (namespace_of full)) (get_member (codes "aliases") (without_all (codes "name" ∷ codes "namespace" ∷ []) ms))
   Some (record { name = full; aliases = aliases })
 
--- the symbols of an enum
+-- the symbols of an enum, which must be distinct simple names
 unfoldable pub symbols_in : Members → Option (List (List ℕ))
 symbols_in ms = do
   items ← array_in (codes "symbols") ms

@@ -13,7 +13,7 @@ use Rattle.avro_schema.specs.Inside.Weight.{weight}
 use Rattle.avro_schema.specs.Inside.Types.{type_at}
 use Rattle.avro_schema.specs.Inside.Fitting.{node_defaults_fit}
 
--- the JSON value of a text
+-- the JSON value of a text after its numbers are rewritten
 unfoldable pub value_in : List ℕ → Option Data
 value_in text = do
   respelt ← plain text

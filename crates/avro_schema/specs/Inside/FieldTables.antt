@@ -39,17 +39,17 @@ IsFieldTableOf t node = (named : NamedView) (fields : List FieldView) (extra : M
 unfoldable pub AreFieldTables : List NodeView → List (Option FieldTable) → Type 0
 AreFieldTables nodes tables = (place : ℕ) (t : FieldTable) (node : NodeView) → slice_get tables place ≡ Some (Some t) → slice_get nodes place ≡ Some node → IsFieldTableOf t node
 
--- whether the field fits its member; `None` fits
+-- whether the member with the field's name fits the field, as in `field_fits_by`; `true` without a field
 abbrev pub fits_if_any : Fitting → Members → Option FieldView → Bool
 fits_if_any one ms None = true
 fits_if_any one ms (Some f) = field_fits_by one f (get_member f.name ms)
 
--- whether the field at the index fits its member; no index and no field fit
+-- the same for the field at the index; `true` without an index, or if it is out of range
 abbrev pub index_fits : Fitting → Members → List FieldView → Option ℕ → Bool
 index_fits one ms fields None = true
 index_fits one ms fields (Some i) = fits_if_any one ms (slice_get fields i)
 
--- whether the fields fit that the members name
+-- whether each field fits that the table finds by a name of the last argument; names without a field are ignored
 abbrev pub named_fit : Fitting → Members → List FieldView → FieldTable → Members → Bool
 named_fit one ms fields t no_members = true
 named_fit one ms fields t (member k d more) = index_fits one ms fields (named_in t k) && named_fit one ms fields t more

@@ -14,6 +14,7 @@ abbrev pub integer_fits : (ℤ → Bool) → Option ℤ → Bool
 integer_fits test None = false
 integer_fits test (Some z) = test z
 
+-- whether a number fits the primitive type, given its value as a signed 64-bit integer, or `None` if it is none
 abbrev pub number_fits : PrimitiveKind → Option ℤ → Bool
 number_fits Null o = false
 number_fits Boolean o = false
@@ -74,6 +75,7 @@ abbrev pub members_fit : Fitting → Members → ℕ → Bool
 members_fit one no_members place = true
 members_fit one (member k d ms) place = one d place && members_fit one ms place
 
+-- whether the member with the field's name fits the field; if it is missing, whether the field has a default
 abbrev pub field_fits_by : Fitting → FieldView → Option Data → Bool
 field_fits_by one f None = is_some f.value
 field_fits_by one f (Some d) = one d f.place
@@ -122,7 +124,7 @@ record_fits one (string s) fields = false
 record_fits one (json.array ds) fields = false
 record_fits one (json.object ms) fields = fields_fit one ms fields
 
--- whether the value fits a node that is no union
+-- whether the value fits the node; nothing fits a union itself, or `None`
 abbrev pub node_fits : Fitting → Data → Option NodeView → Bool
 node_fits one v None = false
 node_fits one v (Some (primitive kind extra)) = primitive_fits v kind

@@ -1,4 +1,4 @@
--- The names of nodes, in order of occurrence, with duplicates.
+-- All names in nodes, in order of occurrence, with duplicates: full names and their last parts, aliases, field names and symbols.
 use Rattle.std.specs.Prelude.{ℕ, List, [], ◌∷◌, ◌++◌, map}
 use Rattle.std.specs.Borrow.{Bor}
 use Rattle.avro_nodes.specs.Names.{last_part}
@@ -14,6 +14,7 @@ named_texts named = last_part named.name ∷ (named.name ∷ named.aliases)
 abbrev pub field_texts : FieldView → List (List ℕ)
 field_texts field = field.name ∷ field.aliases
 
+-- the names and aliases of the fields
 abbrev pub fields_texts : List FieldView → List (List ℕ)
 fields_texts [] = []
 fields_texts (field ∷ fields) = field_texts field ++ fields_texts fields

@@ -22,6 +22,7 @@ pub record AddsPart {A : Type 0} (o : Option (Part A)) (it : A) (before after : 
   pub is : o ≡ Some (record { it = it; nodes = added; known = known })
   pub after_is : after ≡ before ++ added
 
+-- `Ok x` implies `AddsPart` with `shown x`; an error is as in `Fails`, and implies nothing about `after` and `known`
 abbrev pub ReadsPart : {X A : Type 0} → (X → A) → Result X SchemaError → Option (Part A) → List NodeView → List NodeView → Known → Type 0
 ReadsPart shown (Ok x) o before after known = AddsPart o (shown x) before after known
 ReadsPart shown (Err e) o before after known = Fails e o

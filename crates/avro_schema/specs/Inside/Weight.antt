@@ -34,7 +34,7 @@ abbrev pub names_size : List NodeView → ℕ
 names_size [] = 0
 names_size (node ∷ nodes) = node_names_size node + names_size nodes
 
--- ---- the same for a JSON value; the number has no meaning if the value denotes no nodes. A value that nests deeper counts 0
+-- ---- the same for a JSON value; the number has no meaning if the value denotes no nodes
 
 abbrev pub map_or_zero : {A : Type 0} → (A → ℕ) → Option A → ℕ
 map_or_zero one None = 0

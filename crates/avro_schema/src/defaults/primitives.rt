@@ -29,6 +29,8 @@ pub fn is_bytes_of(text: &str, size: u32) -> bool
     is_bytes(text) && char_count(text) == size as usize
 }
 
+/// Whether the value fits the primitive type. For `long`, `float` and `double` it must be a signed
+/// 64-bit integer.
 pub fn primitive_fits(value: &Value, kind: PrimitiveKind) -> bool
     ensures { result ≡ primitive_fits (view value.now) kind }
 {

@@ -151,9 +151,9 @@ impl DatabaseTask for Task {
     }
 }
 
-/// Each job prints its output, or the beginning that fits, and reports a lost part. This excludes
-/// what no contract does: a store that returns `Disk` from each write over a sound disk, and a
-/// listing that always fails to allocate.
+/// Each job prints its output, or the beginning that fits, and reports a lost part. A store that
+/// returns `Disk` from each write over a sound disk would fail this test, and so would a listing
+/// that always fails to allocate. No contract excludes either.
 #[test]
 fn lost_output_is_reported(rt: HostRuntime) -> Result<(), Fail> {
     let alloc = rt.alloc();

@@ -106,8 +106,8 @@ fn take_turns_until<'a>(
     Ok(())
 }
 
-/// Each of three messages gets its response before the next read. This excludes what no contract
-/// does: a `serve` that returns `Memory` before it reads.
+/// Each of three messages gets its response before the next read. A `serve` that returns `Memory`
+/// before it reads would fail this test. No contract excludes it.
 #[test]
 fn messages_are_answered_in_turn(rt: HostRuntime) -> Result<(), Fail> {
     take_turns_until(rt.alloc(), SET_FULL, FULL_SET, Ended::Closed)

@@ -19,6 +19,6 @@ view_schema view row = option_and_then denoted_nodes (view_text view row.1.id)
 abbrev pub is_compatible_in_view : View → Level → List NodeView → Row → Bool
 is_compatible_in_view view level new row = option_map_or (λ earlier. is_compatible level earlier new) (view_schema view row) false
 
--- this project's choice: whether `is_compatible_in_view` holds for each of these versions that the level compares with
+-- this project's choice: whether `is_compatible_in_view` is true for each of these versions that the level compares with
 abbrev pub is_admitted_in_view : View → Level → List Row → List NodeView → Bool
 is_admitted_in_view view level rows new = list_all (is_compatible_in_view view level new) (named_versions level rows)

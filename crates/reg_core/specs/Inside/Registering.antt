@@ -37,6 +37,6 @@ abbrev pub text_added : Option ℕ → ℕ → List NodeView → List Change
 text_added None id new = change.AddText id (identity new) ∷ []
 text_added (Some known) id new = []
 
--- this project's choice: the changes that add the version, and its schema if it is new
+-- this project's choice: the changes that add the version with its evidence and, if `known` is `None`, first the text of its schema
 abbrev pub version_added : Option ℕ → Row → Evidence → List NodeView → List Change
 version_added known row evidence new = text_added known row.1.id new ++ change.AddRow row evidence ∷ []

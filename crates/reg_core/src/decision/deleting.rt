@@ -25,7 +25,8 @@ use crate::subject::Subject;
 use avro_nodes::OutOfMemory;
 use std::alloc::Global;
 
-/// Soft-deletes the chosen version of the subject, or with `permanent` removes it.
+/// Soft-deletes the chosen version of the subject, which must be live. With `permanent`, removes it
+/// instead; then it must be soft-deleted. Replies with its number. A refusal changes nothing.
 pub fn delete_version(
     alloc: Global,
     view: &View,
@@ -42,6 +43,7 @@ pub fn delete_version(
     ensures fit { IfOk result (λ decision. (g : Registry) → ChangesFit decision.changes.items g) }
     ensures adds_no_version { IfOk result (λ decision. AddNoVersion decision.changes.items) }
     ensures refusal { IfOk result (λ decision. decision.reply.status ≢ 200 → decision.changes.items ≡ []) }
+    // The reply is neither a backend fault nor that of a reused retry key.
     ensures own { IfOk result (λ decision. IsCommandReply decision.reply) }
 {
     let rows = visible_rows(alloc, true, &view.rows)?;
@@ -71,7 +73,8 @@ fn row_to_delete<'a>(
     }
 }
 
-/// The version to soft-delete, or the code of the refusal. `live` has the live ones of `rows`.
+/// The live version to soft-delete, or the code of the refusal. `latest` is the last live one.
+/// `live` must be the live versions of `rows`.
 fn row_to_soft_delete<'a>(
     choice: Option<VersionChoice>,
     rows: &[&'a Row],
@@ -91,7 +94,8 @@ fn row_to_soft_delete<'a>(
     Ok(row)
 }
 
-/// The version to remove, or the code of the refusal.
+/// The soft-deleted version to remove, or the code of the refusal. `latest` is the last version,
+/// soft-deleted or not, so it is rejected if it is live.
 fn row_to_remove<'a>(choice: Option<VersionChoice>, rows: &[&'a Row]) -> Result<&'a Row, Code>
     ensures { result_map_both (λ row. row.now) (λ code. code) result
         ≡ row_to_remove choice (map (λ row. row.now) rows.now) }
@@ -133,8 +137,9 @@ fn version_change(subject: &Subject, version: u32, permanent: bool) -> Result<Ch
     }
 }
 
-/// Soft-deletes the subject's versions and removes its own level. With `permanent`, removes the
-/// versions and the subject's own mode too.
+/// Soft-deletes the subject's live versions, and removes its own level. With `permanent`, removes
+/// its own level, its own mode and all its versions, which must be soft-deleted. Rejects a subject
+/// without versions and, without `permanent`, a subject without live ones.
 pub fn delete_subject(
     alloc: Global,
     view: &View,
@@ -150,6 +155,7 @@ pub fn delete_subject(
     ensures fit { IfOk result (λ decision. (g : Registry) → ChangesFit decision.changes.items g) }
     ensures adds_no_version { IfOk result (λ decision. AddNoVersion decision.changes.items) }
     ensures refusal { IfOk result (λ decision. decision.reply.status ≢ 200 → decision.changes.items ≡ []) }
+    // The reply is neither a backend fault nor that of a reused retry key.
     ensures own { IfOk result (λ decision. IsCommandReply decision.reply) }
 {
     let rows = visible_rows(alloc, true, &view.rows)?;

@@ -43,7 +43,7 @@ fn quoted_by_serde(alloc: Global, text: &str) -> Result<String, AllocError>
 }
 
 /// A text as a JSON string, with its quotation marks. Each run of plain bytes is copied at once. A
-/// text with control characters is left to `serde_json`; no identity text has any. The first
+/// text with characters below U+0020 is left to `serde_json`; no identity text has any. The first
 /// allocation suffices if at most a quarter of the bytes are escaped.
 ///
 /// # Errors

@@ -82,7 +82,8 @@ pub fn version(
     }
 }
 
-/// The reply with only the schema of the version that the text chooses.
+/// The reply with only the schema of the version that the text chooses. It is a fault in the same
+/// cases as the reply of `version`.
 pub fn version_text(
     alloc: Global,
     view: &View,
@@ -99,7 +100,8 @@ pub fn version_text(
     }
 }
 
-/// The reply with the subject's last version that has the schema.
+/// The reply with the last shown version that has the schema. It is a fault if the schema is
+/// invalid (`None`), no version is shown, or none has the schema.
 pub fn lookup(
     alloc: Global,
     view: &View,
@@ -120,7 +122,8 @@ pub fn lookup(
     }
 }
 
-/// The last of these versions that has the id, or the code of the refusal.
+/// The last of these versions that has the id. Otherwise `SubjectNotFound` if there are no
+/// versions, else `SchemaNotFound`.
 pub fn lookup_row<'a>(known: Option<u32>, rows: &[&'a Row]) -> Result<&'a Row, Code>
     ensures { result_map_both (λ row. row.now) (λ code. code) result
         ≡ lookup_row known (map (λ row. row.now) rows.now) }
@@ -148,7 +151,7 @@ fn last_with_id<'a>(schema_id: Option<u32>, rows: &[&'a Row]) -> Option<&'a Row>
     last
 }
 
-/// The reply with the schema of an id that some version has.
+/// The reply with the schema of an id that some version has, else the fault `SchemaNotFound`.
 pub fn by_id(alloc: Global, view: &View, id: &str) -> Result<Reply, OutOfMemory>
     ensures { IfOk result (λ reply. reply ≡ id_reply (view_text view.now) (parse_id id.now) view.now.rows.items) }
 {
@@ -158,7 +161,8 @@ pub fn by_id(alloc: Global, view: &View, id: &str) -> Result<Reply, OutOfMemory>
     }
 }
 
-/// The reply with the shown versions of an id that some version has, perhaps a soft-deleted one.
+/// The reply with the shown versions of an id, perhaps none. It is the fault `SchemaNotFound` if
+/// the text is no id, or no version has it, not even a soft-deleted one.
 pub fn versions_of_id(
     alloc: Global,
     shows_deleted: bool,

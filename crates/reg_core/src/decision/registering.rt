@@ -53,6 +53,7 @@ pub fn register(
         → IsDecisionInput g (Register subject.now text supported) (option_map nodes_view (option_copied schema.entry)) view.now
         → UpdateEvidence decision.changes.items g) }
     ensures refusal { IfOk result (λ decision. decision.reply.status ≢ 200 → decision.changes.items ≡ []) }
+    // The reply is neither a backend fault nor that of a reused retry key.
     ensures own { IfOk result (λ decision. IsCommandReply decision.reply) }
 {
     let Some(new) = schema else {
@@ -75,7 +76,8 @@ pub fn register(
     Ok(Decision { changes, reply })
 }
 
-/// The reply with the verdict whether the subject's level would admit the schema.
+/// The reply with the verdict whether the subject's level would admit the schema. It is a fault if
+/// the schema is invalid (`None`).
 pub fn check_all(
     alloc: Global,
     view: &View,
@@ -85,6 +87,7 @@ pub fn check_all(
     ensures reply { IfOk result (λ reply. (g : Registry) (subject text : List ℕ) (supported : Bool)
         → IsDecisionInput g (CheckAll subject text supported) (option_map nodes_view (option_copied schema.entry)) view.now
         → reply ≡ (permitted_step g (CheckAll subject text supported)).1) }
+    // The reply is neither a backend fault nor that of a reused retry key.
     ensures own { IfOk result (λ reply. IsCommandReply reply) }
 {
     let Some(new) = schema else {
@@ -96,7 +99,8 @@ pub fn check_all(
 }
 
 /// The reply that says whether the subject's level would admit the schema, compared with the chosen
-/// live version only.
+/// live version only. It is a fault if `version` or the schema is invalid, or if the subject has no
+/// such live version.
 pub fn check(
     alloc: Global,
     view: &View,
@@ -107,6 +111,7 @@ pub fn check(
     ensures reply { IfOk result (λ reply. (g : Registry) (subject text : List ℕ) (supported : Bool)
         → IsDecisionInput g (Check subject version.now text supported) (option_map nodes_view (option_copied schema.entry)) view.now
         → reply ≡ (permitted_step g (Check subject version.now text supported)).1) }
+    // The reply is neither a backend fault nor that of a reused retry key.
     ensures own { IfOk result (λ reply. IsCommandReply reply) }
 {
     let Some(choice) = parse_choice(version) else {
@@ -168,7 +173,7 @@ fn next_row(view: &View, subject: &Subject) -> Result<Option<Row>, OutOfMemory>
     Ok(Some(row))
 }
 
-/// The number after the greatest number of these versions.
+/// The number after the greatest number of these versions, or 1 if there are none.
 fn next_number(rows: &[Row]) -> u64
     ensures { result ≡ next_number rows.now }
 {
@@ -187,7 +192,8 @@ fn evidence_after(alloc: Global, view: &View, live: &[&Row]) -> Result<Evidence,
     Ok(Evidence::new(level, against))
 }
 
-/// The changes that add the version with its evidence, and its schema if it is new.
+/// The changes that add the version with its evidence and, if `known` is `None`, first the text of
+/// its schema.
 fn version_added(
     alloc: Global,
     known: Option<u32>,

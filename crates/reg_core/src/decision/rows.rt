@@ -27,7 +27,8 @@ pub fn visible_rows<'a>(
     Ok(visible)
 }
 
-/// The chosen one of these versions, or the code of the refusal.
+/// The chosen one of these versions. Otherwise `InvalidVersion` for `None`, `SubjectNotFound` if
+/// there are no versions, else `VersionNotFound`.
 pub fn found_row<'a>(choice: Option<VersionChoice>, rows: &[&'a Row]) -> Result<&'a Row, Code>
     ensures { result_map_both (λ row. row.now) (λ code. code) result
         ≡ found_row choice (map (λ row. row.now) rows.now) }

@@ -142,7 +142,7 @@ impl Setting for Mode {
 }
 
 /// Sets the subject's own value, or the global one if there is no subject, to the value that the
-/// text spells.
+/// text spells. Rejects a text that spells none; then nothing changes.
 pub fn set<S: Setting>(
     alloc: Global,
     subject: Option<&Subject>,

@@ -6,11 +6,12 @@ use Rattle.reg_http.specs.declared.serving.ReadOutcome.TheVariants.{Bytes, End, 
 use Rattle.reg_http.specs.declared.serving.Ended.{Ended}
 use Rattle.reg_http.specs.declared.serving.Ended.TheVariants.{Closed, Malformed}
 
--- the effect of a read: its bytes are appended to the buffer; there are none at the end of the input, or if the read failed
+-- The effect of a read: its bytes are appended to the buffer. There are none at the end of the input, or if the read failed; `Bytes` may bring none.
+-- `reader` and `reader'` are what the reader has left, `held` and `held'` the buffer's bytes.
 abbrev pub ReadsAs : Option (List ℕ) → Option (List ℕ) → List ℕ → List ℕ → ReadOutcome → Type 0
-ReadsAs old new held held' Bytes = (more : List ℕ) × (held' ≡ held ++ more) × Consumes old new more
-ReadsAs old new held held' End = (held' ≡ held) × Consumes old new [] × IsAtEnd new
-ReadsAs old new held held' Failed = (held' ≡ held) × Consumes old new []
+ReadsAs reader reader' held held' Bytes = (more : List ℕ) × (held' ≡ held ++ more) × Consumes reader reader' more
+ReadsAs reader reader' held held' End = (held' ≡ held) × Consumes reader reader' [] × IsAtEnd reader'
+ReadsAs reader reader' held held' Failed = (held' ≡ held) × Consumes reader reader' []
 
 -- how a session ends at the end of its input, by the bytes that are left in the buffer
 abbrev pub end_of : List ℕ → Ended

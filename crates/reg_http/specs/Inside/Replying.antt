@@ -4,10 +4,10 @@ use Rattle.reg_core.specs.Replies.{ReplyView}
 use Rattle.reg_core.specs.declared.delivery.Delivery.{Delivery}
 use Rattle.reg_service.specs.Deliveries.{Exchange}
 use Rattle.reg_routes.specs.Deliveries.{Rejection}
-use Rattle.reg_http.specs.Output.{IsFaultFor, exchange_of}
+use Rattle.reg_http.specs.Output.{IsFaultIfRejected, exchange_of}
 
 -- The reply is a fault if the message has no delivery. `AreServed` is true of the message's exchange, or of no exchange if it has no
 -- delivery.
 pub record IsReplyTo (AreServed : List Exchange → Type 0) (what : Result Delivery Rejection) (reply : ReplyView) : Type 0 where
-  pub rejected : IsFaultFor what reply
+  pub rejected : IsFaultIfRejected what reply
   pub serves : AreServed (exchange_of what reply)

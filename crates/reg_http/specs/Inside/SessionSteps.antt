@@ -13,7 +13,7 @@ use Rattle.reg_messages.specs.Framing.{max_body}
 use Rattle.reg_messages.specs.Messages.{max_head, Follows, Part, Faulty}
 use Rattle.reg_messages.specs.Closing.{closes}
 use Rattle.reg_messages.specs.Responses.{fault_response}
-use Rattle.reg_http.specs.Output.{AnsweredMessage, StayOpen, LastCloses, responses, IsPrefix, IsCutShort}
+use Rattle.reg_http.specs.Output.{AnsweredMessage, NoneCloses, LastCloses, responses, IsPrefix, IsCutShort}
 use Rattle.reg_http.specs.Sessions.{ProcessesMessages}
 
 -- There are fewer than `needs` bytes, and the buffer has room for that many. Any bytes may be added: until there are `needs` bytes in all, they
@@ -23,14 +23,14 @@ pub record IsIncompleteUntil (bytes : List ℕ) (needs : ℕ) : Type 0 where
   pub fits : needs ≤ max_head + max_body
   pub part : (more : List ℕ) → length (bytes ++ more) < needs → (bytes ++ more ≡ []) ⊎ Follows (bytes ++ more) Part
 
--- The facts at each stop: `rest` follows the messages xs, and `out` was written for these messages and for a fault that follows them. If the
--- session waits for more bytes, `rest` is in the buffer.
+-- The facts at each stop: `rest` follows the messages xs, and `buffered` is in the buffer. `out` was written: the responses to xs and to a fault that
+-- follows them, perhaps cut short. If the session waits for more bytes, `rest` equals `buffered`.
 abbrev pub StopsAs : List AnsweredMessage → List ℕ → List ℕ → List ℕ → Stop → Type 0
-StopsAs xs rest buffered out (Waiting needs) = StayOpen xs × (rest ≡ buffered) × IsIncompleteUntil rest needs × (out ≡ responses xs)
+StopsAs xs rest buffered out (Waiting needs) = NoneCloses xs × (rest ≡ buffered) × IsIncompleteUntil rest needs × (out ≡ responses xs)
 StopsAs xs rest buffered out AtClose = LastCloses xs × (out ≡ responses xs)
-StopsAs xs rest buffered out AtFault = (code : Code) × StayOpen xs × Follows rest (Faulty code) × (out ≡ responses xs ++ fault_response code)
+StopsAs xs rest buffered out AtFault = (code : Code) × NoneCloses xs × Follows rest (Faulty code) × (out ≡ responses xs ++ fault_response code)
 StopsAs xs rest buffered out NotWritten = IsCutShort xs rest out
-StopsAs xs rest buffered out OutOfMemory = (StayOpen xs × (out ≡ responses xs)) ⊎ IsCutShort xs rest out
+StopsAs xs rest buffered out OutOfMemory = (NoneCloses xs × (out ≡ responses xs)) ⊎ IsCutShort xs rest out
 
 -- The messages at the front of the bytes were processed, up to a stop. `old` and `new` are what the writer had before and after; `buffered` are
 -- the bytes in the buffer.
@@ -52,7 +52,7 @@ abbrev pub NextAs : (List Exchange → Type 0) → Option (List ℕ) → Option 
 NextAs AreServed old new bytes (AnsweredStep size) = AnswersOne AreServed old new bytes size
 NextAs AreServed old new bytes (Stopped stop) = AnswersAs AreServed old new bytes bytes stop
 
--- if the stop is `Waiting`, the bytes are incomplete until there are as many as it needs
+-- if the stop is `Waiting needs`, the bytes are incomplete until there are `needs` of them; at any other stop this says nothing
 abbrev pub IsIncompleteAt : List ℕ → Stop → Type 0
 IsIncompleteAt bytes (Waiting needs) = IsIncompleteUntil bytes needs
 IsIncompleteAt bytes other = Unit {0}
@@ -80,5 +80,5 @@ FaultAs old new code (Waiting needs) = ⊥
 -- the messages so far got their responses and keep the connection open, and the bytes in the buffer follow them
 pub record AnsweredSoFar (AreServed : List Exchange → Type 0) (old new : Option (List ℕ)) (bytes buffered : List ℕ) : Type 0 where
   pub answered : List AnsweredMessage
-  pub stay : StayOpen answered
+  pub stay : NoneCloses answered
   pub processes : ProcessesMessages AreServed old new bytes answered buffered (responses answered)

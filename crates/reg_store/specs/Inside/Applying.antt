@@ -34,15 +34,15 @@ StoresChanges old new changes = (was : Stored) → Spells old.now was → Change
 abbrev pub StoresReply : State → State → Option Keep → Type 0
 StoresReply old new keep = (was : Stored) → Spells old.now was → IsNewTo was.replies keep → Spells new.now (stored_after_apply [] keep was)
 
--- a change that fits the registry fails only for a reason that an insert can have
+-- if the tables spelled a registry that the change fits, a failed change has an error that an INSERT can have (`IsInsertFault`)
 abbrev pub IsFaultOfChange : State → State → Change → Error → Type 0
 IsFaultOfChange old new change e = (was : Stored) → SpellsInTransaction old was → ChangeFits change was.registry → IsInsertFault old new e
 
--- changes that fit the registry, one after another, fail only for a reason that an insert can have
+-- the same for changes that fit the registry, one after another
 abbrev pub IsFaultOfChanges : State → State → List Change → Error → Type 0
 IsFaultOfChanges old new changes e = (was : Stored) → SpellsInTransaction old was → ChangesFit changes was.registry → IsInsertFault old new e
 
--- storing a reply with a new key fails only for a reason that an insert can have
+-- the same for storing a reply, if any, with a new key
 abbrev pub IsFaultOfReply : State → State → Option Keep → Error → Type 0
 IsFaultOfReply old new keep e = (was : Stored) → SpellsInTransaction old was → IsNewTo was.replies keep → IsInsertFault old new e
 
@@ -66,21 +66,23 @@ pub record HasTexts (contents : Contents) (key : RowKey) (ids : List ℕ) : Type
   pub version : IsSome (get contents.versions key)
   pub texts : All (λ id. IsSome (get contents.texts id)) ids
 
--- if the version had no ids, these ids are now at its positions from 1 on
+-- in layout 2, if the version had no ids, these ids are now at its positions from 1 on
 pub record PutsIds (old new : State) (key : RowKey) (ids : List ℕ) : Type 0 where
   pub few : length ids < 2 ^ 32
   pub puts : (schema : Schema) → IsLayoutTwo schema → (contents : Contents) → HoldsContents schema old.now contents → HasNoPositions contents key → HoldsContents schema new.now (with_ids key 1 ids contents)
 
--- if the version had no ids, and it and the texts exist, adding the ids fails only for a reason that an insert can have
+-- In layout 2, let the version and the texts exist, and the version have no ids. If adding the ids fails, the error is one that an INSERT can
+-- have (`IsInsertFault`).
 abbrev pub IsFaultOfIds : State → State → RowKey → List ℕ → Error → Type 0
 IsFaultOfIds old new key ids e = (schema : Schema) → IsLayoutTwo schema → (contents : Contents) → HoldsContents schema old.now contents → HasNoPositions contents key → HasTexts contents key ids → IsInsertFault old new e
 
--- if the version had no evidence, it now has this
+-- in layout 2, if the version had no evidence and no ids, it now has this evidence
 pub record PutsEvidence (old new : State) (key : RowKey) (evidence : Evidence) : Type 0 where
   pub few : length evidence.against < 2 ^ 32
   pub puts : (schema : Schema) → IsLayoutTwo schema → (contents : Contents) → HoldsContents schema old.now contents → get contents.evidence key ≡ None → HasNoPositions contents key → HoldsContents schema new.now (with_level_and_ids key evidence contents)
 
--- if the version had no evidence, and it and the texts exist, adding the evidence fails only for a reason that an insert can have
+-- In layout 2, let the version and the texts exist, and the version have no evidence and no ids. If adding the evidence fails, the error is one
+-- that an INSERT can have (`IsInsertFault`).
 abbrev pub IsFaultOfEvidence : State → State → RowKey → Evidence → Error → Type 0
 IsFaultOfEvidence old new key evidence e = (schema : Schema) → IsLayoutTwo schema → (contents : Contents) → HoldsContents schema old.now contents → get contents.evidence key ≡ None → HasNoPositions contents key → HasTexts contents key evidence.against → IsInsertFault old new e
 

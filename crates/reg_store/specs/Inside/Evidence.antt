@@ -11,7 +11,7 @@ pub record AreInOrder (against : FinMap position_cmp ℕ) (key : RowKey) : Type 
   pub few : count < 2 ^ 32
   pub each : (position : ℕ) → IsSome (get against (key, position)) ↔ ((0 < position) × (position ≤ count))
 
--- the evidence of a version is a level, with ids at consecutive positions
+-- the evidence of a version is a level; only versions with evidence have ids, and their positions are 1, 2, and so on
 pub record IsEvidence (contents : Contents) : Type 0 where
   pub levels : (key : RowKey) (level : List ℕ) → get contents.evidence key ≡ Some level → IsTrue (is_some (level_of level))
   pub owners : (position : PositionKey) (id : ℕ) → get contents.against position ≡ Some id → IsSome (get contents.evidence position.0)

@@ -19,8 +19,8 @@ use Rattle.reg_tables.specs.Layout.{HasFiveTables, HasEightTables}
 use Rattle.reg_tables.specs.Listings.{ListsTextIds, ListsTexts, ListsVersions, ListsLevels, ListsKept, ListsMeta, ListsModes, ListsEvidence, ListsAgainst, ListsAgainstOf, HasAgainstRows}
 use Rattle.reg_tables.specs.Frames.{ReadsInAutocommit}
 use Rattle.reg_rows.specs.Spelling.{meta_pair, IsIdentity, AreConsecutive, AreTexts, FitsVersions, FitsLevels, FitsKept, FitsModes, IsLevelName}
-use Rattle.reg_rows.specs.Meta.{MetaPair, is_layout_one_meta, is_layout_two_meta, layout_in}
-use Rattle.reg_rows.specs.Positions.{VersionPosition, HaveEvidence, AreContiguous}
+use Rattle.reg_rows.specs.Meta.{MetaPair, is_layout_one_meta, is_layout_two_meta, layout_of}
+use Rattle.reg_rows.specs.Positions.{PositionKey, HaveEvidence, AreContiguous}
 use Rattle.reg_core.specs.Registry.{RowKey, max_number}
 use Rattle.reg_core.specs.Stored.{Stored}
 use Rattle.reg_store.specs.declared.error.StoreError.{StoreError}
@@ -114,7 +114,7 @@ against_fits line = line.position < 2 ^ 32
 abbrev pub version_at : RawEvidence → RowKey
 version_at line = (string_bytes line.subject, line.version)
 
-abbrev pub position_at : RawAgainst → VersionPosition
+abbrev pub position_at : RawAgainst → PositionKey
 position_at line = ((string_bytes line.subject, line.version), line.position)
 
 -- each version with ids has evidence, and the positions of its ids are exactly those from 1 to some number
@@ -165,28 +165,28 @@ pub record Judges (Lists : List RawText → Type 0) (fit : Bool) : Type 0 where
 
 -- ---- ids, one version at a time
 
--- rows of a version, with consecutive positions
+-- the positions of a version's rows are 1, 2, and so on, in any order
 abbrev pub ArePositionsInOrder : List RawAgainst → Type 0
 ArePositionsInOrder lines = AllByRecursion against_fits lines × AreContiguous (map position_at lines)
 
 abbrev pub rowids_in : List RawAgainst → List ℤ
 rowids_in = map (λ (line : RawAgainst). line.rowid)
 
--- the rowids of a version's ids, and whether their positions are consecutive
+-- the rowids of a version's rows of `against`, and whether their positions are 1, 2, and so on
 pub record JudgesVersion (version : RowKey) (db : Database) (rowids : List ℤ) (fit : Bool) : Type 0 where
   pub lines : List RawAgainst
   pub lists : ListsAgainstOf version db lines
   pub have : rowids_in lines ≡ rowids
   pub judged : IsTrue fit ↔ ArePositionsInOrder lines
 
--- the rowids of the ids of several versions, and whether the positions of each are consecutive
+-- the rowids of the rows of `against` of several versions, and whether the positions of each version are 1, 2, and so on
 pub record JudgesVersions (versions : List RowKey) (db : Database) (rowids : List ℤ) (fit : Bool) : Type 0 where
   pub parts : List (List RawAgainst)
   pub lists : AllZip (λ version lines. ListsAgainstOf version db lines) versions parts
   pub have : rowids_in (flat_map (λ lines. lines) parts) ≡ rowids
   pub judged : IsTrue fit ↔ AllByRecursion ArePositionsInOrder parts
 
--- the same, with the number of rows of `against`
+-- the same, with the number of rows of `against`, or the maximum integer if there are more
 pub record JudgesIds (versions : List RowKey) (db : Database) (rowids : List ℤ) (fit : Bool) (count : ℕ) : Type 0 where
   pub judged : JudgesVersions versions db rowids fit
   pub counted : HasAgainstRows db count
@@ -197,7 +197,8 @@ pub record JudgesIds (versions : List RowKey) (db : Database) (rowids : List ℤ
 abbrev pub PassesMeta : Layout → List RawMeta → Type 0
 PassesMeta layout lines = AreDistinct (map (λ (line : RawMeta). line.rowid) lines) × IsTrue (is_meta_of layout (pairs_of lines))
 
--- another layout is reported before an invalid row
+-- The results that the check of `meta` may have. `own` is the expected layout, `named` the layout that `meta` names, and `passes` whether the
+-- rows are valid. Another layout is reported before an invalid row. `Memory` and `Disk` never occur.
 abbrev pub Allows : ℕ → Option ℕ → Bool → Result (Unit {0}) StoreError → Type 0
 Allows own named passes (Ok _) = IsTrue passes
 Allows own named passes (Err Memory) = ⊥
@@ -206,14 +207,15 @@ Allows own named passes (Err NotARegistry) = (passes ≡ false) × ((number : �
 Allows own named passes (Err (OldLayout number)) = (named ≡ Some number) × (number < own)
 Allows own named passes (Err (NewerLayout number)) = (named ≡ Some number) × (own < number)
 
--- the format and the layout are checked before the other rows
+-- The results that the check of these rows of `meta` may have. If the format is valid, another layout is reported before an invalid row. `Memory`
+-- is always possible, `Disk` never.
 abbrev pub JudgesMeta : Layout → List RawMeta → Result (Unit {0}) StoreError → Type 0
 JudgesMeta layout lines (Ok _) = PassesMeta layout lines
 JudgesMeta layout lines (Err Memory) = Unit {0}
 JudgesMeta layout lines (Err Disk) = ⊥
-JudgesMeta layout lines (Err NotARegistry) = (PassesMeta layout lines → ⊥) × ((number : ℕ) → layout_in (pairs_of lines) ≡ Some number → number ≡ number_of layout)
-JudgesMeta layout lines (Err (OldLayout number)) = (layout_in (pairs_of lines) ≡ Some number) × (number < number_of layout)
-JudgesMeta layout lines (Err (NewerLayout number)) = (layout_in (pairs_of lines) ≡ Some number) × (number_of layout < number)
+JudgesMeta layout lines (Err NotARegistry) = (PassesMeta layout lines → ⊥) × ((number : ℕ) → layout_of (pairs_of lines) ≡ Some number → number ≡ number_of layout)
+JudgesMeta layout lines (Err (OldLayout number)) = (layout_of (pairs_of lines) ≡ Some number) × (number < number_of layout)
+JudgesMeta layout lines (Err (NewerLayout number)) = (layout_of (pairs_of lines) ≡ Some number) × (number_of layout < number)
 
 -- ---- the expected state
 

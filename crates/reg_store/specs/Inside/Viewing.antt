@@ -44,13 +44,14 @@ pub record AreSome (rows all : List Row) : Type 0 where
 abbrev pub is_shown_of : Bool → List ℕ → Row → Bool
 is_shown_of shows_deleted subject row = bytes_eq row.0.0 subject && (shows_deleted || not row.1.deleted)
 
--- The subject's version with the greatest number among these, or `None`. Deleted versions count only if `shows_deleted`. The list may be in any order.
+-- The subject's version with the greatest number among these, or `None`. Soft-deleted versions count only if `shows_deleted`. The list may be in
+-- any order.
 abbrev pub IsLastShown : Bool → List ℕ → List Row → Option Row → Type 0
 IsLastShown shows_deleted subject rows None = All (λ row. is_shown_of shows_deleted subject row ≡ false) rows
 IsLastShown shows_deleted subject rows (Some last) =
     Contains rows last × (is_shown_of shows_deleted subject last ≡ true) × All (λ row. is_shown_of shows_deleted subject row ≡ true → row.0.1 ≤ last.0.1) rows
 
--- the version with the greater number
+-- the version with the greater number; without an earlier version, `line`
 abbrev pub IsLaterOf : Option ListedVersion → ListedVersion → ListedVersion → Type 0
 IsLaterOf None line result = result ≡ line
 IsLaterOf (Some before) line result = ((result ≡ before) × (line.number ≤ before.number)) ⊎ ((result ≡ line) × (before.number ≤ line.number))
@@ -65,7 +66,7 @@ HasSubject line = IsTrue (is_subject (string_bytes line.subject))
 abbrev pub text_there : BTreeMap ℕ (String Global) → ℕ → Option (List ℕ)
 text_there texts id = option_map string_bytes (tree.get nat_cmp texts id)
 
--- the map has the id's text, if the id has one
+-- the map has the id's text, or none if the id has none
 abbrev pub HasText : BTreeMap ℕ (String Global) → Schemas → ℕ → Type 0
 HasText texts schemas id = text_there texts id ≡ text_at schemas id
 
@@ -80,7 +81,7 @@ pub record AddsText (old new : BTreeMap ℕ (String Global)) (schemas : Schemas)
   pub true_texts : AreTrueTexts old schemas → AreTrueTexts new schemas
 
 -- the text, if any, is added for an id that had none in the map
-pub record PutsText (old new : BTreeMap ℕ (String Global)) (id : ℕ) (found : Option (String Global)) : Type 0 where
+pub record InsertsText (old new : BTreeMap ℕ (String Global)) (id : ℕ) (found : Option (String Global)) : Type 0 where
   pub here : text_there old id ≡ None → text_there new id ≡ option_map string_bytes found
   pub others : (other : ℕ) → other ≢ id → text_there new other ≡ text_there old other
 

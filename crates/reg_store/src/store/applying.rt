@@ -65,13 +65,14 @@ impl<S: Alter> Store<S> {
         ensures nothing { HasCleanDisk (state_of self.new)
             → OnErr result (StillSpells (state_of self.old) (state_of self.new)) }
 
-        // After an error other than `Disk`, a crash leaves what it left before, unless the disk failed
-        // together with an allocation.
+        // If the connection was open: after an error other than `Disk`, a crash leaves what it
+        // could leave before, unless the disk failed together with an allocation.
         ensures before { HasCleanDisk (state_of self.new) → IfErr result (λ e.
             IsTrue (state_of self.old).is_open → KeepsCrashStates (state_of self.old) (state_of self.new) e) }
 
         // A crash leaves the state before or after the call. If a fault had closed the connection
-        // and there is work, a crash leaves the state after the call, or what it left before.
+        // and there is work, a crash leaves the state after the call, or what it could leave
+        // before.
         ensures crash { HasCleanDisk (state_of self.new) → WhenApplicable (state_of self.old) changes.now keep.entry (λ was.
             IsTrue (state_of self.old).is_open ⊎ HasWork changes.now keep.entry
             → RecoversToEither (state_of self.old) (state_of self.new) changes.now keep.entry was) }

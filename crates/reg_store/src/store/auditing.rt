@@ -19,7 +19,7 @@ use crate::store::next_rows::next_version;
 use crate::store::texts::text_under;
 use avro_schema::Schema;
 use reg_core::{Level, Row, is_compatible_with, schema_of};
-use reg_tables::{against_at, evidence_of};
+use reg_tables::{against_at, evidence_level_of};
 use schema_cache::SchemaCache;
 use sqlite::Alter;
 use std::alloc::Global;
@@ -166,7 +166,7 @@ fn evidence_level<S: Alter>(db: &mut Conn<S>, row: &Row) -> Result<Option<Level>
     ensures { Reads db.old db.new result (λ was found.
         found ≡ option_map (λ one. one.level) (get was.evidence row.now.0)) }
 {
-    match evidence_of(&mut db.idle, row.subject().as_str(), row.version())? {
+    match evidence_level_of(&mut db.idle, row.subject().as_str(), row.version())? {
         None => Ok(None),
         Some(text) => Ok(Some(level_in(text.as_str())?)),
     }

@@ -14,13 +14,14 @@ use sqlite::{Alter, Connection};
 use std::alloc::Global;
 
 /// The number of rows of `versions`, including soft-deleted ones, if the tables spell a registry in
-/// layout 1, with or without the index. The connection is outside a transaction, and the call
-/// returns it without a step limit. Nothing is written.
+/// layout 1, with or without the index. The connection must be outside a transaction. The call
+/// returns it outside a transaction and without a step limit. Nothing is written.
 ///
 /// # Errors
 ///
-/// `NotARegistry` if the tables spell no registry in layout 1, `NewerLayout` if `meta` names a
-/// newer layout; `Memory` and `Disk`.
+/// `NewerLayout` if the database has no view and `meta` names a layout above 1, with any contents
+/// of other tables. Otherwise `NotARegistry`, if the tables spell no registry in layout 1 or
+/// the database has a view. `Memory` if an allocation fails, `Disk` if the disk fails.
 pub fn check_first<S: Alter>(
     alloc: Global,
     mut connection: Connection<S>,

@@ -23,14 +23,15 @@ use sqlite::{Alter, Connection, Error, Transaction};
 use std::alloc::Global;
 
 impl<S: Alter> Store<S> {
-    /// Creates a new registry, without replies or evidence, in an empty database. The connection is
-    /// outside a transaction; a failed call returns it without a step limit.
+    /// Creates a new registry, without replies or evidence, in an empty database. The connection
+    /// must be outside a transaction. A failed call returns it outside a transaction and without a
+    /// step limit.
     ///
     /// # Errors
     ///
-    /// `NotARegistry` if and only if the database isn't empty; `Memory` or `Disk`. The database
-    /// stays as it was. But after `Disk`, or after `Memory` if the disk failed too, a crash may
-    /// leave the new registry.
+    /// `NotARegistry` if and only if the database has a table, an index or a view. Otherwise
+    /// `Memory` if an allocation fails, `Disk` if the disk fails. The database stays as it was. But
+    /// after `Disk`, or after `Memory` if the disk failed too, a crash may leave the new registry.
     pub fn create(
         alloc: Global,
         mut connection: Connection<S>,
@@ -100,13 +101,14 @@ impl<S: Alter> Store<S> {
 }
 
 /// Creates a new registry in layout 1, as programs before layout 2 did, in an empty database. The
-/// connection is outside a transaction, and the call returns it without a step limit.
+/// connection must be outside a transaction. The call returns it outside a transaction and without
+/// a step limit.
 ///
 /// # Errors
 ///
-/// `NotARegistry` if and only if the database isn't empty; `Memory` or `Disk`. The database stays
-/// as it was. But after `Disk`, or after `Memory` if the disk failed too, a crash may leave the new
-/// registry.
+/// `NotARegistry` if and only if the database has a table, an index or a view. Otherwise `Memory`
+/// if an allocation fails, `Disk` if the disk fails. The database stays as it was. But after
+/// `Disk`, or after `Memory` if the disk failed too, a crash may leave the new registry.
 pub fn create_first<S: Alter>(
     mut connection: Connection<S>,
 ) -> (Result<(), StoreError>, Connection<S>)

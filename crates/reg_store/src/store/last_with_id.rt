@@ -1,4 +1,5 @@
-//! The last version of a subject that has an id.
+//! The last version of a subject that has an id. A version is shown if it is live, or if `deleted`
+//! is set.
 
 ghost use Rattle.std.specs.Prelude.{◌≡◌, None, option_map, map};
 ghost use Rattle.std.specs.FinMap.{entries};
@@ -92,7 +93,7 @@ fn is_shown_of(line: &ListedVersion, subject: &Subject, deleted: bool) -> bool
     line.subject.as_str() == subject.as_str() && (deleted || !line.deleted)
 }
 
-/// The version with the greater number.
+/// The version with the greater number; `line` if `last` is `None`.
 fn later_of(last: Option<ListedVersion>, line: ListedVersion) -> ListedVersion
     ensures { IsLaterOf last line result }
 {

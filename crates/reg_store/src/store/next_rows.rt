@@ -52,6 +52,7 @@ fn first_of_all<S: Alter>(db: &mut Conn<S>) -> Result<Option<Row>, StoreError>
     first_after(db, "")
 }
 
+/// The next version after `last` by subject and number, or `None`.
 fn version_after<S: Alter>(db: &mut Conn<S>, last: &Row) -> Result<Option<Row>, StoreError>
     ensures { Reads db.old db.new result (λ was found.
         found ≡ find (λ row. is_gt (row_cmp row.0 last.now.0)) (entries was.registry.rows)) }

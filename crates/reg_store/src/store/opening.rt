@@ -23,15 +23,17 @@ use sqlite::{Alter, Connection, Error};
 use std::alloc::Global;
 
 impl<S: Alter> Store<S> {
-    /// Opens the registry that the tables of a database spell. The connection is outside a
-    /// transaction; a failed call returns it without a step limit. If the tables lack the index of
-    /// versions, `open` adds it in a transaction of its own.
+    /// Opens the registry that the tables of a database spell. The connection must be outside a
+    /// transaction. A failed call returns it outside a transaction and without a step limit. If the
+    /// tables lack the index of versions, `open` adds it in a transaction of its own.
     ///
     /// # Errors
     ///
-    /// `NotARegistry` if the tables spell no registry, `OldLayout` or `NewerLayout` if `meta` names
-    /// a layout below or above 2; `Memory` and `Disk`. The database stays as it was. But after
-    /// `Disk`, or after `Memory` if the disk failed too, a crash may leave the index in addition.
+    /// `OldLayout` or `NewerLayout` if the database has no view and `meta` names a layout below or
+    /// above 2, with any contents of other tables. Otherwise `NotARegistry`, if the tables
+    /// spell no registry in layout 2 or the database has a view. `Memory` if an allocation fails,
+    /// `Disk` if the disk fails. The database stays as it was. But after `Disk`, or after `Memory`
+    /// if the disk failed too, a crash may leave the index in addition.
     pub fn open(
         alloc: Global,
         mut connection: Connection<S>,
@@ -47,7 +49,8 @@ impl<S: Alter> Store<S> {
         ensures leaves { IfErr result (λ e.
             KeepsConnection (state S.Store connection) (state S.Store e.1) e.0) }
 
-        // A crash leaves what it left before, or the same tables with the index: nothing is lost.
+        // A crash leaves what a crash before the call could leave, or the same tables with the
+        // index: nothing is lost.
         ensures found_after { IfOk result (λ store. HasCleanDisk (state_of store)
             → CrashKeepsStored (state S.Store connection) (state_of store)) }
         ensures found_failed { IfErr result (λ e. HasCleanDisk (state S.Store e.1)

@@ -91,7 +91,7 @@ fn rows_of_id<S: Alter>(
     }
 }
 
-/// The versions of a subject in the order of their numbers.
+/// The versions of a subject, soft-deleted ones too, in the order of their numbers.
 pub(crate) fn subject_rows<S: Alter>(
     alloc: Global,
     db: &mut Conn<S>,
@@ -103,7 +103,7 @@ pub(crate) fn subject_rows<S: Alter>(
     Ok(rows_under(alloc, subject, lines)?)
 }
 
-/// The versions of all subjects in the order of subjects and numbers.
+/// The versions of all subjects, soft-deleted ones too, in the order of subjects and numbers.
 pub(crate) fn all_rows<S: Alter>(alloc: Global, db: &mut Conn<S>) -> Result<Vec<Row>, StoreError>
     ensures { Reads db.old db.new result (λ was rows. rows.items ≡ entries was.registry.rows) }
 {

@@ -1,4 +1,5 @@
-//! Reads only those versions of a subject that determine a command's reply and changes.
+//! Reads only those versions of a subject that determine a command's reply and changes. A version
+//! is shown if it is live, or if `deleted` is set.
 
 ghost use Rattle.std.specs.Prelude.{◌≡◌, ℕ, Option, Some, false};
 ghost use Rattle.reg_core.specs.declared.level.Level.{Level};

@@ -2,7 +2,7 @@
 
 ghost use Rattle.std.specs.Prelude.{◌≡◌, None, OnOk, All, IsTrue, length, option_map, option_and_then, option_copied, string_bytes};
 ghost use Rattle.reg_core.specs.Rows.{id_of, text_at};
-ghost use Rattle.reg_store.specs.Inside.Viewing.{HasText, AreTrueTexts, AddsText, PutsText};
+ghost use Rattle.reg_store.specs.Inside.Viewing.{HasText, AreTrueTexts, AddsText, InsertsText};
 ghost use Rattle.reg_store.specs.Inside.Reads.{MayRead, Reads};
 
 use crate::conn::Conn;
@@ -44,6 +44,7 @@ pub(crate) fn known_for<S: Alter>(
     }
 }
 
+/// The number of schemas if it is needed, otherwise 0.
 pub(crate) fn count_for<S: Alter>(db: &mut Conn<S>, needed: bool) -> Result<u32, StoreError>
     ensures { MayRead db.old db.new result (λ was count.
         IsTrue needed → count ≡ length was.registry.schemas) }
@@ -79,15 +80,16 @@ fn add_text<S: Alter>(
         return Ok(());
     }
     let found = text_under(db, id)?;
-    Ok(put_text(texts, id, found)?)
+    Ok(insert_text(texts, id, found)?)
 }
 
-fn put_text(
+/// Inserts the text of the id into the map, if it was found.
+fn insert_text(
     texts: &mut BTreeMap<u32, String>,
     id: u32,
     found: Option<String>,
 ) -> Result<(), OutOfMemory>
-    ensures { OnOk result (PutsText texts.old texts.new id found) }
+    ensures { OnOk result (InsertsText texts.old texts.new id found) }
 {
     match found {
         None => Ok(()),

@@ -81,7 +81,7 @@ fn read_evidence<S: Alter>(alloc: Global, db: &mut Conn<S>) -> Result<Vec<RawEvi
     Ok(lines)
 }
 
-/// The positions of the rows.
+/// The subject, the version's number and the position of each row.
 fn positions_in<'a>(
     alloc: Global,
     lines: &'a [RawAgainst],
@@ -115,29 +115,30 @@ fn add_rowids(rowids: &mut Vec<i64>, lines: &[RawAgainst]) -> Result<(), AllocEr
     Ok(())
 }
 
-/// Reads the ids of a version, adds their rowids, and returns whether the ids are at consecutive
-/// positions.
+/// Reads a version's rows of `against`, appends their rowids, and returns whether their positions
+/// are 1, 2, and so on.
 fn judge_version<S: Alter>(
     alloc: Global,
     db: &mut Conn<S>,
-    version: &RawEvidence,
+    evidence_row: &RawEvidence,
     rowids: &mut Vec<i64>,
 ) -> Result<bool, StoreError>
     ensures tests { ChecksAllTables db.old db.new result
         (λ fit db. (added : List ℤ) × (rowids.new.items ≡ rowids.old.items ++ added)
-        × JudgesVersion (version_at version.now) db added fit) }
+        × JudgesVersion (version_at evidence_row.now) db added fit) }
     ensures plain { IfErr result HasNoLayoutNumber }
 {
     let lines = against_of(
         alloc,
         &mut db.idle,
-        version.subject.as_str(),
-        version.version,
+        evidence_row.subject.as_str(),
+        evidence_row.version,
     )?;
     add_rowids(rowids, &lines)?;
     Ok(are_in_order(alloc, &lines)?)
 }
 
+/// The number of rows of `against`, at most `MAX_COUNT`.
 fn count_against<S: Alter>(db: &mut Conn<S>) -> Result<u64, StoreError>
     ensures tests { ChecksAllTables db.old db.new result (λ count db. HasAgainstRows db count) }
     ensures plain { IfErr result HasNoLayoutNumber }
@@ -153,7 +154,7 @@ struct Ids {
     rowids: Vec<i64>,
     /// Whether the ids of each of these versions are at consecutive positions.
     fit: bool,
-    /// The number of rows.
+    /// The number of rows, at most `MAX_COUNT`.
     count: u64,
 }
 

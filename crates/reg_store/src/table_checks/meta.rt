@@ -70,7 +70,8 @@ fn pass_meta(rows: &[(String, String)], rowids: &mut [i64], layout: Layout) -> b
     is_meta_of(rows, layout) && are_distinct(rowids)
 }
 
-/// An error if `meta` names a layout with another number, or if the rows don't pass.
+/// `OldLayout` or `NewerLayout` if `meta` names a layout below or above `own`. Otherwise
+/// `NotARegistry` if the rows don't pass.
 fn require_layout(own: u32, named: Option<u32>, passes: bool) -> Result<(), StoreError>
     ensures { Allows own named passes result }
 {

@@ -61,7 +61,7 @@ fn judge_some<S: Alter>(
 }
 
 /// Reads all texts in chunks, and returns whether each is the identity text of a schema. Their ids
-/// are the numbers from 1 to `count`.
+/// must be the numbers from 1 to `count`.
 fn judge_all<S: Alter>(alloc: Global, db: &mut Conn<S>, count: u32) -> Result<bool, StoreError>
     requires few { count ≤ max_number }
     ensures tests { ChecksBaseTables HoldsReadable db.old db.new

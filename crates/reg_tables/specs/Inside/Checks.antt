@@ -7,10 +7,11 @@ use Rattle.sqlite_sql.specs.declared.ops.CompareOp.TheVariants.{Eq}
 use Rattle.sqlite_schema.specs.declared.code.Op.{Op}
 use Rattle.sqlite_schema.specs.declared.code.Op.TheVariants.{Literal, Column, Binary}
 
+-- the node at this index, or the literal NULL past the end
 abbrev pub node_at : List Op → ℕ → Op
 node_at nodes at = slice_index_or nodes at (Literal Null)
 
--- the fourth column is compared with the number
+-- the node at this index is: the fourth column = this number
 pub record IsTestAt (nodes : List Op) (at : ℕ) (number : ℤ) : Type 0 where
   pub left : ℕ
   pub right : ℕ
@@ -18,7 +19,7 @@ pub record IsTestAt (nodes : List Op) (at : ℕ) (number : ℤ) : Type 0 where
   pub column : node_at nodes left ≡ Column 1 4
   pub value : node_at nodes right ≡ Literal (Int number)
 
--- the fourth column is 0 or 1
+-- the node at this index is: the fourth column = 0 OR the fourth column = 1
 pub record IsCheckAt (nodes : List Op) (at : ℕ) : Type 0 where
   pub left : ℕ
   pub right : ℕ

@@ -6,6 +6,7 @@ use Rattle.sqlite.specs.Term.{Term}
 use Rattle.reg_tables.specs.Contents.{TableName, Texts, Versions, Levels, Kept, Meta, Modes, Evidence, Against, KeyOf, ValueOf, form_of, Contents, map_of, with_map}
 use Rattle.reg_tables.specs.Inside.Statements.{by_key, by_version, by_position, by_id}
 
+-- the tests that find the row of a key; their parameters are the key's cells
 abbrev pub tests_of : TableName → List Term
 tests_of Texts = by_id
 tests_of Versions = by_version

@@ -63,7 +63,7 @@ pub record ReplacesMap {K V : Type 0} (schema : Schema) (form : Form K V) (tree 
 abbrev pub HasKeys : Schema → Table → Type 0
 HasKeys schema table = (adds removes : Bool) → references_fit schema table adds removes ≡ true
 
--- the schema has this table at this index
+-- the schema has this table at this index; the table's references, and those to it, refer to keys
 pub record IsTableAt (schema : Schema) (at : ℕ) (table : Table) : Type 0 where
   pub there : slice_get schema.tables at ≡ Some table
   pub keys : HasKeys schema table
@@ -72,7 +72,7 @@ pub record IsTableAt (schema : Schema) (at : ℕ) (table : Table) : Type 0 where
 abbrev pub new_row : (name : TableName) → List Row → KeyOf name → ValueOf name → Row
 new_row name rows key value = Int (next_rowid rows) ∷ cells_of name key value
 
--- the row has the table's types and passes its checks
+-- the row has the table's types, has no NULL in a NOT NULL column, and passes the checks
 pub record PassesConstraints (table : Table) (row : Row) : Type 0 where
   pub typed : (are_typed table.key 0 table.columns (drop 1 row) && has_computed table row) ≡ true
   pub present : are_present table.key 0 table.columns row ≡ true
@@ -98,6 +98,7 @@ pub record PutsRow (schema : Schema) (name : TableName) (sql : List ℕ) : Type 
   pub entry : (id : ℤ) (key : KeyOf name) (value : ValueOf name) → IsEntry (form_of name) (Int id ∷ cells_of name key value) key value
   pub stands : (id : ℤ) (key : KeyOf name) (value : ValueOf name) → PassesConstraints (table_in schema name) (Int id ∷ cells_of name key value)
 
+-- the query in a DELETE: the rowids of the rows that pass the tests
 abbrev pub deleting : Table → List Term → Program
 deleting table tests = record { lets = []; body = plain_query table.tree tests (col 1 0 ∷ []) }
 

@@ -46,6 +46,7 @@ fn is_test(nodes: &[Op], at: usize, number: i64) -> bool
     }
 }
 
+/// Whether the expression at this node is the fourth column.
 fn is_fourth(nodes: &[Op], at: usize) -> bool
     ensures { IsTrue result ↔ (node_at nodes.now at ≡ ColumnNode 1 4) }
 {

@@ -41,6 +41,7 @@ fn is_versions_of_id(index: &Index, tree: u32) -> bool
     is_index(index, b"versions_of_id", tree, 2, &[3], false)
 }
 
+/// Whether the index has exactly these properties, with all columns ascending.
 fn is_index(
     index: &Index,
     name: &[u8],

@@ -41,6 +41,7 @@ impl Form<Column> for ColumnForm {
     }
 }
 
+/// If `has_flag`, whether the only check is that of `versions`. Otherwise, whether there is none.
 fn are_checks(checks: &Terms, has_flag: bool) -> bool
     ensures { IsTrue result ↔ (checks.now ≡ checks_of has_flag) }
 {
@@ -68,6 +69,7 @@ fn has_form(table: &Table, form: &TableForm) -> bool
         && are_declared(table.columns.as_slice(), form.columns)
 }
 
+/// Whether the table has no default that is computed or reads the time, and no AUTOINCREMENT.
 fn has_no_extras(table: &Table) -> bool
     ensures { IsTrue result ↔ (table.now ≡ record table.now {
       computed = [];

@@ -1,10 +1,10 @@
 use Rattle.std.proofs.Common.{refl}
-use Rattle.reg_jobs.proofs.JobLemmas.{SessionOver-has}
+use Rattle.reg_jobs.proofs.JobLemmas.{RunsOver-has}
 use Rattle.reg_jobs.proofs.job.run_on.Goals as goal
 
 pub returns-in-Ok : goal.returns-in-Ok
 returns-in-Ok g c =
-    SessionOver-has g.S.Store c.args.opened c.in-Ok.store c.run_on_store-ended.result.1 _ _ _ _ c.run_on_store-ended.result.0
+    RunsOver-has g.S.Store c.args.opened c.in-Ok.store c.run_on_store-ended.result.1 _ _ _ _ c.run_on_store-ended.result.0
     (λ clean. c.in-Ok.ensures.has (c.run_on_store-ended.ensures.clean clean)) c.run_on_store-ended.ensures.session
 
 pub returns-in-Err : goal.returns-in-Err

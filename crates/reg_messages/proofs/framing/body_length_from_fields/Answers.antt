@@ -3,16 +3,16 @@ use Rattle.std.specs.Prelude.{Err}
 use Rattle.httparse.specs.Spans.{header_bytes}
 use Rattle.reg_core.specs.declared.code.Code.TheVariants.{MalformedRequest, TransferCodingNotSupported}
 use Rattle.reg_messages.specs.Fields.{values_named, HeaderField}
-use Rattle.reg_messages.specs.Framing.{framing, length_of, length_unless_transfer_coded}
+use Rattle.reg_messages.specs.Framing.{body_length_from_fields, length_of, length_unless_transfer_coded}
 use Rattle.reg_messages.proofs.framing.body_length_from_fields.Goals as goal
 
 framed : (fields : List HeaderField) (codings lengths : List (List ℕ)) → values_named (codes "Transfer-Encoding") fields ≡ codings
-    → values_named (codes "Content-Length") fields ≡ lengths → length_unless_transfer_coded codings lengths ≡ framing fields
-unfolding framing
+    → values_named (codes "Content-Length") fields ≡ lengths → length_unless_transfer_coded codings lengths ≡ body_length_from_fields fields
+unfolding body_length_from_fields
 framed fields codings lengths e f = λ i. length_unless_transfer_coded (sym e i) (sym f i)
 
 coded : (fields : List HeaderField) (codings : List (List ℕ)) → values_named (codes "Transfer-Encoding") fields ≡ codings → 0 < length codings
-    → Err TransferCodingNotSupported ≡ framing fields
+    → Err TransferCodingNotSupported ≡ body_length_from_fields fields
 coded fields [] e h = absurd (omega arith)
 coded fields (coding ∷ more) e h = framed fields (coding ∷ more) _ e refl
 

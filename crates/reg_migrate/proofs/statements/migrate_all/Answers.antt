@@ -10,7 +10,7 @@ use Rattle.reg_tables.proofs.Transactions.{on_ok, if_err, keeps_then, survives_b
 use Rattle.reg_tables.proofs.WriteFaults.{erred_with}
 use Rattle.reg_store.specs.Failures.{failure_of, is_fault}
 use Rattle.reg_store.specs.Stores.{KeepsCrashStates}
-use Rattle.reg_migrate.specs.Inside.{CanMigrate, HoldsMigrated, TreesHoldMigrated}
+use Rattle.reg_migrate.specs.Inside.{HasLayoutOneIfOpen, HoldsMigrated, TreesHoldMigrated}
 use Rattle.reg_store.proofs.Committing.{keeps_begin, keeps_if_failed, before_if_undone, before_if_failed}
 use Rattle.reg_store.proofs.Failing.{fault_if_by}
 use Rattle.reg_store.proofs.Writing.{is_fault_of_insert, fault_of_commit}
@@ -58,9 +58,9 @@ returns-in_err-migrate_tables-clause-fault g c clean =
     let clean_last : HasCleanDisk last = omega (arith, c.drop-tx.ensures.survives.clean) in
     let is = c.transaction-tx.ensures.begun in
     let e = c.in_err-migrate_tables.field-0.0 in
-    erred_with c.from_residual.result e (λ e. CanMigrate first → IsTrue (is_fault (failure_of e))) c.from_residual.ensures.1
+    erred_with c.from_residual.result e (λ e. HasLayoutOneIfOpen first → IsTrue (is_fault (failure_of e))) c.from_residual.ensures.1
     (λ can.
-    let held = subst (λ h. CanMigrate (state g.S.Store h)) (sym is) can in
+    let held = subst (λ h. HasLayoutOneIfOpen (state g.S.Store h)) (sym is) can in
     is_fault_of_insert begun last e (ap (λ (h : Held _). h.step_limit) is ∙ c.requires.unlimited) (ap (λ (h : Held _). h.in_transaction) is) (c.in_err-migrate_tables.ensures.fault clean_last held))
 
 pub returns-clause-fault : goal.returns-clause-fault

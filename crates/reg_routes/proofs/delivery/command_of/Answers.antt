@@ -10,7 +10,7 @@ use Rattle.reg_routes.specs.declared.resource.Operation.{Operation}
 use Rattle.reg_routes.specs.Routes.{resource_of, methods_of, operation_for, allow_of}
 use Rattle.reg_routes.specs.Targets.{path_of, query_of}
 use Rattle.reg_routes.specs.Commands.{command_from}
-use Rattle.reg_routes.specs.Deliveries.{Rejection, IsRejected, requested, by_resource, by_method, without_allow, delivery_from}
+use Rattle.reg_routes.specs.Deliveries.{Rejection, IsRejected, requested, by_resource, by_method, rejected_without_allow, delivery_from}
 use Rattle.reg_routes.proofs.delivery.command_of.Goals as goal
 
 -- a path without a resource, a resource without the method, and all other requests
@@ -27,15 +27,15 @@ another_method method target fields body resource e f =
 
 by_command : (method target : List ℕ) (fields : List HeaderField) (body : List ℕ) (resource : Resource) (a : Operation) → Some resource ≡ resource_of (path_of target)
     → Some a ≡ operation_for method (methods_of resource)
-    → requested method target fields body ≡ without_allow (delivery_from (command_from a (path_of target) (query_of target) body) fields)
+    → requested method target fields body ≡ rejected_without_allow (delivery_from (command_from a (path_of target) (query_of target) body) fields)
 unfolding requested
 by_command method target fields body resource a e f =
     ap (λ l. by_resource l method target fields body) (sym e) ∙ ap (λ x. by_method resource x target fields body) (sym f)
 
-refused : (what : Result Delivery Rejection) (inner : Result Delivery Code) (code : Code) → what ≡ without_allow inner
+refused : (what : Result Delivery Rejection) (inner : Result Delivery Code) (code : Code) → what ≡ rejected_without_allow inner
     → (code ≡ BackendFault) ⊎ (inner ≡ Err code) → IsRejected what code None
 refused what inner code e (inl b) = inl (b, refl)
-refused what inner code e (inr h) = inr (e ∙ ap without_allow h)
+refused what inner code e (inr h) = inr (e ∙ ap rejected_without_allow h)
 
 pub returns-in_default : goal.returns-in_default
 returns-in_default c =
@@ -52,7 +52,7 @@ pub returns-in-Ok : goal.returns-in-Ok
 returns-in-Ok c =
     let r = c.args.request.now in
     by_command r.method.now r.target.now (fields_in r) r.body.now c.in-Some.resource c.in-Some-operation.operation (rw c.of-target.ensures.path at c.in-Some.ensures) c.in-Some-operation.ensures
-    ∙ ap without_allow (rw (c.of-target.ensures.path, c.of-target.ensures.query) at c.in-Ok.ensures)
+    ∙ ap rejected_without_allow (rw (c.of-target.ensures.path, c.of-target.ensures.query) at c.in-Ok.ensures)
 
 pub returns-in-Err : goal.returns-in-Err
 returns-in-Err c =

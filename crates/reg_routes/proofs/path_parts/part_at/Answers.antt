@@ -5,5 +5,5 @@ use Rattle.reg_routes.proofs.path_parts.part_at.Goals as goal
 pub loop-preserved : goal.loop-preserved
 loop-preserved c =
     let rest = c.loop.rest.now in
-    let e : c.args.count - c.loop.counter ≡ suc (c.args.count - (c.loop.counter + 1)) = omega arith in
+    let e : c.args.slashes - c.loop.counter ≡ suc (c.args.slashes - (c.loop.counter + 1)) = omega arith in
     rw c.split_at_byte.ensures.after (sym (ap (λ k. part_at k rest) e) ∙ c.loop.invariant)

@@ -9,29 +9,29 @@ use Rattle.reg_store.proofs.Texts.{was_written}
 use Rattle.reg_store.proofs.ReadLemmas.{read, not_read_in}
 use Rattle.reg_store.proofs.store.auditing.evidence_level.Goals as goal
 
-pub returns-in_err-evidence_of : goal.returns-in_err-evidence_of
-returns-in_err-evidence_of g c = not_read_in (λ schema known. known) c.in_err-evidence_of.ensures.frame c.in_err-evidence_of.ensures.fault c.from_residual.ensures.1
+pub returns-in_err-evidence_level_of : goal.returns-in_err-evidence_level_of
+returns-in_err-evidence_level_of g c = not_read_in (λ schema known. known) c.in_err-evidence_level_of.ensures.frame c.in_err-evidence_level_of.ensures.fault c.from_residual.ensures.1
 
 pub returns-in-None : goal.returns-in-None
 returns-in-None g c =
-    read c.in_ok-evidence_of.ensures.frame (λ clean was over.
+    read c.in_ok-evidence_level_of.ensures.frame (λ clean was over.
     let it = over.spells in
-    let none = rw (c.in-None.is, c.as_str.ensures.text, c.subject.ensures, c.version.ensures) at (c.in_ok-evidence_of.ensures.found clean it.schema (openable_has_eight it.schema (inl it.known)) it.contents it.holds) in
+    let none = rw (c.in-None.is, c.as_str.ensures.text, c.subject.ensures, c.version.ensures) at (c.in_ok-evidence_level_of.ensures.found clean it.schema (openable_has_eight it.schema (inl it.known)) it.contents it.holds) in
     sym (ap (option_map (λ (one : Evidence). one.level)) (none_written (λ (one : Evidence). level_text one.level) (get was.evidence c.args.row.now.0) (sym (none ∙ it.spelled.evidence.levels c.args.row.now.0)))))
 
 pub returns-in_err-level_in-in-Some : goal.returns-in_err-level_in-in-Some
 returns-in_err-level_in-in-Some g c =
-    read c.in_ok-evidence_of.ensures.frame (λ clean was over.
+    read c.in_ok-evidence_level_of.ensures.frame (λ clean was over.
     let it = over.spells in
-    let found = rw (c.in-Some.is, c.as_str.ensures.text, c.subject.ensures, c.version.ensures) at (c.in_ok-evidence_of.ensures.found clean it.schema (openable_has_eight it.schema (inl it.known)) it.contents it.holds) in
+    let found = rw (c.in-Some.is, c.as_str.ensures.text, c.subject.ensures, c.version.ensures) at (c.in_ok-evidence_level_of.ensures.found clean it.schema (openable_has_eight it.schema (inl it.known)) it.contents it.holds) in
     let one = was_written (λ (one : Evidence). level_text one.level) (get was.evidence c.args.row.now.0) (string_bytes c.in-Some.text) (sym (found ∙ it.spelled.evidence.levels c.args.row.now.0)) in
     let both = sym c.in_err-level_in-in-Some.ensures.err ∙ ap level_of (c.as_str-in-Some.ensures.value ∙ one.2) ∙ level_of-level_text one.0.level in
     absurd (cc))
 
 pub returns-in_ok-level_in-in-Some : goal.returns-in_ok-level_in-in-Some
 returns-in_ok-level_in-in-Some g c =
-    read c.in_ok-evidence_of.ensures.frame (λ clean was over.
+    read c.in_ok-evidence_level_of.ensures.frame (λ clean was over.
     let it = over.spells in
-    let found = rw (c.in-Some.is, c.as_str.ensures.text, c.subject.ensures, c.version.ensures) at (c.in_ok-evidence_of.ensures.found clean it.schema (openable_has_eight it.schema (inl it.known)) it.contents it.holds) in
+    let found = rw (c.in-Some.is, c.as_str.ensures.text, c.subject.ensures, c.version.ensures) at (c.in_ok-evidence_level_of.ensures.found clean it.schema (openable_has_eight it.schema (inl it.known)) it.contents it.holds) in
     let one = was_written (λ (one : Evidence). level_text one.level) (get was.evidence c.args.row.now.0) (string_bytes c.in-Some.text) (sym (found ∙ it.spelled.evidence.levels c.args.row.now.0)) in
     ap Some (level_is c.as_str-in-Some.result.now _ one.0.level (c.as_str-in-Some.ensures.value ∙ one.2) c.in_ok-level_in-in-Some.ensures.ok) ∙ sym (ap (option_map (λ (e : Evidence). e.level)) one.1))

@@ -20,14 +20,14 @@ pub returns-clause-tests : goal.returns-clause-tests
 returns-clause-tests g c =
     let lines = c.in_ok-lines.lines.items in
     let fit = c.in_ok-are_in_order.field-0 in
-    let text : c.as_str.result.now ≡ string_bytes c.args.version.now.subject = search rules in
+    let text : c.as_str.result.now ≡ string_bytes c.args.evidence_row.now.subject = search rules in
     let a = c.args.db.now.idle.conn in
     let b = c.against_of.new.db.conn in
-    test_tells g.S.Store a b {P = λ l d. ListsAgainstOf (c.as_str.result.now, c.args.version.now.version) d l.items} (test_read {Declared = HasEightTables} {Spelled = SpellsSome SpellsUnopened} g.S.Store a b c.in_ok-lines.lines c.in_ok-lines.ensures.frame c.in_ok-lines.ensures.listed) fit
+    test_tells g.S.Store a b {P = λ l d. ListsAgainstOf (c.as_str.result.now, c.args.evidence_row.now.version) d l.items} (test_read {Declared = HasEightTables} {Spelled = SpellsSome SpellsUnopened} g.S.Store a b c.in_ok-lines.lines c.in_ok-lines.ensures.frame c.in_ok-lines.ensures.listed) fit
     (λ db lists. (
       rowids_in lines,
       c.in_ok-add_rowids.ensures ∙ ap (λ (l : List RawAgainst). c.args.rowids.now.items ++ rowids_in l) c.deref.ensures.value,
-      record { lines = lines; lists = subst (λ (s : List ℕ). ListsAgainstOf (s, c.args.version.now.version) db lines) text lists; have = refl; judged = subst (λ (l : List RawAgainst). IsTrue fit ↔ ArePositionsInOrder l) c.deref-2.ensures.value c.in_ok-are_in_order.ensures },
+      record { lines = lines; lists = subst (λ (s : List ℕ). ListsAgainstOf (s, c.args.evidence_row.now.version) db lines) text lists; have = refl; judged = subst (λ (l : List RawAgainst). IsTrue fit ↔ ArePositionsInOrder l) c.deref-2.ensures.value c.in_ok-are_in_order.ensures },
     ))
 
 pub returns-in_err-lines-clause-plain : goal.returns-in_err-lines-clause-plain

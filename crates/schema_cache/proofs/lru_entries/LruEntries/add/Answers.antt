@@ -1,7 +1,7 @@
 use Rattle.std.proofs.Common.{◌+◌, ◌≤◌, ◌<◌, ap, ◌∙◌, arith, length, nat_eq}
 use Rattle.std.specs.Cmp.{nat_eq_equiv}
 use Rattle.lru.proofs.CallerLemmas.{lookup-put_entries}
-use Rattle.schema_cache.specs.Entries.{size, text_bytes, max_text_bytes, max_entries}
+use Rattle.schema_cache.specs.Entries.{entry_text_bytes, text_bytes, max_total_bytes, max_entries}
 use Rattle.schema_cache.proofs.TextBytes.{text_bytes-put}
 use Rattle.schema_cache.proofs.lru_entries.LruEntries.add.Goals as goal
 
@@ -11,7 +11,7 @@ overflow_sub-self c =
     let cap = c.self.invariant.capacity in
     let few : length cache.entries < max_entries = rw c.self.view_is c.make_room.ensures.few in
     let all = text_bytes-put nat_eq cache c.args.id c.args.entry (omega arith) (omega arith) in
-    let replaced = c.freed_bytes.ensures ∙ ap size c.in-Ok.ensures.old in
+    let replaced = c.freed_bytes.ensures ∙ ap entry_text_bytes c.in-Ok.ensures.old in
     let kept = c.self.invariant.counted in
     let text = ap length c.text-more.ensures.text in
     omega arith
@@ -21,9 +21,9 @@ invariant_of-self c =
     let cache = c.self.inside.cache in
     let cap = c.self.invariant.capacity in
     let few : length cache.entries < max_entries = rw c.self.view_is c.make_room.ensures.few in
-    let room : text_bytes cache.entries + length c.text-more.result.now ≤ max_text_bytes = rw c.self.view_is c.make_room.ensures.text_bytes in
+    let room : text_bytes cache.entries + length c.text-more.result.now ≤ max_total_bytes = rw c.self.view_is c.make_room.ensures.text_bytes in
     let all = text_bytes-put nat_eq cache c.args.id c.args.entry (omega arith) (omega arith) in
-    let replaced = c.freed_bytes.ensures ∙ ap size c.in-Ok.ensures.old in
+    let replaced = c.freed_bytes.ensures ∙ ap entry_text_bytes c.in-Ok.ensures.old in
     let kept = c.self.invariant.counted in
     let text = ap length c.text-more.ensures.text in
     rw c.in-Ok.ensures.entries (record { counted = omega arith; small = omega arith; capacity = cap })
