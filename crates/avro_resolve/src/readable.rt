@@ -8,7 +8,7 @@ ghost use Rattle.avro_schema.specs.Index.{IsFieldRanked};
 ghost use Rattle.avro_resolve.specs.Inside.Agreeing.{fields_of};
 ghost use Rattle.avro_resolve.specs.Inside.FieldSlots.{AreFieldsInSlots};
 ghost use Rattle.avro_resolve.specs.Inside.Remaining.{remains};
-ghost use Rattle.avro_resolve.specs.Inside.Rows.{row_fields, IsFieldSource, IsPairInTable, IsWriterPlace};
+ghost use Rattle.avro_resolve.specs.Inside.Rows.{row_fields, IsFieldSource, TableCoversPair, IsWriterPlace};
 ghost use Rattle.avro_resolve.specs.Inside.Schemas.{columns, IsValidIndexedSchema};
 ghost use Rattle.avro_resolve.specs.Inside.Sources.{field_at, Describes, IsSourceEntry, IsReaderField};
 ghost use Rattle.avro_resolve.specs.Resolution.{Readable};
@@ -167,7 +167,7 @@ fn known_source<'a>(
 
 /// Whether each field of a reader's record can be read from the writer's place.
 pub fn all_readable(schemas: &SchemaPair, row: &WriterPlace, j: u32, table: &Table) -> bool
-    requires { IsPairInTable schemas.now row.now table.now j }
+    requires { TableCoversPair schemas.now row.now table.now j }
     ensures { (b : NodeView) → slice_get (columns schemas.now) j ≡ Some b
         → IsTrue result ↔ All (Readable (remains table.now) (row_fields row.now)) (fields_of b) }
 {

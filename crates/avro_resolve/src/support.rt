@@ -2,7 +2,7 @@
 
 ghost use Rattle.std.specs.Prelude.{◌<◌, ◌↔◌, All, Any, IsTrue};
 ghost use Rattle.avro_resolve.specs.Inside.Remaining.{remains, Agreed};
-ghost use Rattle.avro_resolve.specs.Inside.Rows.{IsPairInTable};
+ghost use Rattle.avro_resolve.specs.Inside.Rows.{TableCoversPair};
 ghost use Rattle.avro_resolve.specs.Inside.Schemas.{columns, rows};
 ghost use Rattle.avro_resolve.specs.Resolution.{Supports};
 
@@ -37,7 +37,7 @@ pub fn any_remaining(i: u32, j: u32, places: &[u32], table: &Table) -> bool
 /// Whether the remaining pairs support a pair whose nodes agree, by the first case that fits (Avro
 /// 1.11 specification, Schema Resolution).
 pub fn supports(schemas: &SchemaPair, row: &WriterPlace, j: u32, table: &Table) -> bool
-    requires over { IsPairInTable schemas.now row.now table.now j }
+    requires over { TableCoversPair schemas.now row.now table.now j }
     requires agreed { Agreed (rows schemas.now) (columns schemas.now) row.now.place j }
     ensures { IsTrue result ↔ Supports (rows schemas.now) (columns schemas.now) (remains table.now) row.now.place j }
 {

@@ -195,7 +195,7 @@ pub fn open_existing_database(
 {
     match state_of_file(rt, file) {
         Ok(FileState::Database) => connect_existing(rt, file),
-        Ok(FileState::Empty | FileState::Unfinished) => Ok(Opened::Empty),
+        Ok(FileState::Empty | FileState::Unfinished) => Ok(Opened::NoContents),
         Ok(FileState::OrphanedLog) => Ok(Opened::OrphanedLog),
         Ok(FileState::Missing | FileState::Other) => Ok(Opened::Failed),
         Err(error) => unexamined(error),

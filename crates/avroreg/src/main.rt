@@ -10,7 +10,7 @@ mod server;
 use avro_nodes::OutOfMemory;
 use database::close;
 use opening::HostFiles;
-use reg_jobs::{Errors, Job, LineFault, Opener, Task, do_job, open_for, task_of};
+use reg_jobs::{ErrorWriter, Job, LineFault, Opener, Task, do_job, open_for, task_of};
 use server::serve;
 use sqlite::{Alter, Connection};
 use std::alloc::{AllocError, AllocFailed, Global};
@@ -92,7 +92,7 @@ fn do_task<S: Alter + Drop, O: Opener<S>>(
     task: &Task,
 ) -> Result<(u8, Option<Connection<S>>), OutOfMemory> {
     let alloc = rt.alloc();
-    let mut errors = Errors::to(rt.stderr());
+    let mut errors = ErrorWriter::to(rt.stderr());
     match task {
         Task::Job(job) => {
             let opened = open_for(alloc, opener, job)?;

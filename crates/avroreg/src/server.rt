@@ -1,6 +1,6 @@
 //! Serves a registry on a port of 127.0.0.1.
 
-use reg_jobs::{Errors, Opened, Outcome, Server, open_store, report, serve_with_clock};
+use reg_jobs::{ErrorWriter, Opened, Outcome, Server, open_store, report, serve_with_clock};
 use reg_service::Service;
 use reg_store::Store;
 use sqlite::{Alter, Connection};
@@ -13,7 +13,7 @@ fn listen<S: Alter + Drop>(
     rt: &HostRuntime,
     server: &Server,
     store: Store<S>,
-    errors: &mut Errors<Stderr>,
+    errors: &mut ErrorWriter<Stderr>,
 ) -> (Option<Outcome>, Connection<S>) {
     let mut service = Service::new(rt.alloc(), store);
     let fault = match TcpListener::bind(rt, (Ipv4Addr::LOCALHOST, server.port)) {
@@ -39,7 +39,7 @@ pub fn serve<S: Alter + Drop>(
     rt: &HostRuntime,
     server: &Server,
     opened: Opened<S>,
-    errors: &mut Errors<Stderr>,
+    errors: &mut ErrorWriter<Stderr>,
 ) -> (u8, Option<Connection<S>>) {
     let (fault, connection) = match open_store(rt.alloc(), opened) {
         Ok(store) => {

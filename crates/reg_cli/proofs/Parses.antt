@@ -5,7 +5,7 @@ use Rattle.std.specs.Char.{digit_value}
 use Rattle.std.specs.Str.Parse.{AllDigits, ParsesUnsigned, digits_value, without_leading_plus}
 use Rattle.clap.proofs.WalkLemmas.{both}
 use Rattle.clap.specs.Words.{Text}
-use Rattle.reg_cli.specs.Numbers.{is_number, unsigned_in}
+use Rattle.reg_cli.specs.Numbers.{fits_in_bits, unsigned_in}
 
 -- digits pass the test
 digits_pass : (digits : List ℕ) → AllDigits 10 digits → list_all (λ digit. nat_lt (digit_value digit) 10) digits ≡ true
@@ -29,9 +29,9 @@ number_read bits text (Ok n) parses =
     let digits = without_leading_plus text in
     rw (lt-ltb 0 (length digits) parses.0.0.0, digits_pass digits parses.0.0.1, lt-ltb (digits_value 10 digits) (2 ^ bits) parses.0.1)
     (ap (λ n. Some n) parses.1)
-number_read bits text (Err e) fails = go (is_number bits (without_leading_plus text)) refl
+number_read bits text (Err e) fails = go (fits_in_bits bits (without_leading_plus text)) refl
   where
-    go : (b : Bool) → is_number bits (without_leading_plus text) ≡ b → None ≡ unsigned_in bits text
+    go : (b : Bool) → fits_in_bits bits (without_leading_plus text) ≡ b → None ≡ unsigned_in bits text
     go false test = rw test refl
     go true test =
         let outer = both _ _ test in

@@ -5,12 +5,12 @@ use Rattle.clap.specs.ValueTests.{is_numeral}
 use Rattle.clap.specs.Words.{Text}
 
 -- whether the text is one or more digits, whose number has at most `bits` bits
-abbrev pub is_number : ℕ → Text → Bool
-is_number bits digits = is_numeral digits && nat_lt (digits_value 10 digits) (2 ^ bits)
+abbrev pub fits_in_bits : ℕ → Text → Bool
+fits_in_bits bits digits = is_numeral digits && nat_lt (digits_value 10 digits) (2 ^ bits)
 
 -- the number that a text of decimal digits, without a sign, denotes; `None` for any other text, and for a number of more than `bits` bits
 abbrev pub decimal_number : ℕ → Text → Option ℕ
-decimal_number bits text = if is_number bits text then Some (digits_value 10 text) else None
+decimal_number bits text = if fits_in_bits bits text then Some (digits_value 10 text) else None
 
 -- the number that a text denotes in decimal digits, with an optional leading plus; `None` if it denotes none, or one of more than `bits` bits
 abbrev pub unsigned_in : ℕ → Text → Option ℕ

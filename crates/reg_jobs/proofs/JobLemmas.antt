@@ -8,7 +8,7 @@ use Rattle.reg_core.specs.Stored.{Stored, new_stored}
 use Rattle.reg_http.specs.declared.serving.Ended.{Ended}
 use Rattle.reg_service.specs.Services.{state_in}
 use Rattle.reg_jobs.specs.declared.job.Opened.{Opened}
-use Rattle.reg_jobs.specs.declared.job.Opened.TheVariants.{Nothing, Texts, Failed, Empty, OrphanedLog, Fresh, Database}
+use Rattle.reg_jobs.specs.declared.job.Opened.TheVariants.{Nothing, Texts, Failed, NoContents, OrphanedLog, Fresh, Database}
 use Rattle.reg_store.specs.declared.error.StoreError.{StoreError}
 use Rattle.reg_store.specs.declared.error.StoreError.TheVariants.{Memory, Disk, NotARegistry, OldLayout, NewerLayout}
 use Rattle.reg_store.specs.Failures.{IsFaultBy, IsFaultOver, is_fault}
@@ -35,7 +35,7 @@ begins_over : {S : Type 0} (g : Ghosts S) (opened : Opened S) (begun : State) â†
 begins_over g Nothing begun has = absurd has
 begins_over g (Texts texts) begun has = absurd has
 begins_over g Failed begun has = absurd has
-begins_over g Empty begun has = absurd has
+begins_over g NoContents begun has = absurd has
 begins_over g OrphanedLog begun has = absurd has
 begins_over g (Fresh old) begun has = record { was = new_stored; begins = (has.empty, refl); is_open = has.spells }
 begins_over g (Database old) begun has = record { was = has.stored; begins = has.spelled; is_open = has.spells }
@@ -75,7 +75,7 @@ pub OverDatabase-map : {S : Type 0} (g : Ghosts S) (opened : Opened S) (P Q : St
 OverDatabase-map g Nothing P Q follows over = over
 OverDatabase-map g (Texts texts) P Q follows over = over
 OverDatabase-map g Failed P Q follows over = over
-OverDatabase-map g Empty P Q follows over = over
+OverDatabase-map g NoContents P Q follows over = over
 OverDatabase-map g OrphanedLog P Q follows over = over
 OverDatabase-map g (Fresh old) P Q follows over = over
 OverDatabase-map g (Database old) P Q follows over = follows (state g old) over

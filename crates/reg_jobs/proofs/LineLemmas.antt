@@ -7,7 +7,7 @@ use Rattle.std.proofs.KnownBytes.{Appends-nil, Appends-trans}
 use Rattle.std.proofs.lemmas.List.{take-append-drop, take_more}
 use Rattle.std.proofs.lemmas.List.Concat.{flat_map-append}
 use Rattle.reg_http.specs.Output.{AppendsPrefix}
-use Rattle.reg_jobs.specs.declared.errors.Errors.{Errors}
+use Rattle.reg_jobs.specs.declared.errors.ErrorWriter.{ErrorWriter}
 use Rattle.reg_jobs.specs.Errors.{Puts, WritesUnlessLost}
 
 -- after bytes that were written in full
@@ -41,11 +41,11 @@ WritesUnlessLost-none false old = Appends-nil old
 WritesUnlessLost-none true old = Appends-nil old
 
 -- nothing was written yet
-pub Puts-none : {E : Type 0} (contents : E → Option (List ℕ)) (a : Errors E) → Puts contents a a []
+pub Puts-none : {E : Type 0} (contents : E → Option (List ℕ)) (a : ErrorWriter E) → Puts contents a a []
 Puts-none contents a = WritesUnlessLost-none a.has_lost (contents a.writer)
 
 -- bytes, and then more
-pub Puts-append : {E : Type 0} (contents : E → Option (List ℕ)) (a b c : Errors E) (xs ys : List ℕ)
+pub Puts-append : {E : Type 0} (contents : E → Option (List ℕ)) (a b c : ErrorWriter E) (xs ys : List ℕ)
     → Puts contents a b xs → Puts contents b c ys → Puts contents a c (xs ++ ys)
 Puts-append contents a b c xs ys p q =
     WritesUnlessLost-append a.has_lost b.has_lost c.has_lost (contents a.writer) (contents b.writer) (contents c.writer) xs ys p q
@@ -76,7 +76,7 @@ Appends-item text old mid new items i d lt before one =
     subst (Appends old new) (sym (flat_map-more text items i d lt)) (Appends-trans old mid new (flat_map text (take i items)) (text (get_or items i d)) before one)
 
 -- the items before one, and then this one
-pub Puts-item : {A E : Type 0} (contents : E → Option (List ℕ)) (text : A → List ℕ) (a b c : Errors E) (items : List A) (i : ℕ) (d : A) → i < length items
+pub Puts-item : {A E : Type 0} (contents : E → Option (List ℕ)) (text : A → List ℕ) (a b c : ErrorWriter E) (items : List A) (i : ℕ) (d : A) → i < length items
     → Puts contents a b (flat_map text (take i items)) → Puts contents b c (text (get_or items i d)) → Puts contents a c (flat_map text (take (i + 1) items))
 Puts-item contents text a b c items i d lt p q =
     subst (Puts contents a c) (sym (flat_map-more text items i d lt)) (Puts-append contents a b c (flat_map text (take i items)) (text (get_or items i d)) p q)

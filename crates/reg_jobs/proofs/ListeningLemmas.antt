@@ -12,7 +12,7 @@ use Rattle.reg_http.specs.Transitions.{StoredTransition}
 use Rattle.reg_http.specs.Output.{exchanges}
 use Rattle.reg_http.specs.Sessions.{Session}
 use Rattle.reg_http.proofs.EndLemmas.{Session-same}
-use Rattle.reg_jobs.specs.declared.errors.Errors.{Errors}
+use Rattle.reg_jobs.specs.declared.errors.ErrorWriter.{ErrorWriter}
 use Rattle.reg_jobs.specs.declared.outcome.Fault.TheVariants.{CannotAccept}
 use Rattle.reg_jobs.specs.Errors.{Puts}
 use Rattle.reg_jobs.specs.Listening.{ServesRound, ServesRounds, ReportsAcceptFailures, accept_failure_lines}
@@ -72,15 +72,15 @@ accept_failure_lines-add a (suc b) =
     ∙ (ap (λ lines. lines ++ line_of CannotAccept []) (accept_failure_lines-add a b) ∙ ap accept_failure_lines e)
 
 -- nothing was written
-pub ReportsAcceptFailures-none : {E : Type 0} (contents : E → Option (List ℕ)) (most : ℕ) (errors : Errors E) → ReportsAcceptFailures contents most errors errors
+pub ReportsAcceptFailures-none : {E : Type 0} (contents : E → Option (List ℕ)) (most : ℕ) (errors : ErrorWriter E) → ReportsAcceptFailures contents most errors errors
 ReportsAcceptFailures-none contents most errors = record { times = 0; within = omega arith; puts = Puts-none contents errors }
 
 -- the line was written once
-pub ReportsAcceptFailures-once : {E : Type 0} (contents : E → Option (List ℕ)) (old new : Errors E) → Puts contents old new (line_of CannotAccept []) → ReportsAcceptFailures contents 1 old new
+pub ReportsAcceptFailures-once : {E : Type 0} (contents : E → Option (List ℕ)) (old new : ErrorWriter E) → Puts contents old new (line_of CannotAccept []) → ReportsAcceptFailures contents 1 old new
 ReportsAcceptFailures-once contents old new puts = record { times = 1; within = omega arith; puts = puts }
 
 -- one more connection
-pub ReportsAcceptFailures-next : {E : Type 0} (contents : E → Option (List ℕ)) (count : ℕ) (old mid new : Errors E)
+pub ReportsAcceptFailures-next : {E : Type 0} (contents : E → Option (List ℕ)) (count : ℕ) (old mid new : ErrorWriter E)
     → ReportsAcceptFailures contents count old mid → ReportsAcceptFailures contents 1 mid new → ReportsAcceptFailures contents (count + 1) old new
 ReportsAcceptFailures-next contents count old mid new before next = record {
   times = before.times + next.times;

@@ -23,9 +23,9 @@ use Rattle.reg_jobs.specs.declared.files.CheckOutcome.{CheckOutcome}
 use Rattle.reg_cli.specs.declared.task.Job.{Job}
 use Rattle.reg_cli.specs.declared.task.Job.TheVariants.{Run, Text as TextJob, Check as CheckJob, List as ListJob, Migrate, Audit}
 use Rattle.reg_cli.specs.declared.task.ListingKind.{ListingKind}
-use Rattle.reg_jobs.specs.declared.errors.Errors.{Errors}
+use Rattle.reg_jobs.specs.declared.errors.ErrorWriter.{ErrorWriter}
 use Rattle.reg_jobs.specs.declared.job.Opened.{Opened}
-use Rattle.reg_jobs.specs.declared.job.Opened.TheVariants.{Nothing, Texts, Failed, Empty, OrphanedLog, Fresh, Database}
+use Rattle.reg_jobs.specs.declared.job.Opened.TheVariants.{Nothing, Texts, Failed, NoContents, OrphanedLog, Fresh, Database}
 use Rattle.reg_jobs.specs.declared.outcome.Fault.{Fault}
 use Rattle.reg_jobs.specs.declared.outcome.Outcome.{Outcome}
 use Rattle.reg_jobs.specs.declared.outcome.Outcome.TheVariants.{Session as SessionEnded, Unopened, NotListening, Text as TextEnded, Check as CheckEnded, List as ListEnded, Migrate as MigrateEnded, Audit as AuditEnded}
@@ -73,7 +73,7 @@ abbrev pub text_at : {S : Type 0} → Opened S → ℕ → Option (List ℕ)
 text_at Nothing position = None
 text_at (Texts texts) position = bytes_of (slice_get texts.items position)
 text_at Failed position = None
-text_at Empty position = None
+text_at NoContents position = None
 text_at OrphanedLog position = None
 text_at (Fresh connection) position = None
 text_at (Database connection) position = None
@@ -83,7 +83,7 @@ abbrev pub connection_in : {S : Type 0} → Opened S → Option (Held S)
 connection_in Nothing = None
 connection_in (Texts texts) = None
 connection_in Failed = None
-connection_in Empty = None
+connection_in NoContents = None
 connection_in OrphanedLog = None
 connection_in (Fresh connection) = Some connection
 connection_in (Database connection) = Some connection
@@ -100,7 +100,7 @@ abbrev pub HasRegistry : {S : Type 0} (g : Ghosts S) → Opened S → State → 
 HasRegistry g Nothing new = ⊥
 HasRegistry g (Texts texts) new = ⊥
 HasRegistry g Failed new = ⊥
-HasRegistry g Empty new = ⊥
+HasRegistry g NoContents new = ⊥
 HasRegistry g OrphanedLog new = ⊥
 HasRegistry g (Fresh old) new = IsCreatedIn (state g old) new
 HasRegistry g (Database old) new = OpensOver (state g old) new
@@ -110,7 +110,7 @@ abbrev pub LacksRegistry : {S : Type 0} (g : Ghosts S) → Opened S → Option (
 LacksRegistry g Nothing returned error = (returned ≡ None) × (error ≡ Disk)
 LacksRegistry g (Texts texts) returned error = (returned ≡ None) × (error ≡ Disk)
 LacksRegistry g Failed returned error = (returned ≡ None) × (error ≡ Disk)
-LacksRegistry g Empty returned error = (returned ≡ None) × (error ≡ NotARegistry)
+LacksRegistry g NoContents returned error = (returned ≡ None) × (error ≡ NotARegistry)
 LacksRegistry g OrphanedLog returned error = (returned ≡ None) × (error ≡ NotARegistry)
 LacksRegistry g (Fresh old) returned error = ReturnsConnection g returned (λ new. CreatesNone (state g old) new error)
 LacksRegistry g (Database old) returned error = ReturnsConnection g returned (λ new. OpensNone (state g old) new error)
@@ -120,7 +120,7 @@ abbrev pub SessionStartsFrom : {S : Type 0} (g : Ghosts S) → Opened S → Stor
 SessionStartsFrom g Nothing was = ⊥
 SessionStartsFrom g (Texts texts) was = ⊥
 SessionStartsFrom g Failed was = ⊥
-SessionStartsFrom g Empty was = ⊥
+SessionStartsFrom g NoContents was = ⊥
 SessionStartsFrom g OrphanedLog was = ⊥
 SessionStartsFrom g (Fresh old) was = ¬ ((state g old).now.schema ≢ no_schema) × (was ≡ new_stored)
 SessionStartsFrom g (Database old) was = SpellsUnopened (state g old).now was
@@ -167,7 +167,7 @@ abbrev pub OverDatabase : {S : Type 0} (g : Ghosts S) → Opened S → (State �
 OverDatabase g Nothing P = ⊥
 OverDatabase g (Texts texts) P = ⊥
 OverDatabase g Failed P = ⊥
-OverDatabase g Empty P = ⊥
+OverDatabase g NoContents P = ⊥
 OverDatabase g OrphanedLog P = ⊥
 OverDatabase g (Fresh old) P = ⊥
 OverDatabase g (Database old) P = P (state g old)
@@ -178,7 +178,7 @@ abbrev pub LacksExistingRegistry : {S : Type 0} (g : Ghosts S) → Opened S → 
 LacksExistingRegistry g Nothing returned error = LacksRegistry g Nothing returned error
 LacksExistingRegistry g (Texts texts) returned error = LacksRegistry g (Texts texts) returned error
 LacksExistingRegistry g Failed returned error = LacksRegistry g Failed returned error
-LacksExistingRegistry g Empty returned error = LacksRegistry g Empty returned error
+LacksExistingRegistry g NoContents returned error = LacksRegistry g NoContents returned error
 LacksExistingRegistry g OrphanedLog returned error = LacksRegistry g OrphanedLog returned error
 LacksExistingRegistry g (Fresh old) returned error = (returned ≡ Some old) × (error ≡ NotARegistry)
 LacksExistingRegistry g (Database old) returned error = LacksRegistry g (Database old) returned error
@@ -236,7 +236,7 @@ abbrev pub MigratesOn : {S : Type 0} (g : Ghosts S) → Opened S → Option (Hel
 MigratesOn g Nothing returned writer writer' outcome = (returned ≡ None) × MigratesNothing writer writer' Disk outcome
 MigratesOn g (Texts texts) returned writer writer' outcome = (returned ≡ None) × MigratesNothing writer writer' Disk outcome
 MigratesOn g Failed returned writer writer' outcome = (returned ≡ None) × MigratesNothing writer writer' Disk outcome
-MigratesOn g Empty returned writer writer' outcome = (returned ≡ None) × MigratesNothing writer writer' NotARegistry outcome
+MigratesOn g NoContents returned writer writer' outcome = (returned ≡ None) × MigratesNothing writer writer' NotARegistry outcome
 MigratesOn g OrphanedLog returned writer writer' outcome = (returned ≡ None) × MigratesNothing writer writer' NotARegistry outcome
 MigratesOn g (Fresh old) returned writer writer' outcome = (returned ≡ Some old) × MigratesNothing writer writer' NotARegistry outcome
 MigratesOn g (Database old) returned writer writer' outcome = ReturnsConnection g returned (λ new. MigratesAs (state g old) new writer writer' outcome)
@@ -264,7 +264,7 @@ HasOutcome g (Audit database) opened returned reader reader' writer writer' outc
 
 -- a job that was done: its outcome, the connection that is returned, its line on standard error, and the status
 pub record DoesJob {S E : Type 0} (g : Ghosts S) (contents : E → Option (List ℕ)) (job : Job) (opened : Opened S) (returned : Option (Held S))
-    (reader reader' writer writer' : Option (List ℕ)) (errors errors' : Errors E) (status : ℕ) : Type 0 where
+    (reader reader' writer writer' : Option (List ℕ)) (errors errors' : ErrorWriter E) (status : ℕ) : Type 0 where
   pub outcome : Outcome
   pub has_outcome : HasOutcome g job opened returned reader reader' writer writer' outcome
   pub reports : PrintsFault contents (job_result job outcome) errors errors'

@@ -7,7 +7,7 @@ use Rattle.reg_service.specs.Deliveries.{Exchange}
 use Rattle.reg_service.specs.Crashes.{ServesDurably}
 use Rattle.reg_http.specs.declared.serving.Ended.{Ended}
 use Rattle.reg_http.specs.Sessions.{Session}
-use Rattle.reg_jobs.specs.declared.errors.Errors.{Errors}
+use Rattle.reg_jobs.specs.declared.errors.ErrorWriter.{ErrorWriter}
 use Rattle.reg_jobs.specs.declared.outcome.Fault.TheVariants.{CannotAccept}
 use Rattle.reg_jobs.specs.Errors.{Puts}
 use Rattle.reg_jobs.specs.Outcomes.{line_of}
@@ -52,7 +52,7 @@ accept_failure_lines (suc count) = accept_failure_lines count ++ line_of CannotA
 
 -- The line that no connection can be accepted was written at most `most` times, and nothing else. If a write fails, or failed before, the rest is
 -- lost.
-pub record ReportsAcceptFailures {E : Type 0} (contents : E → Option (List ℕ)) (most : ℕ) (old new : Errors E) : Type 0 where
+pub record ReportsAcceptFailures {E : Type 0} (contents : E → Option (List ℕ)) (most : ℕ) (old new : ErrorWriter E) : Type 0 where
   pub times : ℕ
   pub within : times ≤ most
   pub puts : Puts contents old new (accept_failure_lines times)

@@ -3,14 +3,14 @@ use Rattle.std.specs.Prelude.{◌≡◌, ⊤, ℕ, length, None, Some}
 use Rattle.reg_cli.specs.declared.task.Job.{Job}
 use Rattle.reg_cli.specs.declared.task.Job.TheVariants.{Run, Text as TextJob, Check as CheckJob, List as ListJob, Migrate, Audit}
 use Rattle.reg_jobs.specs.declared.job.Opened.{Opened}
-use Rattle.reg_jobs.specs.declared.job.Opened.TheVariants.{Nothing, Texts, Failed, Empty, OrphanedLog, Fresh, Database}
+use Rattle.reg_jobs.specs.declared.job.Opened.TheVariants.{Nothing, Texts, Failed, NoContents, OrphanedLog, Fresh, Database}
 
 -- a database for a job that may create its registry. It is opened, empty or not, or only its log is left, or it can't be opened
 abbrev pub OpensOrCreates : {S : Type 0} → Opened S → Type 0
 OpensOrCreates Nothing = ⊥
 OpensOrCreates (Texts texts) = ⊥
 OpensOrCreates Failed = ⊤
-OpensOrCreates Empty = ⊥
+OpensOrCreates NoContents = ⊥
 OpensOrCreates OrphanedLog = ⊤
 OpensOrCreates (Fresh connection) = ⊤
 OpensOrCreates (Database connection) = ⊤
@@ -21,7 +21,7 @@ abbrev pub OpensExisting : {S : Type 0} → Opened S → Type 0
 OpensExisting Nothing = ⊥
 OpensExisting (Texts texts) = ⊥
 OpensExisting Failed = ⊤
-OpensExisting Empty = ⊤
+OpensExisting NoContents = ⊤
 OpensExisting OrphanedLog = ⊤
 OpensExisting (Fresh connection) = ⊥
 OpensExisting (Database connection) = ⊤
@@ -31,7 +31,7 @@ abbrev pub AreSchemaFiles : {S : Type 0} → ℕ → Opened S → Type 0
 AreSchemaFiles count Nothing = ⊥
 AreSchemaFiles count (Texts files) = length files.items ≡ count
 AreSchemaFiles count Failed = ⊥
-AreSchemaFiles count Empty = ⊥
+AreSchemaFiles count NoContents = ⊥
 AreSchemaFiles count OrphanedLog = ⊥
 AreSchemaFiles count (Fresh connection) = ⊥
 AreSchemaFiles count (Database connection) = ⊥

@@ -19,7 +19,7 @@ use Rattle.reg_jobs.specs.declared.outcome.JobError.{JobError}
 use Rattle.reg_jobs.specs.declared.outcome.Fault.{Fault}
 use Rattle.reg_jobs.specs.declared.outcome.Fault.TheVariants.{ReadFailed as FaultReadFailed, WriteFailed as FaultWriteFailed, MalformedInput as FaultMalformedInput, OutOfMemory as FaultOutOfMemory, CannotRead as FaultCannotRead, NotSchema as FaultNotSchema, CannotOpen as FaultCannotOpen, NotRegistry as FaultNotRegistry, OldLayout as FaultOldLayout, NewerLayout as FaultNewerLayout, CannotListen, CannotAccept}
 use Rattle.reg_jobs.specs.declared.line.ErrorLine.{ErrorLine}
-use Rattle.reg_jobs.specs.declared.errors.Errors.{Errors}
+use Rattle.reg_jobs.specs.declared.errors.ErrorWriter.{ErrorWriter}
 use Rattle.reg_jobs.specs.Errors.{Puts}
 use Rattle.reg_jobs.specs.Names.{shown_name}
 
@@ -111,6 +111,6 @@ abbrev pub text_of_line : ErrorLine → List ℕ
 text_of_line line = line.front.now ++ (shown_name line.name.now ++ text_of_parts line.rest)
 
 -- the line of a fault was written; without a fault nothing was written or lost
-abbrev pub PrintsFault : {E : Type 0} → (E → Option (List ℕ)) → Result ℕ (Fault × List ℕ) → Errors E → Errors E → Type 0
+abbrev pub PrintsFault : {E : Type 0} → (E → Option (List ℕ)) → Result ℕ (Fault × List ℕ) → ErrorWriter E → ErrorWriter E → Type 0
 PrintsFault contents (Ok status) old new = new ≡ old
 PrintsFault contents (Err job_error) old new = Puts contents old new (line_of job_error.0 job_error.1)

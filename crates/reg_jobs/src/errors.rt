@@ -8,17 +8,17 @@ use std::io::Write;
 
 /// A writer of lines, which remembers whether part of them was lost because a write failed.
 #[derive(Drop)]
-pub struct Errors<E: Write + Drop> {
+pub struct ErrorWriter<E: Write + Drop> {
     writer: E,
     has_lost: bool,
 }
 
-impl<E: Write + Drop> Errors<E> {
+impl<E: Write + Drop> ErrorWriter<E> {
     /// Lines that go to a writer. Nothing is lost yet.
-    pub fn to(writer: E) -> Errors<E>
+    pub fn to(writer: E) -> ErrorWriter<E>
         ensures { result ≡ record { writer = writer; has_lost = false } }
     {
-        Errors {
+        ErrorWriter {
             writer,
             has_lost: false,
         }

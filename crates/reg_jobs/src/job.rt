@@ -8,7 +8,7 @@ ghost use Rattle.reg_jobs.specs.Jobs.{AuditsOn, DoesJob, LacksExistingRegistry, 
 
 use crate::auditing::audit_store;
 use crate::database::{create_in, open_in, run_on_store};
-use crate::errors::Errors;
+use crate::errors::ErrorWriter;
 use crate::files::{check, print_text};
 use crate::line::report_result;
 use crate::listings::{list_store, listing_of};
@@ -34,7 +34,7 @@ pub enum Opened<S: Alter> {
     Failed,
     /// A file without a byte, or a database whose creation was interrupted, for a job that creates
     /// no registry. It isn't opened.
-    Empty,
+    NoContents,
     /// A log whose database is missing or has no byte. It isn't opened.
     OrphanedLog,
     /// An empty database, in which the job creates its registry.
@@ -134,7 +134,7 @@ fn open_existing_store<S: Alter + Drop>(
     match opened {
         Opened::Database(connection) => open_in(alloc, connection),
         Opened::Fresh(connection) => Err((StoreError::NotARegistry, Some(connection))),
-        Opened::Empty => Err((StoreError::NotARegistry, None)),
+        Opened::NoContents => Err((StoreError::NotARegistry, None)),
         Opened::OrphanedLog => Err((StoreError::NotARegistry, None)),
         _ => Err((StoreError::Disk, None)),
     }
@@ -239,7 +239,7 @@ fn migrate_on<S: Alter + Drop, W: Write>(
                 Some(connection),
             )
         }
-        Opened::Empty => (Outcome::Unopened(StoreError::NotARegistry), None),
+        Opened::NoContents => (Outcome::Unopened(StoreError::NotARegistry), None),
         Opened::OrphanedLog => (Outcome::Unopened(StoreError::NotARegistry), None),
         _ => (Outcome::Unopened(StoreError::Disk), None),
     }
@@ -273,7 +273,7 @@ pub fn do_job<S: Alter + Drop, R: Read, W: Write, E: Write + Drop>(
     opened: Opened<S>,
     reader: &mut R,
     writer: &mut W,
-    errors: &mut Errors<E>,
+    errors: &mut ErrorWriter<E>,
 ) -> (u8, Option<Connection<S>>)
     ensures { DoesJob S.Store E.contents job.now opened result.1 (R.remaining reader.old) (R.remaining reader.new)
         (W.contents writer.old) (W.contents writer.new) errors.old errors.new result.0 }

@@ -18,7 +18,7 @@ mod outcome;
 
 pub use auditing::AuditOutcome;
 pub use avro_nodes::OutOfMemory;
-pub use errors::Errors;
+pub use errors::ErrorWriter;
 pub use job::{Opened, do_job, open_store};
 pub use line::report;
 pub use listening::{serve_on, serve_with_clock};

@@ -5,7 +5,7 @@ ghost use Rattle.reg_jobs.specs.Errors.{Puts};
 ghost use Rattle.reg_jobs.specs.Names.{shown_name};
 ghost use Rattle.reg_jobs.specs.Outcomes.{PrintsFault, result_of, line_of, line_with, result_view, layout_or_port_of, status_of, text_of_line, text_of_parts};
 
-use crate::errors::Errors;
+use crate::errors::ErrorWriter;
 use crate::name::put_name;
 use crate::outcome::{Fault, JobError, Outcome, result_of, status_of};
 use itoa::Buffer;
@@ -82,7 +82,7 @@ fn line_of<'a>(fault: Fault, file: &'a str, digits: &'a str) -> ErrorLine<'a>
 }
 
 /// Writes the parts in order.
-fn put_parts<E: Write + Drop>(errors: &mut Errors<E>, parts: &[&str])
+fn put_parts<E: Write + Drop>(errors: &mut ErrorWriter<E>, parts: &[&str])
     ensures { Puts E.contents errors.old errors.new (text_of_parts parts.now) }
 {
     for part in parts {
@@ -91,7 +91,7 @@ fn put_parts<E: Write + Drop>(errors: &mut Errors<E>, parts: &[&str])
 }
 
 /// Writes a line, with the file's name as it is shown.
-fn put_line<E: Write + Drop>(errors: &mut Errors<E>, line: ErrorLine)
+fn put_line<E: Write + Drop>(errors: &mut ErrorWriter<E>, line: ErrorLine)
     ensures { Puts E.contents errors.old errors.new (text_of_line line.entry) }
 {
     errors.put(line.front.as_bytes());
@@ -100,7 +100,7 @@ fn put_line<E: Write + Drop>(errors: &mut Errors<E>, line: ErrorLine)
 }
 
 /// Writes the line for an error.
-pub fn put_job_error<E: Write + Drop>(errors: &mut Errors<E>, job_error: JobError)
+pub fn put_job_error<E: Write + Drop>(errors: &mut ErrorWriter<E>, job_error: JobError)
     ensures { Puts E.contents errors.old errors.new (line_of job_error.entry.fault job_error.entry.file.now) }
 {
     let mut digits = Buffer::new();
@@ -109,7 +109,10 @@ pub fn put_job_error<E: Write + Drop>(errors: &mut Errors<E>, job_error: JobErro
 }
 
 /// Writes the line for a result if it is an error, and returns the program's status.
-pub fn report_result<E: Write + Drop>(errors: &mut Errors<E>, answer: Result<u8, JobError>) -> u8
+pub fn report_result<E: Write + Drop>(
+    errors: &mut ErrorWriter<E>,
+    answer: Result<u8, JobError>,
+) -> u8
     ensures reports { PrintsFault E.contents (result_view answer.entry) errors.old errors.new }
     ensures status { result ≡ status_of (result_view answer.entry) }
 {
@@ -120,7 +123,7 @@ pub fn report_result<E: Write + Drop>(errors: &mut Errors<E>, answer: Result<u8,
 }
 
 /// Writes the line for an outcome on a file if it is an error, and returns the program's status.
-pub fn report<E: Write + Drop>(errors: &mut Errors<E>, outcome: Outcome, file: &str) -> u8
+pub fn report<E: Write + Drop>(errors: &mut ErrorWriter<E>, outcome: Outcome, file: &str) -> u8
     ensures reports { PrintsFault E.contents (result_of outcome file.now file.now) errors.old errors.new }
     ensures status { result ≡ status_of (result_of outcome file.now file.now) }
 {

@@ -12,7 +12,7 @@ mod pending;
 mod queue;
 mod timing;
 
-use crate::errors::Errors;
+use crate::errors::ErrorWriter;
 use crate::line::put_job_error;
 use crate::outcome::Fault;
 use ending::end;
@@ -56,7 +56,7 @@ fn retry_accept<C: Clock>(clock: &C, queue: &mut Queue<'_>) -> Option<TcpStream>
 fn accept_next<C: Clock, E: Write + Drop>(
     clock: &C,
     queue: &mut Queue<'_>,
-    errors: &mut Errors<E>,
+    errors: &mut ErrorWriter<E>,
 ) -> Option<TcpStream>
     ensures { ReportsAcceptFailures E.contents 1 errors.old errors.new }
 {
@@ -74,7 +74,7 @@ fn serve_next<C: Clock, S: Alter, E: Write + Drop>(
     queue: &mut Queue<'_>,
     is_last: bool,
     service: &mut Service<S>,
-    errors: &mut Errors<E>,
+    errors: &mut ErrorWriter<E>,
 )
     ensures clean { HasCleanDisk (state_in service.new) → HasCleanDisk (state_in service.old) }
     ensures session { HasCleanDisk (state_in service.new) → StoredTransition (state_in service.old) (state_in service.new)
@@ -106,7 +106,7 @@ pub fn serve_with_clock<C: Clock, S: Alter, E: Write + Drop>(
     listener: &TcpListener,
     connections: u32,
     service: &mut Service<S>,
-    errors: &mut Errors<E>,
+    errors: &mut ErrorWriter<E>,
 )
     ensures clean { HasCleanDisk (state_in service.new) → HasCleanDisk (state_in service.old) }
     ensures sessions { HasCleanDisk (state_in service.new)
@@ -127,7 +127,7 @@ pub fn serve_on<S: Alter, E: Write + Drop>(
     listener: &TcpListener,
     connections: u32,
     service: &mut Service<S>,
-    errors: &mut Errors<E>,
+    errors: &mut ErrorWriter<E>,
 )
     ensures clean { HasCleanDisk (state_in service.new) → HasCleanDisk (state_in service.old) }
     ensures sessions { HasCleanDisk (state_in service.new)

@@ -4,7 +4,7 @@ ghost use Rattle.std.specs.Prelude.{◌≡◌, ◌<◌};
 ghost use Rattle.reg_jobs.specs.Errors.{Puts};
 ghost use Rattle.reg_jobs.specs.Names.{hex_digit, shown_name, shown_byte, HasNoControl};
 
-use crate::errors::Errors;
+use crate::errors::ErrorWriter;
 use std::io::Write;
 
 /// The hexadecimal digit of a number below 16.
@@ -16,7 +16,7 @@ fn hex_digit(n: u8) -> u8
 }
 
 /// Writes a byte of a name, or the escape of an ASCII control character.
-fn put_byte<E: Write + Drop>(errors: &mut Errors<E>, byte: u8)
+fn put_byte<E: Write + Drop>(errors: &mut ErrorWriter<E>, byte: u8)
     ensures { Puts E.contents errors.old errors.new (shown_byte byte) }
 {
     if !byte.is_ascii_control() {
@@ -36,7 +36,7 @@ fn put_byte<E: Write + Drop>(errors: &mut Errors<E>, byte: u8)
 
 /// Writes a file's name, with each ASCII control character as its escape, so that it can't end the
 /// line.
-pub fn put_name<E: Write + Drop>(errors: &mut Errors<E>, name: &str)
+pub fn put_name<E: Write + Drop>(errors: &mut ErrorWriter<E>, name: &str)
     ensures puts { Puts E.contents errors.old errors.new (shown_name name.now) }
     ensures no_control { HasNoControl (shown_name name.now) }
     ensures same { HasNoControl name.now → shown_name name.now ≡ name.now }

@@ -24,7 +24,7 @@ pub trait Opener<S: Alter> {
         ensures { IfOk result OpensOrCreates };
 
     /// Opens the database in a file for a job that creates no registry. It creates no file. If the
-    /// file has no contents yet, the result is `Opened::Empty`; if only its log is left,
+    /// file has no contents yet, the result is `Opened::NoContents`; if only its log is left,
     /// `Opened::OrphanedLog`.
     ///
     /// # Errors

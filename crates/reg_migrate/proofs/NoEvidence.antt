@@ -6,7 +6,7 @@ use Rattle.sqlite.specs.Effect.{Database}
 use Rattle.reg_core.specs.Registry.{row_cmp}
 use Rattle.reg_core.specs.Stored.{Stored}
 use Rattle.reg_core.proofs.RowLemmas.{row_keys_apart, row_order}
-use Rattle.reg_tables.specs.TableMaps.{Form, ShowsMap}
+use Rattle.reg_tables.specs.TableMaps.{RowForm, ShowsMap}
 use Rattle.reg_tables.specs.Contents.{version_cmp, evidence_form, TableName, HoldsContents}
 use Rattle.reg_tables.proofs.Opening.{nothing_held}
 use Rattle.reg_store.specs.Spells.{Spells, SpellsLayoutOne}
@@ -14,7 +14,7 @@ use Rattle.reg_store.proofs.Evidence.{has_none}
 use Rattle.reg_migrate.specs.Inside.{HoldsMigrated}
 
 -- if an empty map shows some rows, every map that shows them is empty
-shows_none : {K V : Type 0} (form : Form K V) (rows : List Row) (here there : K → Option V) → ShowsMap form rows here → ShowsMap form rows there
+shows_none : {K V : Type 0} (form : RowForm K V) (rows : List Row) (here there : K → Option V) → ShowsMap form rows here → ShowsMap form rows there
     → ((key : K) → here key ≡ None) → (key : K) → there key ≡ None
 shows_none {K} {V} form rows here there a b none key = go (there key) refl
   where

@@ -78,31 +78,31 @@ some_is None some = absurd (let none : false ≡ true = some in cc)
 some_is (Some x) some = (x, refl)
 
 module _ (was : Stored) (key : RowKey) (nodes : List NodeView) where
-  abbrev level_in : Evidence → Level
-  level_in one = one.level
+  abbrev level_of_evidence : Evidence → Level
+  level_of_evidence one = one.level
 
-  pub true_without : None ≡ option_map level_in (get was.evidence key) → IsTrueAt was key nodes
-  true_without none one had = absurd (none-some one.level (none ∙ ap (option_map level_in) had))
+  pub true_without : None ≡ option_map level_of_evidence (get was.evidence key) → IsTrueAt was key nodes
+  true_without none one had = absurd (none-some one.level (none ∙ ap (option_map level_of_evidence) had))
 
-  pub true_under_none : Some Off ≡ option_map level_in (get was.evidence key) → ((one : Evidence) → HasEvidence was key one → All (λ id. IsSome (schema_at was.registry.schemas id)) one.against) → IsTrueAt was key nodes
+  pub true_under_none : Some Off ≡ option_map level_of_evidence (get was.evidence key) → ((one : Evidence) → HasEvidence was key one → All (λ id. IsSome (schema_at was.registry.schemas id)) one.against) → IsTrueAt was key nodes
   true_under_none off there one had =
-      let same : Off ≡ one.level = same_Some Off one.level (off ∙ ap (option_map level_in) had) in
+      let same : Off ≡ one.level = same_Some Off one.level (off ∙ ap (option_map level_of_evidence) had) in
       All-weaker (λ id. IsSome (schema_at was.registry.schemas id)) (IsCompatibleWith was.registry.schemas one.level nodes) (λ id some.
       (let it = some_is (schema_at was.registry.schemas id) some in
       (it.0, it.1, subst (λ (level : Level). Compatible level it.0 nodes) same tt))) one.against (there one had)
 
   -- the evidence is true if the schema passes the comparisons of its level
-  pub true_by_level : (level : Level) (said : Bool) → Some level ≡ option_map level_in (get was.evidence key)
+  pub true_by_level : (level : Level) (said : Bool) → Some level ≡ option_map level_of_evidence (get was.evidence key)
       → ((one : Evidence) → HasEvidence was key one → IsTrue said ↔ All (IsCompatibleWith was.registry.schemas level nodes) one.against) → IsTrue said ↔ IsTrueAt was key nodes
   true_by_level level said is told = (
     λ h one had. subst (λ (l : Level). All (IsCompatibleWith was.registry.schemas l nodes) one.against) (same one had) ((told one had).0 h),
     λ all.
-        let one = was_written level_in (get was.evidence key) level (sym is) in
+        let one = was_written level_of_evidence (get was.evidence key) level (sym is) in
         (told one.0 one.1).1 (subst (λ (l : Level). All (IsCompatibleWith was.registry.schemas l nodes) one.0.against) (sym (same one.0 one.1)) (all one.0 one.1)),
   )
     where
       same : (one : Evidence) → HasEvidence was key one → level ≡ one.level
-      same one had = same_Some level one.level (is ∙ ap (option_map level_in) had)
+      same one had = same_Some level one.level (is ∙ ap (option_map level_of_evidence) had)
 
 -- ---- the ids of one version
 

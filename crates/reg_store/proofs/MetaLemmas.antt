@@ -33,7 +33,7 @@ use Rattle.reg_store.specs.declared.layout.Layout.{Layout}
 use Rattle.reg_store.specs.declared.layout.Layout.TheVariants.{One, Two}
 use Rattle.reg_store.specs.Failures.{failure_of, IsFaultBy, HasDiskCause}
 use Rattle.reg_store.specs.Opening.{HasMetaRow, RowsNameLayout, NamesLayout, ShowsLayout, HasOtherLayout, layout_error, HasMetaNumberOf, ReportsOther}
-use Rattle.reg_store.specs.Inside.TableChecks.{AreDistinct, pairs_of, number_of, is_meta_of, PassesMeta, Allows, JudgesMeta, MetaPass, SpellsAs, Checks}
+use Rattle.reg_store.specs.Inside.TableChecks.{AreDistinct, pairs_of, number_of, is_meta_of, PassesMeta, RequiresLayout, JudgesMeta, MetaPass, SpellsAs, Checks}
 use Rattle.reg_store.proofs.Bases.{some_of_one, some_unopened}
 use Rattle.reg_store.proofs.MetaRows.{value_is, layout_is, meta_found, meta_fit, layout_two_meta_fit}
 use Rattle.reg_store.proofs.LayoutNumbers.{above_zero}
@@ -117,7 +117,7 @@ shows_layout lines db none reads number is =
     record { no_views = none; rows = reads.rows; shows = reads.shows; names = names_if_in lines reads.rows lists number is }
 
 pub judged : (layout : Layout) (lines : List RawMeta) (named : Option ℕ) (passes : Bool) (r : Result (Unit {0}) StoreError) → named ≡ layout_of (pairs_of lines) → (IsTrue passes → PassesMeta layout lines) → (PassesMeta layout lines → IsTrue passes)
-    → Allows (number_of layout) named passes r → JudgesMeta layout lines r
+    → RequiresLayout (number_of layout) named passes r → JudgesMeta layout lines r
 judged layout lines named passes (Ok y) is to from a = to a
 judged layout lines named passes (Err Memory) is to from a = absurd a
 judged layout lines named passes (Err Disk) is to from a = absurd a

@@ -3,11 +3,11 @@ use Rattle.std.proofs.Common.{◌≡◌, ◌≢◌, inl, inr, ℕ, zero, suc, �
 use Rattle.reg_tables.proofs.Kit.{cases_lt, Null, Int, Term, lit, col, op2, Compare, Or, Eq, op_term, term_to, term_in, terms_in, Op, Literal, Column, Unary, Case}
 use Rattle.sqlite.specs.Collation.TheVariants as collation
 use Rattle.sqlite_schema.specs.declared.code.Op.TheVariants.{Binary}
-use Rattle.reg_tables.specs.Layout.{is_number, versions}
+use Rattle.reg_tables.specs.Layout.{column_equals, versions}
 use Rattle.reg_tables.specs.Inside.Checks.{node_at, IsTestAt, IsCheckAt}
 
 abbrev check : Term
-check = op2 Or (is_number 4 0) (is_number 4 1)
+check = op2 Or (column_equals 4 0) (column_equals 4 1)
 
 -- ---- from the nodes to the term
 
@@ -64,11 +64,11 @@ number_back nodes (suc depth) at n h = go (node_at nodes at) h
     go (Binary o a b) h = absurd (cc)
     go (Case t a b) h = absurd (cc)
 
-test_back : (nodes : List Op) (depth at n : ℕ) → term_to nodes depth at ≡ is_number 4 n → IsTestAt nodes at (pos n)
+test_back : (nodes : List Op) (depth at n : ℕ) → term_to nodes depth at ≡ column_equals 4 n → IsTestAt nodes at (pos n)
 test_back nodes zero at n h = absurd (cc)
 test_back nodes (suc depth) at n h = go (node_at nodes at) refl h
   where
-    go : (op : Op) → node_at nodes at ≡ op → op_term (term_to nodes depth) op ≡ is_number 4 n → IsTestAt nodes at (pos n)
+    go : (op : Op) → node_at nodes at ≡ op → op_term (term_to nodes depth) op ≡ column_equals 4 n → IsTestAt nodes at (pos n)
     go (Literal v) is h = absurd (cc)
     go (Column s p) is h = absurd (cc)
     go (Unary o a) is h = absurd (cc)

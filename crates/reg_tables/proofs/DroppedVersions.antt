@@ -5,7 +5,7 @@ use Rattle.sqlite.specs.Listing.{understood}
 use Rattle.sqlite_rules.specs.Action as action
 use Rattle.sqlite_tied.specs.Compute.{everything}
 use Rattle.reg_tables.specs.Layout.{five_tables_then, texts, versions, levels, kept, meta, modes, added_tables}
-use Rattle.reg_tables.specs.TableMaps.{Form, ShowsMap, HaveRowids}
+use Rattle.reg_tables.specs.TableMaps.{RowForm, ShowsMap, HaveRowids}
 use Rattle.reg_tables.specs.Contents.{version_cmp, version_key_cells, text_form, version_form, pair_form, kept_form, evidence_form, against_form, PositionKey, position_cmp, Contents, HoldsContents, ShowsIn, TableName, Texts, Versions, Levels, Kept, Meta, Modes, Evidence, Against, ordinal_of, form_of, map_of}
 use Rattle.reg_tables.specs.Changes.{without_version, without_positions}
 use Rattle.reg_tables.specs.FailedCalls.{IsFault}
@@ -34,7 +34,7 @@ twice_not true = refl
 twice_not false = refl
 
 -- the map without the keys of the deleted rows
-module _ {K V : Type 0} (form : Form K V) (R : K → K → Ordering) (m later : FinMap R V) (named : Row → Bool) (old new : List Row) (shows : ShowsMap form old (get m)) (loses : Loses (λ r. named r ≡ true) old new)
+module _ {K V : Type 0} (form : RowForm K V) (R : K → K → Ordering) (m later : FinMap R V) (named : Row → Bool) (old new : List Row) (shows : ShowsMap form old (get m)) (loses : Loses (λ r. named r ≡ true) old new)
     (stays : K → Bool) (test : (row : Row) (q : K) → form.key_of row ≡ form.key_cells q → named row ≡ not (stays q)) (kept : (q : K) → get later q ≡ cond (stays q) (get m q) None) where
   kept_if : (q : K) → stays q ≡ true → get later q ≡ get m q
   kept_if q is = kept q ∙ ap (λ b. cond b (get m q) None) is

@@ -5,7 +5,7 @@ use Rattle.std.specs.FinMap.{insert}
 use Rattle.sqlite.specs.Order.{column}
 use Rattle.sqlite.specs.Ops.{unary}
 use Rattle.sqlite_sql.specs.Ops.{binary}
-use Rattle.reg_tables.specs.TableMaps.{Form, IsEntry, ShowsMap}
+use Rattle.reg_tables.specs.TableMaps.{RowForm, IsEntry, ShowsMap}
 use Rattle.reg_tables.specs.Changes.{altered}
 use Rattle.reg_tables.specs.Rooms.{HasRoom}
 use Rattle.reg_tables.proofs.Rooms.{room_after}
@@ -143,7 +143,7 @@ given_as_is rows [] = refl
 given_as_is rows (r ∷ news) = ap (λ l. r ∷ l) (given_as_is (put_row r rows) news)
 
 -- the cells of an inserted row
-pub record IsRowOf {K V : Type 0} (form : Form K V) (row : Row) (key : K) (value : V) : Type 0 where
+pub record IsRowOf {K V : Type 0} (form : RowForm K V) (row : Row) (key : K) (value : V) : Type 0 where
   pub has_id : is_int (rowid row) ≡ true
   pub has_key : form.key_of row ≡ form.key_cells key
   pub has_value : form.value_of row ≡ form.value_cells value
@@ -154,7 +154,7 @@ pub record FindsOne (p : Row → Bool) (rest : Row → Row) (rows found : List R
   pub few : length found ≤ 1
 
 -- the rows that a query by key finds
-module _ {K V : Type 0} (form : Form K V) (R : K → K → Ordering) (order : IsKeyOrder R) (db : Trees) (tree : ℕ) (m : FinMap R V) (shows : ShowsMap form (db tree) (get m)) (k : K) (tests : List Term) (params : Row)
+module _ {K V : Type 0} (form : RowForm K V) (R : K → K → Ordering) (order : IsKeyOrder R) (db : Trees) (tree : ℕ) (m : FinMap R V) (shows : ShowsMap form (db tree) (get m)) (k : K) (tests : List Term) (params : Row)
     (test : (row : Row) (q : K) → form.key_of row ≡ form.key_cells q → passes tests params row ≡ is_eq (R q k)) where
   -- a row that passes has the key
   pub own_row : (row : Row) → Has (db tree) row → passes tests params row ≡ true → (v : V) × (get m k ≡ Some v) × IsEntry form row k v
@@ -176,7 +176,7 @@ module _ {K V : Type 0} (form : Form K V) (R : K → K → Ordering) (order : Is
         few = omega (arith, one, all);
       }
 
-module _ (schema : Schema) {K V : Type 0} (form : Form K V) (R : K → K → Ordering) (order : IsKeyOrder R) (distinct : (a b : K) → form.key_cells a ≡ form.key_cells b → a ≡ b) (at : ℕ) (table : Table)
+module _ (schema : Schema) {K V : Type 0} (form : RowForm K V) (R : K → K → Ordering) (order : IsKeyOrder R) (distinct : (a b : K) → form.key_cells a ≡ form.key_cells b → a ≡ b) (at : ℕ) (table : Table)
     (there : slice_get schema.tables at ≡ Some table) (old new : State) (declared : old.now.schema ≡ schema) (m : FinMap R V) (shows : ShowsMap form (old.now.trees table.tree) (get m)) (k : K) (sql : List ℕ) (params : Row) (count : ℕ) where
   pub inserts : (terms : List Term) (width : ℕ) (new_row : Row) (v : V) → table.is_counted ≡ false → IsCommand schema sql (Insert at (Values terms width))
       → (edit_of old.now.trees table [] Chosen 0 (value_rows (stamped table params) width (length terms / width) terms)).news ≡ new_row ∷ [] → IsRowOf form new_row k v → get m k ≡ None
@@ -263,7 +263,7 @@ module _ (schema : Schema) {K V : Type 0} (form : Form K V) (R : K → K → Ord
 -- ---- a lookup by key
 
 -- a lookup returns the row of the key's value, or no row
-pub record FindsValue {K V : Type 0} (form : Form K V) (value : Option V) (found : List Row) : Type 0 where
+pub record FindsValue {K V : Type 0} (form : RowForm K V) (value : Option V) (found : List Row) : Type 0 where
   pub sound : (x : Row) → Has found x → (v : V) × (value ≡ Some v) × (x ≡ form.value_cells v)
   pub complete : (v : V) → value ≡ Some v → Has found (form.value_cells v)
 
@@ -288,7 +288,7 @@ module _ (q : TableQuery) (params : Row) (old new : State) (it : IsQuery q old.n
     pub has_shown : (row : Row) → Has (old.now.trees q.tree) row → passes q.tests params row ≡ true → Has found (eval_all q.shown (params ∷ row ∷ []))
     has_shown row there = has_answer q.tests params q.tree q.shown (overlay old.now.trees []) found answer row (subst (λ l. Has l row) (sym (with_nothing old.now.trees q.tree)) there)
 
-module _ {K V : Type 0} (form : Form K V) (R : K → K → Ordering) (order : IsKeyOrder R) (q : TableQuery) (plain : body_of q ≡ plain_query q.tree q.tests q.shown) (params : Row) (old new : State) (it : IsQuery q old.now.schema) (value_at : K → Option V) (shows : ShowsMap form (old.now.trees q.tree) value_at) where
+module _ {K V : Type 0} (form : RowForm K V) (R : K → K → Ordering) (order : IsKeyOrder R) (q : TableQuery) (plain : body_of q ≡ plain_query q.tree q.tests q.shown) (params : Row) (old new : State) (it : IsQuery q old.now.schema) (value_at : K → Option V) (shows : ShowsMap form (old.now.trees q.tree) value_at) where
   pub finds : (k : K) (found : List Row) → ((row : Row) (key : K) → form.key_of row ≡ form.key_cells key → passes q.tests params row ≡ is_eq (R key k)) → ((row : Row) → eval_all q.shown (params ∷ row ∷ []) ≡ form.value_of row)
       → Shown q.sql params old new found → FindsValue form (value_at k) found
   finds k found test whole h = record {
@@ -307,7 +307,7 @@ none_of None f = refl
 none_of (Some x) f = absurd (f x refl)
 
 -- the value in the first returned row
-pub first_found : {K V : Type 0} (form : Form K V) (value : Option V) (found : List Row) → FindsValue form value found → (o : Option Row) → o ≡ slice_get found 0
+pub first_found : {K V : Type 0} (form : RowForm K V) (value : Option V) (found : List Row) → FindsValue form value found → (o : Option Row) → o ≡ slice_get found 0
     → MatchOption o (value ≡ None) (λ row. (v : V) × (value ≡ Some v) × (row ≡ form.value_cells v))
 first_found form value [] f None is = none_of value (λ v there. f.complete v there)
 first_found form value (r ∷ found) f None is = absurd (cc)

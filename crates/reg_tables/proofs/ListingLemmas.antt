@@ -2,7 +2,7 @@
 use Rattle.std.proofs.Common.{◌≡◌, ◌≢◌, inl, inr, ℤ, List, [], ◌∷◌, map, Option, Some, None, Bool, false, cond, refl, sym, ap, subst, ◌∙◌, Ordering, Less, Equal, Greater}
 use Rattle.reg_tables.proofs.Kit.{is_eq, int_cmp, eq_by_cmp, ordering_reverse, FinMap, get, from_entries, get-from_entries, find, same_map, AllByRecursion, IsPermutation, IsPermutation-sym, IsPermutation-map, IsDistinct-IsPermutation, tied_itself, int_cmp_total, cases_Bool, both_ways, map-map, Value, Int, Row, value_cmp, IsAscending, rowid, is_int, value_cmp_total, value_cmp-Int, Has, all_from, all_has}
 use Rattle.std.specs.List.{IsDistinct}
-use Rattle.reg_tables.specs.TableMaps.{Form, HaveDifferentRowids, HaveRowids, ShowsMap}
+use Rattle.reg_tables.specs.TableMaps.{RowForm, HaveDifferentRowids, HaveRowids, ShowsMap}
 use Rattle.reg_tables.specs.Listings.{RowParts, parts_of, entry_parts, Lists, HasNoDuplicates, without_rowid}
 use Rattle.reg_tables.specs.Inside.KeyedLaws.{IsKeyOrder}
 use Rattle.reg_tables.proofs.ListMembers.{has_mapped, maps_had, has_permuted}
@@ -89,7 +89,7 @@ module _ {K V : Type 0} (R : K → K → Ordering) (order : IsKeyOrder R) where
 
 -- ---- a table
 
-module _ {K V : Type 0} (form : Form K V) (R : K → K → Ordering) (order : IsKeyOrder R) (distinct : (a b : K) → form.key_cells a ≡ form.key_cells b → a ≡ b) (rows : List Row) (es : List (ℤ × K × V))
+module _ {K V : Type 0} (form : RowForm K V) (R : K → K → Ordering) (order : IsKeyOrder R) (distinct : (a b : K) → form.key_cells a ≡ form.key_cells b → a ≡ b) (rows : List Row) (es : List (ℤ × K × V))
     (lists : Lists form rows es) where
   listed : (row : Row) → Has rows row → (e : ℤ × K × V) × Has es e × (parts_of form row ≡ entry_parts form e)
   listed row h =

@@ -4,7 +4,7 @@ use Rattle.reg_tables.proofs.Kit.{from_entries, empty, IsSome, unwrap_or, Schema
 use Rattle.std.specs.List.{IsDistinct}
 use Rattle.reg_tables.specs.Layout.{five_tables_then, texts, versions, levels, kept, meta, IsLayoutOne, HasFiveTables}
 use Rattle.reg_tables.specs.Contents.{text_form, version_form, pair_form, kept_form, evidence_form, against_form, TableName, Texts, Versions, Levels, Kept, Meta, Modes, Evidence, Against, ordinal_of, KeyOf, ValueOf, cmp_of, form_of, MapOf, map_of, Contents, ShowsIn, ShowsAll, HoldsContents}
-use Rattle.reg_tables.specs.TableMaps.{Form}
+use Rattle.reg_tables.specs.TableMaps.{RowForm}
 use Rattle.reg_tables.specs.Listings.{HasNoDuplicates, Lists, without_rowid, text_entry, version_entry, level_entry, kept_entry, meta_entry, mode_entry, evidence_entry, against_entry}
 use Rattle.reg_tables.specs.Inside.AllRawRows.{entry_of, RawRows, ListsIn, ListsAll, HaveNoDuplicates, map_in, contents_of}
 use Rattle.reg_tables.proofs.Keys.{key_laws}
@@ -74,7 +74,7 @@ module _ (schema : Schema) (db : Database) (lines : RawRows) (lists : ListsAll s
 -- ---- the lists of each table by name
 
 -- if the schema has the table, its list is of the table's rows
-pub listed_in : {K V : Type 0} (form : Form K V) (trees : Trees) (other : Table) (table : Option Table) (entries : List (ℤ × K × V)) → IsSome table → Lists form (trees (unwrap_or table other).tree) entries → ListsIn form trees table entries
+pub listed_in : {K V : Type 0} (form : RowForm K V) (trees : Trees) (other : Table) (table : Option Table) (entries : List (ℤ × K × V)) → IsSome table → Lists form (trees (unwrap_or table other).tree) entries → ListsIn form trees table entries
 listed_in form trees other None entries there lists = absurd (cc)
 listed_in form trees other (Some table) entries there lists = lists
 

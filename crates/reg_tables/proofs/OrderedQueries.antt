@@ -4,7 +4,7 @@ use Rattle.reg_tables.proofs.Kit.{IsTotalOrder, FinMap, entries, entries_sorted,
 use Rattle.std.specs.List.{IsDistinct}
 use Rattle.sqlite.specs.Query.{output}
 use Rattle.sqlite_value.specs.Order.{column, value_cmp}
-use Rattle.reg_tables.specs.TableMaps.{Form, IsEntry, HaveDifferentRowids, ShowsMap}
+use Rattle.reg_tables.specs.TableMaps.{RowForm, IsEntry, HaveDifferentRowids, ShowsMap}
 use Rattle.reg_tables.specs.Inside.KeyedLaws.{IsKeyOrder}
 use Rattle.reg_tables.specs.Inside.Statements.{ordered_query}
 use Rattle.reg_tables.proofs.ListMembers.{has_mapped, maps_had}
@@ -125,7 +125,7 @@ key_cmp_total at [] = record { antisymm = λ a b. refl; trans = λ a b c h k. h;
 key_cmp_total at (k ∷ keys) = then_total (on_total (λ (r : Row). column r at) (by_key_total k)) (key_cmp_total (suc at) keys)
 
 -- the rows that pass have the columns of the entries of a sorted list
-module _ {K V : Type 0} (form : Form K V) (R : K → K → Ordering) (tree : ℕ) (tests shown : List Term) (order : List (Term × Key)) (limit : Term) (params : Row) (db : Trees) (found : List Row)
+module _ {K V : Type 0} (form : RowForm K V) (R : K → K → Ordering) (tree : ℕ) (tests shown : List Term) (order : List (Term × Key)) (limit : Term) (params : Row) (db : Trees) (found : List Row)
     (a : IsAnswer (ordered_query tree tests shown order limit) db params found) (m : FinMap R V) (shows : ShowsMap form (db tree) (get m)) (es : List (K × V)) (out : K × V → Output)
     (shown_as : (row : Row) (e : K × V) → IsEntry form row e.0 e.1 → output (ordered_query tree tests shown order limit) (params ∷ row ∷ []) ≡ out e)
     (members : (row : Row) (e : K × V) → IsEntry form row e.0 e.1 → get m e.0 ≡ Some e.1 → passes tests params row ≡ true → Has es e)

@@ -4,13 +4,13 @@ use Rattle.reg_tables.proofs.Kit.{get, Int, Text, Row, id_in, Database, rowid, H
 use Rattle.sqlite.specs.Order.{column}
 use Rattle.reg_tables.specs.Layout.{texts, versions, levels, kept, meta}
 use Rattle.reg_tables.specs.Reads.{HoldsReadable, HasReadableMeta}
-use Rattle.reg_tables.specs.TableMaps.{Form, IsEntry, ShowsMap}
+use Rattle.reg_tables.specs.TableMaps.{RowForm, IsEntry, ShowsMap}
 use Rattle.reg_tables.specs.Contents.{version_cells, text_form, version_form, pair_form, kept_form}
 use Rattle.reg_tables.proofs.Tables.{five}
 use Rattle.reg_tables.specs.Inside.ReadableRows.{IsReadableText, IsReadableVersion, IsReadablePair, IsReadableKept}
 
 -- what follows from a row's entry
-pub by_entry : {K V : Type 0} (form : Form K V) (rows : List Row) (value_at : K → Option V) → ShowsMap form rows value_at → (row : Row) → Has rows row → (P : Type 0)
+pub by_entry : {K V : Type 0} (form : RowForm K V) (rows : List Row) (value_at : K → Option V) → ShowsMap form rows value_at → (row : Row) → Has rows row → (P : Type 0)
     → ((key : K) (value : V) → rowid row ≡ Int (id_in (rowid row)) → value_at key ≡ Some value → IsEntry form row key value → P) → P
 by_entry form rows value_at shows row has P each =
     let entry = shows.sound row has in

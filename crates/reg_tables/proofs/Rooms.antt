@@ -1,7 +1,7 @@
 -- Free rowids after the last row: what an insert leaves, and what new tables have.
 use Rattle.std.proofs.Common.{arith, ◌≡◌, inl, inr, None, Option, ℕ, ◌+◌, ◌+ℤ◌, ◌^◌, ◌<◌, ◌≤◌, ◌<ℤ◌, ℤ, pos, List, [], ◌∷◌, fold, refl, sym, ap, subst, ◌∙◌}
 use Rattle.reg_tables.proofs.Kit.{match_ordering, Ordering, Less, int_cmp_is, ints, empty, get, get-empty, Value, Int, Row, value_cmp, rowid, put_row, next_rowid, id_in, Has, value_cmp-Int}
-use Rattle.reg_tables.specs.TableMaps.{Form, ShowsMap}
+use Rattle.reg_tables.specs.TableMaps.{RowForm, ShowsMap}
 use Rattle.reg_tables.specs.Rooms.{Ascends, HasRoom}
 
 -- one above the last rowid, or this number if there is no row
@@ -70,10 +70,10 @@ room_after rows count h row its =
 -- ---- empty tables
 
 -- a table that shows an empty map has no rows
-no_rows : {K V : Type 0} (form : Form K V) (rows : List Row) (value_at : K → Option V) → ((key : K) → value_at key ≡ None) → ShowsMap form rows value_at → rows ≡ []
+no_rows : {K V : Type 0} (form : RowForm K V) (rows : List Row) (value_at : K → Option V) → ((key : K) → value_at key ≡ None) → ShowsMap form rows value_at → rows ≡ []
 no_rows form [] value_at none shows = refl
 no_rows form (row ∷ rows) value_at none shows = let it = shows.sound row (inl refl) in absurd (let clash = sym (none it.0) ∙ it.2 in cc)
 
-pub room_if_none : {K V : Type 0} (form : Form K V) (R : K → K → Ordering) (rows : List Row) → ShowsMap form rows (get {R = R} empty) → (count : ℕ) → count < 2 ^ 63 → HasRoom rows count
+pub room_if_none : {K V : Type 0} (form : RowForm K V) (R : K → K → Ordering) (rows : List Row) → ShowsMap form rows (get {R = R} empty) → (count : ℕ) → count < 2 ^ 63 → HasRoom rows count
 room_if_none form R rows shows count low =
     subst (λ rows. HasRoom rows count) (sym (no_rows form rows (get {R = R} empty) (get-empty R) shows)) (record { ascends = tt; next = 1; is_next = refl; room = omega (arith, low) })

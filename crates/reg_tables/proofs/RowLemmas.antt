@@ -2,7 +2,7 @@
 use Rattle.std.proofs.Common.{◌≡◌, ◌≢◌, inl, inr, ℤ, List, [], ◌∷◌, Option, Some, None, option_map, Bool, true, false, not, IsTrue, Ordering, Less, Equal, Greater, refl, sym, ap, subst, ◌∙◌}
 use Rattle.reg_tables.proofs.Kit.{AllByRecursion, is_eq, match_ordering, ordering_reverse, FinMap, get, remove, empty, get-empty, tied_itself, tied_back, false_from_ne_true, both_ways, or_parts, and_parts, not-true, Int, Row, value_cmp, without_all, id_in, is_taken, put_all, are_fresh, have_rowids, IsAscending, rowid, has_rowid, put_row, without_rowid, is_int, value_cmp_total, ids_of, Has, has_filtered, has_kept, all_has, int_is, without_all_has, has_put, put_has, put_all_has, put_all_keeps, put_all_adds, all-put_row, ascending-filter, all-filter}
 use Rattle.std.specs.FinMap.{insert}
-use Rattle.reg_tables.specs.TableMaps.{Form, HaveDifferentRowids, HaveRowids, IsEntry, ShowsMap}
+use Rattle.reg_tables.specs.TableMaps.{RowForm, HaveDifferentRowids, HaveRowids, IsEntry, ShowsMap}
 use Rattle.reg_tables.specs.Changes.{altered}
 use Rattle.reg_tables.specs.Inside.KeyedLaws.{IsKeyOrder}
 use Rattle.reg_tables.proofs.ListMembers.{has_mapped, maps_had}
@@ -97,11 +97,11 @@ module _ (p : Row → Bool) (rest : Row → Row) (rows found : List Row) (shaped
 
 -- ---- maps
 
-pub same_rows : {K V : Type 0} {form : Form K V} {value_at : K → Option V} {old new : List Row} → new ≡ old → ShowsMap form old value_at → ShowsMap form new value_at
+pub same_rows : {K V : Type 0} {form : RowForm K V} {value_at : K → Option V} {old new : List Row} → new ≡ old → ShowsMap form old value_at → ShowsMap form new value_at
 same_rows {form = form} {value_at = value_at} e shows = subst (λ rows. ShowsMap form rows value_at) (sym e) shows
 
 -- a table with no row shows the empty map
-pub shows_empty : {K V : Type 0} (R : K → K → Ordering) (form : Form K V) → ShowsMap form [] (get {R = R} empty)
+pub shows_empty : {K V : Type 0} (R : K → K → Ordering) (form : RowForm K V) → ShowsMap form [] (get {R = R} empty)
 shows_empty R form = record {
   rowids = (tt, tt);
   sound = λ r h. absurd h;
@@ -109,7 +109,7 @@ shows_empty R form = record {
   once = λ a b x y e. absurd x;
 }
 
-module _ {K V : Type 0} (form : Form K V) (R : K → K → Ordering) (order : IsKeyOrder R) (distinct : (a b : K) → form.key_cells a ≡ form.key_cells b → a ≡ b) (rows : List Row) (m : FinMap R V) (k : K)
+module _ {K V : Type 0} (form : RowForm K V) (R : K → K → Ordering) (order : IsKeyOrder R) (distinct : (a b : K) → form.key_cells a ≡ form.key_cells b → a ≡ b) (rows : List Row) (m : FinMap R V) (k : K)
     (shows : ShowsMap form rows (get m)) where
   -- a row is inserted under a free key
   pub shows_inserted : (v : V) (new : Row) → get m k ≡ None → form.key_of new ≡ form.key_cells k → form.value_of new ≡ form.value_cells v → IsTrue (is_int (rowid new)) → is_taken rows new ≡ false

@@ -4,7 +4,7 @@ use Rattle.reg_tables.proofs.Kit.{nat_lt, is_eq, Less, value_cmp, Row, AllByRecu
 use Rattle.sqlite.specs.Edit.{edited}
 use Rattle.sqlite.specs.declared.error.ErrorCode.TheVariants as code
 use Rattle.sqlite_sql.specs.Ops.{binary}
-use Rattle.reg_tables.specs.TableMaps.{Form, ShowsMap}
+use Rattle.reg_tables.specs.TableMaps.{RowForm, ShowsMap}
 use Rattle.reg_tables.specs.Rooms.{HasRoom}
 use Rattle.reg_tables.proofs.Rooms.{above, less}
 use Rattle.reg_tables.specs.FailedCalls.{IsFault, IsInsertFault}
@@ -32,7 +32,7 @@ pub record IsFitting (schema : Schema) (table : Table) (rows : List Row) (row : 
   pub free : AllByRecursion (IsFree table rows row) schema.indexes
 
 -- if the map has no value under the key, no row shares the key
-pub new_key : {K V : Type 0} (form : Form K V) (R : K → K → Ordering) (m : FinMap R V) (rows : List Row) → ShowsMap form rows (get m) → (k : K) → get m k ≡ None → (Shares : Row → Type 0)
+pub new_key : {K V : Type 0} (form : RowForm K V) (R : K → K → Ordering) (m : FinMap R V) (rows : List Row) → ShowsMap form rows (get m) → (k : K) → get m k ≡ None → (Shares : Row → Type 0)
     → ((r : Row) (q : K) → form.key_of r ≡ form.key_cells q → Shares r → q ≡ k) → (r : Row) → Has rows r → Shares r → ⊥
 new_key {V = V} form R m rows shows k free Shares same_key r was shares =
     let entry = shows.sound r was in

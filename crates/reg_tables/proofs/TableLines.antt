@@ -7,9 +7,9 @@ use Rattle.reg_tables.specs.declared.autocommit.AutocommitConnection.{Autocommit
 use Rattle.reg_tables.specs.Frames.{after_begin, ReadsInAutocommit}
 use Rattle.reg_tables.specs.Lookups.{ReadsTable}
 use Rattle.reg_tables.specs.Layout.{HasFiveTables, no_schema, HasEightTables}
-use Rattle.reg_tables.specs.Reads.{HoldsReadable, CanBeRead, HasReadableMeta, HasLayout, HoldsReadableIn}
+use Rattle.reg_tables.specs.Reads.{HoldsReadable, CanBeRead, HasReadableMeta, BeginsWithFiveTables, HoldsReadableIn}
 use Rattle.reg_tables.specs.FailedCalls.{IsFault, IsUnreadable}
-use Rattle.reg_tables.specs.TableMaps.{Form, IsEntry, ShowsMap}
+use Rattle.reg_tables.specs.TableMaps.{RowForm, IsEntry, ShowsMap}
 use Rattle.reg_tables.specs.Contents.{version_form, pair_form, kept_form, PositionKey, evidence_form, against_form, TableName, Versions, Modes, Evidence, Against, Contents, AreReadable, HoldsContents, table_in, HasTable, form_of, map_of}
 use Rattle.reg_tables.specs.Listings.{parts_of, entry_parts, Lists}
 use Rattle.reg_tables.specs.Inside.ReadableRows.{IsReadableVersion, IsReadablePair, IsReadableKept, IsReadableEvidence, IsReadableAgainst}
@@ -58,7 +58,7 @@ module _ {q : TableQuery} {params : Row} (it : IsAsked q params) (is_readable : 
   pub list_fault : ((found : List Row) → Shown q.sql params old new found → HoldsReadable old.now → All is_readable found) → (e : Error) → FailsToList is_readable q.sql params old new end e → CanBeRead old → IsFault old end e
   list_fault readable e why can = asked_fault q.sql old new end is_readable e params why (λ is_open. let there = can is_open in (asks_five it old.now.schema (of_layout old.now there), λ found shown. readable found shown there))
 
-  pub list_told : (e : Error) → FailsToList is_readable q.sql params old new end e → HasLayout old → IsFault old end e ⊎ IsUnreadable e
+  pub list_told : (e : Error) → FailsToList is_readable q.sql params old new end e → BeginsWithFiveTables old → IsFault old end e ⊎ IsUnreadable e
   list_told e why known = asked_told q.sql old new end is_readable e params why (λ is_open. asks_five it old.now.schema (known is_open))
 
 -- a lookup of versions by such a query
@@ -78,7 +78,7 @@ module _ {S X : Type 0} {g : Ghosts S} {q : TableQuery} {params : Row} (asked : 
 -- ---- all rows of a table
 
 -- in each of these schemas the SQL text returns all rows of its table, each with the columns of its rowid, key and value
-pub record ShowsTable {K V : Type 0} (Known : Schema → Type 0) (IsReadable : Database → Type 0) (form : Form K V) (is_readable : Row → Type 0) (sql : List ℕ) (tree : Schema → ℕ) : Type 0 where
+pub record ShowsTable {K V : Type 0} (Known : Schema → Type 0) (IsReadable : Database → Type 0) (form : RowForm K V) (is_readable : Row → Type 0) (sql : List ℕ) (tree : Schema → ℕ) : Type 0 where
   pub shown : List Term
   pub names : List (List ℕ)
   pub is : (schema : Schema) → Known schema → IsQuery (all_of sql (tree schema) shown names) schema
@@ -87,7 +87,7 @@ pub record ShowsTable {K V : Type 0} (Known : Schema → Type 0) (IsReadable : D
   pub known : (db : Database) → IsReadable db → Known db.schema
   pub readable : (db : Database) → IsReadable db → (row : Row) → Has (db.trees (tree db.schema)) row → is_readable (eval_all shown ([] ∷ row ∷ []))
 
-abbrev ShowsInFive : {K V : Type 0} → (Database → Type 0) → Form K V → (Row → Type 0) → TableQuery → Type 0
+abbrev ShowsInFive : {K V : Type 0} → (Database → Type 0) → RowForm K V → (Row → Type 0) → TableQuery → Type 0
 ShowsInFive IsReadable form is_readable q = ShowsTable HasFiveTables IsReadable form is_readable q.sql (λ schema. q.tree)
 
 pub shows_versions : ShowsInFive HoldsReadable version_form IsReadableVersion all_versions
@@ -107,7 +107,7 @@ all_if_each P [] each k d low = absurd (omega arith)
 all_if_each P (x ∷ xs) each zero d low = each x (inl refl)
 all_if_each P (x ∷ xs) each (suc k) d low = all_if_each P xs (λ y h. each y (inr h)) k d (omega (arith, low))
 
-module _ {K V : Type 0} {Known : Schema → Type 0} {IsReadable : Database → Type 0} {form : Form K V} {is_readable : Row → Type 0} {sql : List ℕ} {tree : Schema → ℕ} (table : ShowsTable Known IsReadable form is_readable sql tree) (old new : State) where
+module _ {K V : Type 0} {Known : Schema → Type 0} {IsReadable : Database → Type 0} {form : RowForm K V} {is_readable : Row → Type 0} {sql : List ℕ} {tree : Schema → ℕ} (table : ShowsTable Known IsReadable form is_readable sql tree) (old new : State) where
   abbrev place : ℕ
   place = tree old.now.schema
 

@@ -2,7 +2,7 @@
 use Rattle.std.proofs.Common.{◌≡◌, ◌≢◌, ◌==◌, ℕ, zero, suc, inl, inr, List, [], ◌∷◌, ◌++◌, Option, None, Some, slice_get, refl, sym, ap, subst, ◌∙◌}
 use Rattle.reg_tables.proofs.Kit.{IsSome, unwrap_or, Ordering, unsigned_Decides, FinMap, get, cases_Bool, both_ways, KeepsRows, Database, Schema, Table, Trees, IsAscending, Index, all_has, has_got}
 use Rattle.reg_tables.specs.Layout.{layout_one, layout_two, layout_two_indexed_last, IsLayoutTwo, TakesMeta, HasFiveTables, HasEightTables, five_tables_then, added_tables, texts, versions, levels, kept, meta, layout_two_unindexed, IsOpenable}
-use Rattle.reg_tables.specs.TableMaps.{Form, ShowsMap}
+use Rattle.reg_tables.specs.TableMaps.{RowForm, ShowsMap}
 use Rattle.reg_tables.specs.Contents.{text_form, version_form, pair_form, kept_form, TableName, Texts, Versions, Levels, Kept, Meta, Modes, Evidence, Against, ordinal_of, table_in, HasTable, form_of, MapOf, map_of, with_map, Contents, ShowsIn, ShowsAll, HoldsContents}
 use Rattle.reg_tables.specs.Inside.KeyedLaws.{HaveOwnTrees, ReplacesMap}
 use Rattle.reg_tables.proofs.RowLemmas.{same_rows, shows_empty}
@@ -80,7 +80,7 @@ apart_at (t ∷ tables) up (suc i) zero a b here there other =
     λ e. all_has (λ (x : Table). t.tree ≡ x.tree → ⊥) tables a up.0 (has_got tables i a here) (ap (λ (x : Table). x.tree) same ∙ sym e)
 apart_at (t ∷ tables) up (suc i) (suc j) a b here there other = apart_at tables up.1 i j a b here there (λ e. other (ap suc e))
 
-module _ {K V : Type 0} {R : K → K → Ordering} (form : Form K V) (map : FinMap R V) where
+module _ {K V : Type 0} {R : K → K → Ordering} (form : RowForm K V) (map : FinMap R V) where
   -- a table that keeps its rows shows the same map
   pub shows_still : (old new : Trees) (table : Option Table) → ((t : Table) → table ≡ Some t → new t.tree ≡ old t.tree) → ShowsIn form old table map → ShowsIn form new table map
   shows_still old new None same h = h

@@ -12,7 +12,7 @@ use Rattle.sqlite.specs.Schema.{Schema}
 use Rattle.sqlite.specs.Tree.{Trees}
 use Rattle.sqlite.specs.Effect.{Database, IsDatabase}
 use Rattle.reg_tables.specs.Layout.{layout_one, table_at, HasFiveTables, HasEightTables}
-use Rattle.reg_tables.specs.TableMaps.{Form, ShowsMap}
+use Rattle.reg_tables.specs.TableMaps.{RowForm, ShowsMap}
 
 abbrev pub text_cmp : List ℕ → List ℕ → Ordering
 text_cmp = slice_cmp nat_cmp
@@ -86,10 +86,10 @@ abbrev pub text_row_cells : List ℕ → Row
 text_row_cells text = Null ∷ text_cells text
 
 -- the id is the rowid
-abbrev pub text_form : Form ℕ (List ℕ)
+abbrev pub text_form : RowForm ℕ (List ℕ)
 text_form = record { key_of = λ row. column row 0 ∷ []; value_of = λ row. column row 2 ∷ []; key_cells = number_cells; value_cells = text_cells }
 
-abbrev pub version_form : Form (List ℕ × ℕ) VersionEntryView
+abbrev pub version_form : RowForm (List ℕ × ℕ) VersionEntryView
 version_form = record {
   key_of = λ row. column row 1 ∷ column row 2 ∷ [];
   value_of = λ row. column row 3 ∷ column row 4 ∷ [];
@@ -98,17 +98,17 @@ version_form = record {
 }
 
 -- the form of a table whose key is the text in its first column
-abbrev pub keyed_by_text : {V : Type 0} → (Row → Row) → (V → Row) → Form (List ℕ) V
+abbrev pub keyed_by_text : {V : Type 0} → (Row → Row) → (V → Row) → RowForm (List ℕ) V
 keyed_by_text value_of value_cells = record { key_of = λ row. column row 1 ∷ []; value_of = value_of; key_cells = text_cells; value_cells = value_cells }
 
 -- the form of `levels`, `meta` and `modes`
-abbrev pub pair_form : Form (List ℕ) (List ℕ)
+abbrev pub pair_form : RowForm (List ℕ) (List ℕ)
 pair_form = keyed_by_text (λ row. column row 2 ∷ []) text_cells
 
-abbrev pub kept_form : Form (List ℕ) KeptReplyView
+abbrev pub kept_form : RowForm (List ℕ) KeptReplyView
 kept_form = keyed_by_text (λ row. column row 2 ∷ column row 3 ∷ column row 4 ∷ []) kept_cells
 
-abbrev pub evidence_form : Form (List ℕ × ℕ) (List ℕ)
+abbrev pub evidence_form : RowForm (List ℕ × ℕ) (List ℕ)
 evidence_form = record {
   key_of = λ row. column row 1 ∷ column row 2 ∷ [];
   value_of = λ row. column row 3 ∷ [];
@@ -116,7 +116,7 @@ evidence_form = record {
   value_cells = text_cells;
 }
 
-abbrev pub against_form : Form PositionKey ℕ
+abbrev pub against_form : RowForm PositionKey ℕ
 against_form = record {
   key_of = λ row. column row 1 ∷ column row 2 ∷ column row 3 ∷ [];
   value_of = λ row. column row 4 ∷ [];
@@ -185,7 +185,7 @@ cmp_of Modes = text_cmp
 cmp_of Evidence = version_cmp
 cmp_of Against = position_cmp
 
-abbrev pub form_of : (name : TableName) → Form (KeyOf name) (ValueOf name)
+abbrev pub form_of : (name : TableName) → RowForm (KeyOf name) (ValueOf name)
 form_of Texts = text_form
 form_of Versions = version_form
 form_of Levels = pair_form
@@ -222,7 +222,7 @@ with_map Against map contents = record contents { against = map }
 -- ---- a database and its contents
 
 -- the table shows the map, or there is no table and the map is empty
-abbrev pub ShowsIn : {K V : Type 0} {R : K → K → Ordering} → Form K V → Trees → Option Table → FinMap R V → Type 0
+abbrev pub ShowsIn : {K V : Type 0} {R : K → K → Ordering} → RowForm K V → Trees → Option Table → FinMap R V → Type 0
 ShowsIn form trees (Some table) map = ShowsMap form (trees table.tree) (get map)
 ShowsIn form trees None map = map ≡ empty
 

@@ -17,7 +17,7 @@ use Rattle.reg_tables.specs.declared.modes.RawMode.{RawMode}
 use Rattle.reg_tables.specs.declared.evidence.RawEvidence.{RawEvidence}
 use Rattle.reg_tables.specs.declared.evidence.RawAgainst.{RawAgainst}
 use Rattle.reg_tables.specs.Layout.{texts, versions, levels, kept, meta, table_at}
-use Rattle.reg_tables.specs.TableMaps.{Form}
+use Rattle.reg_tables.specs.TableMaps.{RowForm}
 use Rattle.reg_tables.specs.Contents.{PositionKey, VersionEntryView, KeptReplyView, text_form, version_form, pair_form, kept_form, evidence_form, against_form}
 use Rattle.reg_tables.specs.KeptReplyViews.{kept_reply_view}
 
@@ -25,14 +25,14 @@ use Rattle.reg_tables.specs.KeptReplyViews.{kept_reply_view}
 abbrev pub RowParts : Type 0
 RowParts = Value × Row × Row
 
-abbrev pub parts_of : {K V : Type 0} → Form K V → Row → RowParts
+abbrev pub parts_of : {K V : Type 0} → RowForm K V → Row → RowParts
 parts_of form row = (rowid row, form.key_of row, form.value_of row)
 
 -- the cells of an entry: its rowid, its key and its value
-abbrev pub entry_parts : {K V : Type 0} → Form K V → ℤ × K × V → RowParts
+abbrev pub entry_parts : {K V : Type 0} → RowForm K V → ℤ × K × V → RowParts
 entry_parts form entry = (Int entry.0, form.key_cells entry.1, form.value_cells entry.2)
 
-abbrev pub Lists : {K V : Type 0} → Form K V → List Row → List (ℤ × K × V) → Type 0
+abbrev pub Lists : {K V : Type 0} → RowForm K V → List Row → List (ℤ × K × V) → Type 0
 Lists form rows entries = IsPermutation (map (parts_of form) rows) (map (entry_parts form) entries)
 
 -- no rowid and no key occurs twice

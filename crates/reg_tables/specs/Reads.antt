@@ -48,5 +48,5 @@ abbrev pub HasTablesIn : (Schema → Type 0) → State → Type 0
 HasTablesIn Known s = IsTrue s.is_open → Known s.now.schema
 
 -- while the connection is open, the schema begins with the five tables
-abbrev pub HasLayout : State → Type 0
-HasLayout = HasTablesIn HasFiveTables
+abbrev pub BeginsWithFiveTables : State → Type 0
+BeginsWithFiveTables = HasTablesIn HasFiveTables

@@ -26,7 +26,7 @@ pub record IsWriterPlace (schemas : SchemaPair) (row : WriterPlace) : Type 0 whe
   pub wanted : AllZip (IsReaderField schemas.reader) row.aliased_fields.aliased.now row.aliased_fields.wanted.now
 
 -- the pair of the writer's place and the reader's place j is one of the table's, for these two schemas
-pub record IsPairInTable (schemas : SchemaPair) (row : WriterPlace) (table : Table) (j : ℕ) : Type 0 where
+pub record TableCoversPair (schemas : SchemaPair) (row : WriterPlace) (table : Table) (j : ℕ) : Type 0 where
   pub both : IsValidSchemaPair schemas
   pub is : IsWriterPlace schemas row
   pub writers : table.writers ≡ length schemas.writer.schema.now

@@ -1,6 +1,6 @@
 //! Serves connections, without the contracts of the server.
 
-use reg_jobs::{Errors, serve_on, serve_with_clock};
+use reg_jobs::{ErrorWriter, serve_on, serve_with_clock};
 use reg_service::Service;
 use sqlite::Alter;
 use std::alloc::Global;
@@ -15,7 +15,13 @@ pub(super) fn accept<S: Alter>(
     count: u32,
     service: &mut Service<S>,
 ) {
-    serve_on(alloc, listener, count, service, &mut Errors::to(sink()));
+    serve_on(
+        alloc,
+        listener,
+        count,
+        service,
+        &mut ErrorWriter::to(sink()),
+    );
 }
 
 /// Serves this number of connections with a clock.
@@ -32,6 +38,6 @@ pub(super) fn accept_by<C: Clock, S: Alter>(
         listener,
         count,
         service,
-        &mut Errors::to(sink()),
+        &mut ErrorWriter::to(sink()),
     );
 }

@@ -1,6 +1,6 @@
 //! Runs jobs, without the contract of `do_job`.
 
-use reg_jobs::{Errors, Job, Opened, do_job};
+use reg_jobs::{ErrorWriter, Job, Opened, do_job};
 use sqlite::{Alter, Connection};
 use std::alloc::Global;
 use std::io::{Read, Write};
@@ -16,7 +16,7 @@ pub(super) fn run_job<S: Alter + Drop, R: Read, W: Write>(
     reader: &mut R,
     writer: &mut W,
 ) -> JobOutput<S> {
-    let mut errors = Errors::to(Vec::new(alloc));
+    let mut errors = ErrorWriter::to(Vec::new(alloc));
     let (status, connection) = do_job(alloc, job, opened, reader, writer, &mut errors);
     (errors.into_writer(), status, connection)
 }

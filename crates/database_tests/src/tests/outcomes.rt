@@ -2,7 +2,7 @@
 
 use super::support::Failing;
 use reg_http::Ended;
-use reg_jobs::{AuditOutcome, Errors, ListOutcome, Outcome, report};
+use reg_jobs::{AuditOutcome, ErrorWriter, ListOutcome, Outcome, report};
 use reg_store::StoreError;
 use std::test::Fail;
 
@@ -43,7 +43,7 @@ const OUTCOMES: [(Outcome, &str, u8); 26] = [
 fn outcomes_have_their_lines(rt: HostRuntime) -> Result<(), Fail> {
     for (outcome, line, status) in OUTCOMES {
         for writes in 0..=line.len() {
-            let mut errors = Errors::to(Failing {
+            let mut errors = ErrorWriter::to(Failing {
                 taken: Vec::new(rt.alloc()),
                 writes,
                 takes_nothing: false,

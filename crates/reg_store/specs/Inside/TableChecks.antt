@@ -199,13 +199,13 @@ PassesMeta layout lines = AreDistinct (map (λ (line : RawMeta). line.rowid) lin
 
 -- The results that the check of `meta` may have. `own` is the expected layout, `named` the layout that `meta` names, and `passes` whether the
 -- rows are valid. Another layout is reported before an invalid row. `Memory` and `Disk` never occur.
-abbrev pub Allows : ℕ → Option ℕ → Bool → Result (Unit {0}) StoreError → Type 0
-Allows own named passes (Ok _) = IsTrue passes
-Allows own named passes (Err Memory) = ⊥
-Allows own named passes (Err Disk) = ⊥
-Allows own named passes (Err NotARegistry) = (passes ≡ false) × ((number : ℕ) → named ≡ Some number → number ≡ own)
-Allows own named passes (Err (OldLayout number)) = (named ≡ Some number) × (number < own)
-Allows own named passes (Err (NewerLayout number)) = (named ≡ Some number) × (own < number)
+abbrev pub RequiresLayout : ℕ → Option ℕ → Bool → Result (Unit {0}) StoreError → Type 0
+RequiresLayout own named passes (Ok _) = IsTrue passes
+RequiresLayout own named passes (Err Memory) = ⊥
+RequiresLayout own named passes (Err Disk) = ⊥
+RequiresLayout own named passes (Err NotARegistry) = (passes ≡ false) × ((number : ℕ) → named ≡ Some number → number ≡ own)
+RequiresLayout own named passes (Err (OldLayout number)) = (named ≡ Some number) × (number < own)
+RequiresLayout own named passes (Err (NewerLayout number)) = (named ≡ Some number) × (own < number)
 
 -- The results that the check of these rows of `meta` may have. If the format is valid, another layout is reported before an invalid row. `Memory`
 -- is always possible, `Disk` never.

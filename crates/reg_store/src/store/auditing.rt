@@ -14,7 +14,7 @@ ghost use Rattle.reg_store.specs.Inside.Reads.{MayRead, Reads};
 use crate::conn::Conn;
 use crate::error::StoreError;
 use crate::store::Store;
-use crate::store::levels::level_in;
+use crate::store::levels::parse_level;
 use crate::store::next_rows::next_version;
 use crate::store::texts::text_under;
 use avro_schema::Schema;
@@ -168,7 +168,7 @@ fn evidence_level<S: Alter>(db: &mut Conn<S>, row: &Row) -> Result<Option<Level>
 {
     match evidence_level_of(&mut db.idle, row.subject().as_str(), row.version())? {
         None => Ok(None),
-        Some(text) => Ok(Some(level_in(text.as_str())?)),
+        Some(text) => Ok(Some(parse_level(text.as_str())?)),
     }
 }
 

@@ -52,7 +52,7 @@ pub(crate) fn own<S: Alter>(
 {
     match own_level(&mut db.idle, subject.as_str())? {
         None => Ok(None),
-        Some(text) => Ok(Some(level_in(text.as_str())?)),
+        Some(text) => Ok(Some(parse_level(text.as_str())?)),
     }
 }
 
@@ -61,11 +61,11 @@ fn global<S: Alter>(db: &mut Conn<S>) -> Result<Level, StoreError>
 {
     match global_level(&mut db.idle)? {
         None => Err(StoreError::NotARegistry),
-        Some(text) => level_in(text.as_str()),
+        Some(text) => parse_level(text.as_str()),
     }
 }
 
-pub(crate) fn level_in(text: &str) -> Result<Level, StoreError>
+pub(crate) fn parse_level(text: &str) -> Result<Level, StoreError>
     ensures ok { IfOk result (λ level. level_of text.now ≡ Some level) }
     ensures err { OnErr result (level_of text.now ≡ None) }
 {

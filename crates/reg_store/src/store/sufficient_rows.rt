@@ -23,7 +23,7 @@ use std::alloc::Global;
 
 /// The version to delete, if any; otherwise one that shows why there is none, if the subject has
 /// versions. Without a valid choice, no version is needed.
-pub(crate) fn deleted_rows<S: Alter>(
+pub(crate) fn rows_to_delete<S: Alter>(
     alloc: Global,
     db: &mut Conn<S>,
     subject: &Subject,

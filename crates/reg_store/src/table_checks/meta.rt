@@ -6,7 +6,7 @@ ghost use Rattle.reg_tables.specs.Frames.{ReadsInAutocommit};
 ghost use Rattle.reg_store.specs.Failures.{HasDiskCause, IsFaultBy};
 ghost use Rattle.reg_store.specs.Opening.{meta_columns, HasMetaNumberOf, ReportsOther};
 ghost use Rattle.reg_rows.specs.Spelling.{meta_pair};
-ghost use Rattle.reg_store.specs.Inside.TableChecks.{Allows, AreDistinct, number_of, is_meta_of, JudgesMeta, SpellsAs, ChecksBaseTables, MetaPass};
+ghost use Rattle.reg_store.specs.Inside.TableChecks.{RequiresLayout, AreDistinct, number_of, is_meta_of, JudgesMeta, SpellsAs, ChecksBaseTables, MetaPass};
 ghost use Rattle.reg_store.specs.Inside.Reads.{shown};
 
 use crate::conn::Conn;
@@ -73,7 +73,7 @@ fn pass_meta(rows: &[(String, String)], rowids: &mut [i64], layout: Layout) -> b
 /// `OldLayout` or `NewerLayout` if `meta` names a layout below or above `own`. Otherwise
 /// `NotARegistry` if the rows don't pass.
 fn require_layout(own: u32, named: Option<u32>, passes: bool) -> Result<(), StoreError>
-    ensures { Allows own named passes result }
+    ensures { RequiresLayout own named passes result }
 {
     match named {
         Some(number) if number < own => Err(StoreError::OldLayout(number)),

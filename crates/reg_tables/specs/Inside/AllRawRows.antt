@@ -12,7 +12,7 @@ use Rattle.reg_tables.specs.declared.meta.RawMeta.{RawMeta}
 use Rattle.reg_tables.specs.declared.modes.RawMode.{RawMode}
 use Rattle.reg_tables.specs.declared.evidence.RawEvidence.{RawEvidence}
 use Rattle.reg_tables.specs.declared.evidence.RawAgainst.{RawAgainst}
-use Rattle.reg_tables.specs.TableMaps.{Form}
+use Rattle.reg_tables.specs.TableMaps.{RowForm}
 use Rattle.reg_tables.specs.Contents.{TableName, Texts, Versions, Levels, Kept, Meta, Modes, Evidence, Against, ordinal_of, KeyOf, ValueOf, cmp_of, form_of, Contents, MapOf}
 use Rattle.reg_tables.specs.Listings.{HasNoDuplicates, Lists, kept_entry, level_entry, meta_entry, text_entry, version_entry, mode_entry, evidence_entry, against_entry, without_rowid}
 
@@ -41,7 +41,7 @@ abbrev pub RawRows : Type 0
 RawRows = (name : TableName) → List (RawRowOf name)
 
 -- the entries are those of the table's rows, or there is no table and no entry
-abbrev pub ListsIn : {K V : Type 0} → Form K V → Trees → Option Table → List (ℤ × K × V) → Type 0
+abbrev pub ListsIn : {K V : Type 0} → RowForm K V → Trees → Option Table → List (ℤ × K × V) → Type 0
 ListsIn form trees (Some table) entries = Lists form (trees table.tree) entries
 ListsIn form trees None entries = entries ≡ []
 

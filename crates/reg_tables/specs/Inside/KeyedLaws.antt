@@ -26,7 +26,7 @@ use Rattle.sqlite_rules.specs.Action.{works}
 use Rattle.sqlite_rules.specs.Calls.{ids_of}
 use Rattle.sqlite_rules.specs.Lists.{Has}
 use Rattle.sqlite_typing.specs.Types.{accepts_program, accepts_terms}
-use Rattle.reg_tables.specs.TableMaps.{IsEntry, ShowsMap, Form}
+use Rattle.reg_tables.specs.TableMaps.{IsEntry, ShowsMap, RowForm}
 use Rattle.reg_tables.specs.Contents.{TableName, ordinal_of, table_in, KeyOf, ValueOf, form_of, Contents, HoldsContents}
 use Rattle.reg_tables.specs.Inside.Keyed.{tests_of, refers_to, cells_of}
 use Rattle.reg_tables.specs.Inside.Statements.{IsCommand, IsOneStatement, TableQuery, IsQuery, Takes, no_limit, plain_query}
@@ -53,7 +53,7 @@ abbrev pub KeepsOthers : Schema → ℕ → Trees → Trees → Type 0
 KeepsOthers schema tree old new = AllByRecursion (λ t. t.tree ≢ tree → new t.tree ≡ old t.tree) schema.tables
 
 -- one table shows another map, and nothing else has changed
-pub record ReplacesMap {K V : Type 0} (schema : Schema) (form : Form K V) (tree : ℕ) (old new : Database) (value_at : K → Option V) : Type 0 where
+pub record ReplacesMap {K V : Type 0} (schema : Schema) (form : RowForm K V) (tree : ℕ) (old new : Database) (value_at : K → Option V) : Type 0 where
   pub declared : new.schema ≡ schema
   pub sound : IsDatabase new
   pub rows : ShowsMap form (new.trees tree) value_at

@@ -40,7 +40,7 @@ fn is_test(nodes: &[Op], at: usize, number: i64) -> bool
 {
     match nodes.get(at) {
         Some(Op::Binary(BinaryOp::Compare(CompareOp::Eq, Collation::Binary), left, right)) => {
-            is_fourth(nodes, *left) && is_number(nodes, *right, number)
+            is_fourth(nodes, *left) && is_literal(nodes, *right, number)
         }
         _ => false,
     }
@@ -56,7 +56,7 @@ fn is_fourth(nodes: &[Op], at: usize) -> bool
     }
 }
 
-fn is_number(nodes: &[Op], at: usize, number: i64) -> bool
+fn is_literal(nodes: &[Op], at: usize, number: i64) -> bool
     ensures { IsTrue result ↔ (node_at nodes.now at ≡ LiteralNode (Int number)) }
 {
     match nodes.get(at) {

@@ -19,19 +19,19 @@ returns-in-None g c =
     let none = rw (c.in-None.is, c.as_str.ensures.text, c.subject.ensures, c.version.ensures) at (c.in_ok-evidence_level_of.ensures.found clean it.schema (openable_has_eight it.schema (inl it.known)) it.contents it.holds) in
     sym (ap (option_map (λ (one : Evidence). one.level)) (none_written (λ (one : Evidence). level_text one.level) (get was.evidence c.args.row.now.0) (sym (none ∙ it.spelled.evidence.levels c.args.row.now.0)))))
 
-pub returns-in_err-level_in-in-Some : goal.returns-in_err-level_in-in-Some
-returns-in_err-level_in-in-Some g c =
+pub returns-in_err-parse_level-in-Some : goal.returns-in_err-parse_level-in-Some
+returns-in_err-parse_level-in-Some g c =
     read c.in_ok-evidence_level_of.ensures.frame (λ clean was over.
     let it = over.spells in
     let found = rw (c.in-Some.is, c.as_str.ensures.text, c.subject.ensures, c.version.ensures) at (c.in_ok-evidence_level_of.ensures.found clean it.schema (openable_has_eight it.schema (inl it.known)) it.contents it.holds) in
     let one = was_written (λ (one : Evidence). level_text one.level) (get was.evidence c.args.row.now.0) (string_bytes c.in-Some.text) (sym (found ∙ it.spelled.evidence.levels c.args.row.now.0)) in
-    let both = sym c.in_err-level_in-in-Some.ensures.err ∙ ap level_of (c.as_str-in-Some.ensures.value ∙ one.2) ∙ level_of-level_text one.0.level in
+    let both = sym c.in_err-parse_level-in-Some.ensures.err ∙ ap level_of (c.as_str-in-Some.ensures.value ∙ one.2) ∙ level_of-level_text one.0.level in
     absurd (cc))
 
-pub returns-in_ok-level_in-in-Some : goal.returns-in_ok-level_in-in-Some
-returns-in_ok-level_in-in-Some g c =
+pub returns-in_ok-parse_level-in-Some : goal.returns-in_ok-parse_level-in-Some
+returns-in_ok-parse_level-in-Some g c =
     read c.in_ok-evidence_level_of.ensures.frame (λ clean was over.
     let it = over.spells in
     let found = rw (c.in-Some.is, c.as_str.ensures.text, c.subject.ensures, c.version.ensures) at (c.in_ok-evidence_level_of.ensures.found clean it.schema (openable_has_eight it.schema (inl it.known)) it.contents it.holds) in
     let one = was_written (λ (one : Evidence). level_text one.level) (get was.evidence c.args.row.now.0) (string_bytes c.in-Some.text) (sym (found ∙ it.spelled.evidence.levels c.args.row.now.0)) in
-    ap Some (level_is c.as_str-in-Some.result.now _ one.0.level (c.as_str-in-Some.ensures.value ∙ one.2) c.in_ok-level_in-in-Some.ensures.ok) ∙ sym (ap (option_map (λ (e : Evidence). e.level)) one.1))
+    ap Some (level_is c.as_str-in-Some.result.now _ one.0.level (c.as_str-in-Some.ensures.value ∙ one.2) c.in_ok-parse_level-in-Some.ensures.ok) ∙ sym (ap (option_map (λ (e : Evidence). e.level)) one.1))

@@ -24,5 +24,5 @@ returns-in-Some g c =
     let found = rw c.in-Some.is at (c.in_ok-global_level.ensures.found clean it.schema (eight_has_five it.schema (two_has_eight it.schema it.known)) it.contents it.holds) in
     let same : Some (string_bytes c.in-Some.text) ≡ Some (level_text was.registry.global) = sym found ∙ global_is it.contents was it.spelled in
     let text : string_bytes c.in-Some.text ≡ level_text was.registry.global = cc in
-    match_on c.level_in.result (λ level spells. level_is c.as_str.result.now level was.registry.global (c.as_str.ensures.value ∙ text) spells)
-    (λ none e. let both = sym none ∙ ap level_of (c.as_str.ensures.value ∙ text) ∙ level_of-level_text was.registry.global in absurd (cc)) c.level_in.ensures.ok c.level_in.ensures.err)
+    match_on c.parse_level.result (λ level spells. level_is c.as_str.result.now level was.registry.global (c.as_str.ensures.value ∙ text) spells)
+    (λ none e. let both = sym none ∙ ap level_of (c.as_str.ensures.value ∙ text) ∙ level_of-level_text was.registry.global in absurd (cc)) c.parse_level.ensures.ok c.parse_level.ensures.err)

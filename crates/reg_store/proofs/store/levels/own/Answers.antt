@@ -17,19 +17,19 @@ returns-in-None g c =
     let none = rw (c.in-None.is, c.as_str.ensures.text) at (c.in_ok-own_level.ensures.found clean it.schema it.first it.contents it.holds) in
     sym (none_written level_text (was.registry.own c.args.subject.now) (sym (it.spelled.levels c.args.subject.now) ∙ none)))
 
-pub returns-in_err-level_in-in-Some : goal.returns-in_err-level_in-in-Some
-returns-in_err-level_in-in-Some g c =
+pub returns-in_err-parse_level-in-Some : goal.returns-in_err-parse_level-in-Some
+returns-in_err-parse_level-in-Some g c =
     read c.in_ok-own_level.ensures.frame (λ clean was over.
     let it = base_of over.spells in
     let found = rw c.in-Some.is at (c.in_ok-own_level.ensures.found clean it.schema it.first it.contents it.holds) in
     let level = was_written level_text (was.registry.own c.as_str.result.now) (string_bytes c.in-Some.text) (sym (it.spelled.levels c.as_str.result.now) ∙ found) in
-    let both = sym c.in_err-level_in-in-Some.ensures.err ∙ ap level_of (c.as_str-in-Some.ensures.value ∙ level.2) ∙ level_of-level_text level.0 in
+    let both = sym c.in_err-parse_level-in-Some.ensures.err ∙ ap level_of (c.as_str-in-Some.ensures.value ∙ level.2) ∙ level_of-level_text level.0 in
     absurd (cc))
 
-pub returns-in_ok-level_in-in-Some : goal.returns-in_ok-level_in-in-Some
-returns-in_ok-level_in-in-Some g c =
+pub returns-in_ok-parse_level-in-Some : goal.returns-in_ok-parse_level-in-Some
+returns-in_ok-parse_level-in-Some g c =
     read c.in_ok-own_level.ensures.frame (λ clean was over.
     let it = base_of over.spells in
     let found = rw (c.in-Some.is, c.as_str.ensures.text) at (c.in_ok-own_level.ensures.found clean it.schema it.first it.contents it.holds) in
     let level = was_written level_text (was.registry.own c.args.subject.now) (string_bytes c.in-Some.text) (sym (it.spelled.levels c.args.subject.now) ∙ found) in
-    ap Some (level_is c.as_str-in-Some.result.now _ level.0 (c.as_str-in-Some.ensures.value ∙ level.2) c.in_ok-level_in-in-Some.ensures.ok) ∙ sym level.1)
+    ap Some (level_is c.as_str-in-Some.result.now _ level.0 (c.as_str-in-Some.ensures.value ∙ level.2) c.in_ok-parse_level-in-Some.ensures.ok) ∙ sym level.1)

@@ -1,7 +1,7 @@
 use Rattle.std.proofs.Common.{rules, ◌≡◌, false, Bool, not, sym, subst}
 use Rattle.reg_jobs.specs.Errors.{WritesUnlessLost}
 use Rattle.reg_jobs.proofs.LineLemmas.{WritesUnlessLost-taken}
-use Rattle.reg_jobs.proofs.errors.Errors.put.Goals as goal
+use Rattle.reg_jobs.proofs.errors.ErrorWriter.put.Goals as goal
 
 pub returns-then-not-self : goal.returns-then-not-self
 returns-then-not-self g c =
