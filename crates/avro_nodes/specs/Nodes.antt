@@ -25,8 +25,9 @@ pub record FieldView : Type 0 where
   pub extra : Members
 
 -- A schema is a list of these. A place is an index into the list; the root has place 0. Arrays, maps and unions have the places of the
--- types inside them, an enum its symbols and its default, a fixed its size. The last `Members` of a node are its other attributes, such as
--- `doc`; a union has none (Avro 1.11 specification, Schema Declaration, Primitive Types, Complex Types).
+-- types inside them. An enum has its symbols and its default, a fixed its size, a record its fields; these three have a name and aliases. The last
+-- `Members` of a node are its other attributes, such as `doc`; a union has none (Avro 1.11 specification, Schema Declaration, Primitive Types,
+-- Complex Types).
 pub data NodeView : Type 0 where
   primitive : PrimitiveKind → Members → NodeView
   array : ℕ → Members → NodeView

@@ -6,7 +6,7 @@ ghost use Rattle.avro_resolve.specs.Inside.Agreeing.{Agree};
 ghost use Rattle.avro_resolve.specs.Inside.Reachable.{AreReachable, IsReachablePair, IsSourceReachable};
 ghost use Rattle.avro_resolve.specs.Inside.FieldSlots.{AreFieldSources};
 ghost use Rattle.avro_resolve.specs.Inside.Schemas.{columns, rows};
-ghost use Rattle.avro_resolve.specs.Inside.Walking.{MayContinue, WalkAnswerHolds};
+ghost use Rattle.avro_resolve.specs.Inside.Walking.{IsReadyForSchemas, WalkAnswerHolds};
 ghost use Rattle.avro_resolve.specs.Resolution.{Fits, Readable, Supports};
 ghost use Rattle.avro_resolve.specs.Witnesses.{member, without};
 
@@ -68,7 +68,7 @@ pub fn check_pair(
     depth: usize,
     walk: &mut Walk,
 ) -> AnswerResult
-    requires ready { MayContinue schemas.now depth walk.old }
+    requires ready { IsReadyForSchemas schemas.now depth walk.old }
     requires reachable { IsReachablePair (rows schemas.now) (columns schemas.now) i j }
     ensures { IfOk result (λ answer. WalkAnswerHolds schemas.now depth walk.old walk.new
         (IsTrue (member walk.new.assumed.items i j))
@@ -105,14 +105,14 @@ pub fn check_pair(
 /// Whether the pair is supported, if it is assumed.
 #[cycle(walk)]
 fn is_supported(schemas: &SchemaPair, at: (u32, u32), depth: usize, walk: &mut Walk) -> AnswerResult
-    requires ready { MayContinue schemas.now depth walk.old }
+    requires ready { IsReadyForSchemas schemas.now depth walk.old }
     requires reachable { IsReachablePair (rows schemas.now) (columns schemas.now) at.0 at.1 }
     ensures { IfOk result (λ answer. WalkAnswerHolds schemas.now depth walk.old walk.new
         (Supports (rows schemas.now) (columns schemas.now) (member walk.new.assumed.items) at.0 at.1)
         (Supports (rows schemas.now) (columns schemas.now) (without walk.new.failed.items) at.0 at.1 → ⊥) answer) }
 {
     let (a, b) = (schemas.writer.node(at.0), schemas.reader.node(at.1));
-    walk.meter.compare(a, b);
+    walk.meter.count_pair(a, b);
     let agreed = agree(walk.alloc, schemas, a, b, at)?;
     if !agreed {
         return Ok(Answer::No);
@@ -130,7 +130,7 @@ fn fits(
     depth: usize,
     walk: &mut Walk,
 ) -> AnswerResult
-    requires ready { MayContinue schemas.now depth walk.old }
+    requires ready { IsReadyForSchemas schemas.now depth walk.old }
     requires a_at { slice_get (rows schemas.now) at.0 ≡ Some (node_view a.now) }
     requires b_at { slice_get (columns schemas.now) at.1 ≡ Some (node_view b.now) }
     requires reachable { AreReachable (rows schemas.now) (columns schemas.now) at.0 at.1 (node_view a.now) (node_view b.now) }
@@ -182,7 +182,7 @@ fn all_readable(
     depth: usize,
     walk: &mut Walk,
 ) -> AnswerResult
-    requires ready { MayContinue schemas.now depth walk.old }
+    requires ready { IsReadyForSchemas schemas.now depth walk.old }
     requires sources { AreFieldSources (map field_view fields.now) (map field_view wanted.now) sources.now }
     requires reachable { All (λ f. IsSourceReachable (rows schemas.now) (columns schemas.now) (map field_view fields.now) (field_view f)) wanted.now }
     ensures { IfOk result (λ answer. WalkAnswerHolds schemas.now depth walk.old walk.new

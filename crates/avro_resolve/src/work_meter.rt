@@ -49,7 +49,7 @@ impl WorkMeter {
 
     /// Counts `PAIR` for an opened pair of these nodes. If both are enums and the reader's has no
     /// default, also counts the symbols of both.
-    pub fn compare(&mut self, a: &Node, b: &Node) {
+    pub fn count_pair(&mut self, a: &Node, b: &Node) {
         let symbols = match (a, b) {
             (
                 Node::Enum { symbols, .. },

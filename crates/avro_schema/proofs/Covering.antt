@@ -20,7 +20,7 @@ use Rattle.avro_nodes.specs.declared.node.Node.{Node}
 use Rattle.avro_nodes.specs.Nodes.{NamedView, FieldView, NodeView, primitive, array, mapping, union, enumeration, fixed, rec, field_view, node_view, nodes_view}
 use Rattle.avro_schema.specs.declared.tables.FieldTable.{FieldTable}
 use Rattle.avro_schema.specs.Inside.Fitting.{Fitting, field_fits_by, fields_fit}
-use Rattle.avro_schema.specs.Inside.FieldTables.{is_required, IsCovered, named_in, CoversFirst, IsFieldTable, IsFieldTableOf, AreFieldTables, fits_if_any, index_fits, named_fit}
+use Rattle.avro_schema.specs.Inside.FieldTables.{is_required, IsCovered, index_by_name, CoversFirst, IsFieldTable, IsFieldTableOf, AreFieldTables, fits_if_any, index_fits, named_fit}
 use Rattle.avro_schema.proofs.Inversion.{same_bytes}
 
 or_more : (a b c : Bool) → (b ≡ true → c ≡ true) → (a || b) ≡ true → (a || c) ≡ true
@@ -76,7 +76,7 @@ module _ (one : Fitting) (ms : Members) where
 
   named_all : (fields : List FieldView) (t : FieldTable) → fields_fit one ms fields ≡ true → (more : Members) → named_fit one ms fields t more ≡ true
   named_all fields t h no_members = refl
-  named_all fields t h (member k d more) = and_from (index_fits one ms fields (named_in t k)) (named_fit one ms fields t more) (index_fits_all fields h (named_in t k)) (named_all fields t h more)
+  named_all fields t h (member k d more) = and_from (index_fits one ms fields (index_by_name t k)) (named_fit one ms fields t more) (index_fits_all fields h (index_by_name t k)) (named_all fields t h more)
 
   -- ---- the selected fields fit
 
@@ -86,26 +86,26 @@ module _ (one : Fitting) (ms : Members) where
 
   -- a field that the table finds for a member is one of those that are checked
   found_at : (fields : List FieldView) (t : FieldTable) (k l : List ℕ) (o : Ordering) (d e : Data) (more : Members) → slice_cmp nat_cmp k l ≡ o → match_ordering o (get_member k more) (Some e) (get_member k more) ≡ Some d
-      → index_fits one ms fields (named_in t l) ≡ true → (get_member k more ≡ Some d → index_fits one ms fields (named_in t k) ≡ true) → index_fits one ms fields (named_in t k) ≡ true
+      → index_fits one ms fields (index_by_name t l) ≡ true → (get_member k more ≡ Some d → index_fits one ms fields (index_by_name t k) ≡ true) → index_fits one ms fields (index_by_name t k) ≡ true
   found_at fields t k l Less d e more is found here later = later found
   found_at fields t k l Equal d e more is found here later =
       let same : k ≡ l = same_bytes k l (sym (is_eq-slice_cmp k l) ∙ ap is_eq is) in
       rw same here
   found_at fields t k l Greater d e more is found here later = later found
 
-  named_passes : (fields : List FieldView) (t : FieldTable) (k : List ℕ) (d : Data) (more : Members) → get_member k more ≡ Some d → named_fit one ms fields t more ≡ true → index_fits one ms fields (named_in t k) ≡ true
+  named_passes : (fields : List FieldView) (t : FieldTable) (k : List ℕ) (d : Data) (more : Members) → get_member k more ≡ Some d → named_fit one ms fields t more ≡ true → index_fits one ms fields (index_by_name t k) ≡ true
   named_passes fields t k d no_members found h = absurd cc
   named_passes fields t k d (member l e more) found h =
-      let here = (and_parts (index_fits one ms fields (named_in t l)) (named_fit one ms fields t more) h).0 in
-      let rest = (and_parts (index_fits one ms fields (named_in t l)) (named_fit one ms fields t more) h).1 in
+      let here = (and_parts (index_fits one ms fields (index_by_name t l)) (named_fit one ms fields t more) h).0 in
+      let rest = (and_parts (index_fits one ms fields (index_by_name t l)) (named_fit one ms fields t more) h).1 in
       found_at fields t k l (slice_cmp nat_cmp k l) d e more refl found here (λ later. named_passes fields t k d more later rest)
 
-  left_out : (fields : List FieldView) (t : FieldTable) (i : ℕ) (f : FieldView) (o : Option Data) → slice_get fields i ≡ Some f → get_member f.name ms ≡ o → is_some f.value ≡ true → named_in t f.name ≡ Some i
+  left_out : (fields : List FieldView) (t : FieldTable) (i : ℕ) (f : FieldView) (o : Option Data) → slice_get fields i ≡ Some f → get_member f.name ms ≡ o → is_some f.value ≡ true → index_by_name t f.name ≡ Some i
       → named_fit one ms fields t ms ≡ true → fits_here f ≡ true
   left_out fields t i f None at is has named h = rw is has
   left_out fields t i f (Some d) at is has named h = rw (named, at) at (named_passes fields t f.name d ms is h)
 
-  one_fits : (fields : List FieldView) (t : FieldTable) (i : ℕ) (f : FieldView) → slice_get fields i ≡ Some f → IsCovered t.required.items (named_in t) i f
+  one_fits : (fields : List FieldView) (t : FieldTable) (i : ℕ) (f : FieldView) → slice_get fields i ≡ Some f → IsCovered t.required.items (index_by_name t) i f
       → list_all (λ j. fits_if_any one ms (slice_get fields j)) t.required.items ≡ true → named_fit one ms fields t ms ≡ true → fits_here f ≡ true
   one_fits fields t i f at (inl among) required named = rw at at (among_passes (λ j. fits_if_any one ms (slice_get fields j)) t.required.items i required among)
   one_fits fields t i f at (inr found) required named = left_out fields t i f (get_member f.name ms) at refl found.0 found.1 named

@@ -73,7 +73,8 @@ fn after_nodes(budget: usize, nodes: &[Node]) -> usize
     rest
 }
 
-/// Whether all names of types inside other types together fit in the maximum length of a text.
+/// Whether the names of all types inside other types, counted at each use, together fit in the
+/// maximum length of a text.
 pub fn mentions_fit(nodes: &[Node]) -> bool
     ensures { result ≡ nat_le (mentions (nodes_view nodes.now) (nodes_view nodes.now)) max_text }
 {

@@ -3,7 +3,7 @@
 
 ghost use Rattle.std.specs.Prelude.{◌≡◌, IfOk, IfSome, map};
 ghost use Rattle.avro_nodes.specs.Nodes.{field_view, node_view, nodes_view};
-ghost use Rattle.avro_schema.specs.Inside.FieldTables.{named_in, IsFieldTable, IsFieldTableOf, AreFieldTables};
+ghost use Rattle.avro_schema.specs.Inside.FieldTables.{index_by_name, IsFieldTable, IsFieldTableOf, AreFieldTables};
 
 use avro_nodes::{Field, Node};
 use serde_json::Value;
@@ -26,7 +26,7 @@ pub struct FieldTable<'a> {
 impl<'a> FieldTable<'a> {
     /// The index that the table has for a name.
     pub fn field_index(&self, name: &str) -> Option<usize>
-        ensures { result ≡ named_in self.now name.now }
+        ensures { result ≡ index_by_name self.now name.now }
     {
         self.by_name.get(name).copied()
     }

@@ -87,9 +87,9 @@ fn has_empty_schema(connection: &mut Connection<FileDatabase>) -> Result<bool, E
     Ok(count == 0)
 }
 
-/// Whether a registry may be created in a database. It has no tables, and its log is the first log
-/// or its file was unfinished. Without either, tables may be lost, and the result is `false`.
-fn has_no_registry(
+/// Whether a registry may be created in a database: it has no table, index, view or trigger, and
+/// either its log is the first one or its file was unfinished. Otherwise tables may have been lost.
+fn may_create_registry(
     rt: &HostRuntime,
     file: &str,
     was_unfinished: bool,
@@ -141,7 +141,7 @@ fn connect(
         Ok(connection) => connection,
         Err((error, _)) => return failed(error),
     };
-    match has_no_registry(rt, file, was_unfinished, &mut connection) {
+    match may_create_registry(rt, file, was_unfinished, &mut connection) {
         Ok(true) => Ok(Opened::Fresh(connection)),
         Ok(false) => Ok(Opened::Database(connection)),
         Err(error) => failed(error),
@@ -206,7 +206,7 @@ pub fn open_existing_database(
 /// together have the committed state. If there is no registry yet, or the check for one fails, both
 /// files stay, so that the next start can create the registry.
 pub fn close(rt: &HostRuntime, file: &str, mut connection: Connection<FileDatabase>) {
-    if let Ok(false) = has_no_registry(rt, file, false, &mut connection)
+    if let Ok(false) = may_create_registry(rt, file, false, &mut connection)
         && let Ok(files) = connection.close_files()
     {
         let _ = remove_log(rt, file);

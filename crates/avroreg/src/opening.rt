@@ -25,8 +25,8 @@ impl Opener<FileDatabase> for HostFiles<'_> {
         open_existing_database(self.rt, file)
     }
 
-    /// The bytes of a file, or `None` if it can't be read. Of a longer file, only the first
-    /// `MAX_TEXT` + 1 bytes, so that it is rejected.
+    /// The bytes of a file, or `None` if it can't be read. Of a file longer
+    /// than `MAX_TEXT` + 1 bytes, only the first `MAX_TEXT` + 1, which are too long for a schema.
     fn read(&self, file: &str) -> Result<Option<Vec<u8>>, OutOfMemory> {
         match read_front(self.rt, file) {
             Ok(bytes) => Ok(Some(bytes)),

@@ -28,8 +28,8 @@ port_in rows = option_and_then (unsigned_in 16) (first_of (codes "port") rows)
 abbrev pub run_task_in : List Row → Option TaskView
 run_task_in rows = Some (run_task (first_of (codes "db") rows))
 
--- The task of `serve --db F --port N [--connections N]`. `None` without a value for `--db`, or if `port_in` or `connections_in` is `None`. 0 is
--- accepted here, but `clap` rejects it first.
+-- The task of `serve --db F --port N [--connections N]`. `None` without a value for `--db`, or if `port_in` or `connections_in` is `None`. A port
+-- or count of 0 and a count above `max_connections` are accepted here, but `clap` rejects them first.
 abbrev pub serve_task_in : List Row → Option TaskView
 serve_task_in rows =
     option_and_then (λ database. option_and_then (λ port. option_map (serve_task database port)

@@ -34,7 +34,8 @@ fn unknown_listing(alloc: Global, argument: &str) -> Result<LineFault, AllocErro
 }
 
 /// The task of `serve`, or a usage error if a required value is missing, or if `port_in` or
-/// `connections_in` is `None`. 0 is accepted here, but `clap` rejects it first.
+/// `connections_in` is `None`. A port or count of 0 and a count above `max_connections` are accepted
+/// here, but `clap` rejects them first.
 fn serve_task_in(alloc: Global, matches: &ArgMatches<'_>) -> Result<Task, LineFault>
     ensures { MatchResult result
         (λ task. serve_task_in (rows_of (found_of matches.now)) ≡ Some (task_view task))

@@ -166,8 +166,8 @@ ChangesFit (change ∷ changes) g = ChangeFits change g × ChangesFit changes (a
 -- ---- decisions
 
 -- This project's choice: for each registry that the view shows, the decision has the reply of `step`, its changes give the registry and the evidence
--- after `step`, and they can be applied in order. A read or a refusal changes nothing. The reply is neither a backend fault nor that of a reused
--- retry key.
+-- after `step`, and they can be applied in order. A read or a refusal changes nothing. The reply has the status 200, 404, 409 or 422, and isn't
+-- the fault of a reused retry key.
 pub record IsDecisionFor (command : Command) (schema : Option (List NodeView)) (view : View) (decision : Decision) : Type 0 where
   pub reply : (g : Registry) → IsDecisionInput g command (used_schema command schema) view → decision.reply ≡ (step g command).1
   pub changes : (g : Registry) → IsDecisionInput g command (used_schema command schema) view → after_changes decision.changes.items g ≡ (step g command).0

@@ -181,7 +181,7 @@ fn decide_permitted(
     ensures read { IfOk result (λ decision. is_write command.now ≡ false → decision.changes.items ≡ []) }
     ensures refusal { IfOk result (λ decision. decision.reply.status ≢ 200 → decision.changes.items ≡ []) }
 
-    // The reply is neither a backend fault nor that of a reused retry key.
+    // The reply's status is 200, 404, 409 or 422, and it isn't the fault of a reused retry key.
     ensures own { IfOk result (λ decision. IsCommandReply decision.reply) }
 {
     match command {
@@ -218,7 +218,7 @@ fn reply_to_read(
     ensures reply { IfOk result (λ reply. (g : Registry)
         → IsDecisionInput g command.now (option_map nodes_view (option_copied schema.entry)) view.now
         → reply ≡ (permitted_step g command.now).1) }
-    // The reply is neither a backend fault nor that of a reused retry key.
+    // The reply's status is 200, 404, 409 or 422, and it isn't the fault of a reused retry key.
     ensures own { IfOk result (λ reply. IsCommandReply reply) }
 {
     match command {

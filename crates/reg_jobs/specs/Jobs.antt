@@ -63,15 +63,15 @@ abbrev pub job_result : Job → Outcome → Result ℕ (Fault × List ℕ)
 job_result job outcome = result_of outcome (file_of job) (writer_schema_file_of job)
 
 -- a file's bytes; none if no such file was given, or it couldn't be read
-abbrev pub bytes_of : Option (Option (Vec ℕ Global)) → Option (List ℕ)
-bytes_of None = None
-bytes_of (Some None) = None
-bytes_of (Some (Some bytes)) = Some bytes.items
+abbrev pub file_bytes : Option (Option (Vec ℕ Global)) → Option (List ℕ)
+file_bytes None = None
+file_bytes (Some None) = None
+file_bytes (Some (Some bytes)) = Some bytes.items
 
 -- the bytes of the file at a position among those that the job names
 abbrev pub text_at : {S : Type 0} → Opened S → ℕ → Option (List ℕ)
 text_at Nothing position = None
-text_at (Texts texts) position = bytes_of (slice_get texts.items position)
+text_at (Texts texts) position = file_bytes (slice_get texts.items position)
 text_at Failed position = None
 text_at NoContents position = None
 text_at OrphanedLog position = None
@@ -125,8 +125,8 @@ SessionStartsFrom g OrphanedLog was = ⊥
 SessionStartsFrom g (Fresh old) was = ¬ ((state g old).now.schema ≢ no_schema) × (was ≡ new_stored)
 SessionStartsFrom g (Database old) was = SpellsUnopened (state g old).now was
 
--- A session of a service over what was opened. It led from the stored state at its start to what the tables spell, and a crash preserves what was
--- acknowledged.
+-- A session of a service over what was opened; the connection was open at its start. It led from that stored state to one that the tables spell
+-- while the connection is open. A crash preserves what was acknowledged, with or without one delivery in progress.
 pub record SessionFrom {S : Type 0} (g : Ghosts S) (opened : Opened S) (before after : Service S g) (reader reader' writer writer' : Option (List ℕ)) (ended : Ended) : Type 0 where
   pub was : Stored
   pub begins : SessionStartsFrom g opened was

@@ -30,8 +30,8 @@ abbrev pub AreRounds : ℕ → List Exchange → Type 0
 AreRounds zero xs = xs ≡ []
 AreRounds (suc count) xs = (before : List Exchange) × (last : List Exchange) × (xs ≡ before ++ last) × AreRounds count before × IsRound last
 
--- Some exchanges have the property `Are`. Those whose reply isn't 50001 lead from `was` to `now`, and a crash preserves these, with or without one
--- delivery in progress.
+-- `Are` is true of a list of exchanges. Those whose reply isn't 50001 lead from `was` to `now`. If the connection was open over `was`, a crash
+-- preserves these, with or without one delivery in progress.
 pub record ServesExchanges (Are : List Exchange → Type 0) {S : Type 0} {g : Ghosts S} (old new : Service S g) (was now : Stored) : Type 0 where
   pub exchanges : List Exchange
   pub are : Are exchanges

@@ -52,7 +52,7 @@ fn listed_as(printed: Result<(), ReportError>) -> ListOutcome
     }
 }
 
-/// The same outcome after a flush of the writer, or `NotWritten` if the flush fails.
+/// Flushes the writer. Returns `listed`, or `NotWritten` if the flush fails.
 fn flush<W: Write>(writer: &mut W, listed: ListOutcome) -> ListOutcome
     ensures bytes { Keeps (W.contents writer.old) (W.contents writer.new) }
     ensures outcome { (result ≡ listed) ⊎ (result ≡ ListOutcome.NotWritten) }

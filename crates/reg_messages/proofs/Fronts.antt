@@ -101,7 +101,7 @@ HasHead-found bytes n headers r head le small x =
     sym (drop-append-le r.len front (drop n bytes) fits) ∙ ap (drop r.len) (take-append-drop n bytes) in
     subst (HasHead bytes head) e (HasHead-front bytes front (drop n bytes) (drop r.len front) head (sym (take-append-drop n bytes)) short x.reads)
 
--- the framing by the spans is the framing of the head
+-- the body's length by the spans is that by the fields of the head
 pub framed : (front : List ℕ) (headers : List HeaderSpan) (r : RequestSpans) (head : RequestHead) (result : Result ℕ Code)
     → IsRequestAt front headers r head → result ≡ body_length_from_fields (map (header_bytes front) (take r.headers headers)) → body_length_from_fields (fields_of head) ≡ result
 framed front headers r head result x e = sym (e ∙ ap body_length_from_fields x.fields)

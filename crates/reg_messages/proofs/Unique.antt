@@ -30,13 +30,13 @@ ok_or_err : (n : ℕ) (code : Code) (a b : Result ℕ Code) → a ≡ b → a �
 ok_or_err n code a b e f g = cc
 
 -- the body's length by the fields of a head, or the code of their fault
-abbrev framing_of : RequestHead → Result ℕ Code
-framing_of h = body_length_from_fields (fields_of h)
+abbrev body_length_of_head : RequestHead → Result ℕ Code
+body_length_of_head h = body_length_from_fields (fields_of h)
 
 StartsWithMessage-unique : (bytes : List ℕ) (m k : Message) (r q : List ℕ) → StartsWithMessage bytes m r → StartsWithMessage bytes k q → (m ≡ k) × (r ≡ q)
 StartsWithMessage-unique bytes m k r q x y =
     let s = HasHead-unique bytes m.head k.head (m.body ++ r) (k.body ++ q) x.head y.head in
-    let n = same_ok _ _ _ _ (ap framing_of s.0) x.body y.body in
+    let n = same_ok _ _ _ _ (ap body_length_of_head s.0) x.body y.body in
     let t = same_split m.body r k.body q s.1 n in
     ((λ i. record { head = s.0 i; body = t.0 i }), t.1)
 
@@ -58,12 +58,12 @@ no_message bytes rest m End f x = no_bytes bytes (m.body ++ rest) m.head f x.hea
 no_message bytes rest m Part (inl f) x = f.none_yet m.head (m.body ++ rest) x.head.reads
 no_message bytes rest m Part (inr f) x =
     let s = HasHead-unique bytes f.head m.head f.rest (m.body ++ rest) f.has_head x.head in
-    let n = same_ok _ _ _ _ (ap framing_of s.0) f.framed x.body in
+    let n = same_ok _ _ _ _ (ap body_length_of_head s.0) f.framed x.body in
     omega (arith, f.short, n, ap length s.1, length-append m.body rest)
 no_message bytes rest m (Faulty code) (inl f) x = no_head_ever bytes (m.body ++ rest) m.head f.1 x.head
 no_message bytes rest m (Faulty code) (inr f) x =
     let s = HasHead-unique bytes f.head m.head f.rest (m.body ++ rest) f.has_head x.head in
-    ok_or_err _ code _ _ (sym (ap framing_of s.0)) x.body f.framed
+    ok_or_err _ code _ _ (sym (ap body_length_of_head s.0)) x.body f.framed
 
 -- ---- the remainder
 
@@ -109,7 +109,7 @@ part_or_fault bytes code (inl f) (inr g) = absurd (f.none_yet g.head g.rest g.ha
 part_or_fault bytes code (inr f) (inl g) = absurd (no_head_ever bytes f.rest f.head g.1 f.has_head)
 part_or_fault bytes code (inr f) (inr g) =
     let s = HasHead-unique bytes f.head g.head f.rest g.rest f.has_head g.has_head in
-    absurd (ok_or_err _ code _ _ (ap framing_of s.0) f.framed g.framed)
+    absurd (ok_or_err _ code _ _ (ap body_length_of_head s.0) f.framed g.framed)
 
 same_code : (c d : Code) (a b : Result ℕ Code) → a ≡ b → a ≡ Err c → b ≡ Err d → c ≡ d
 same_code c d a b e f g = cc
@@ -121,7 +121,7 @@ one_code bytes c d (inl f) (inr g) = absurd (no_head_ever bytes g.rest g.head f.
 one_code bytes c d (inr f) (inl g) = absurd (no_head_ever bytes f.rest f.head g.1 f.has_head)
 one_code bytes c d (inr f) (inr g) =
     let s = HasHead-unique bytes f.head g.head f.rest g.rest f.has_head g.has_head in
-    same_code c d _ _ (ap framing_of s.0) f.framed g.framed
+    same_code c d _ _ (ap body_length_of_head s.0) f.framed g.framed
 
 turned : (bytes : List ℕ) (t u : Tail) → Agree bytes t u → Agree bytes u t
 turned bytes t u (inl same) = inl (sym same)

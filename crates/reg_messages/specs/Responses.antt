@@ -21,7 +21,7 @@ status_line status = codes "HTTP/1.1 " ++ decimal status ++ codes " " ++ reason_
 abbrev pub type_line : List ℕ
 type_line = codes "Content-Type: application/vnd.schemaregistry.v1+json" ++ line_end
 
--- `Allow` with these methods, those of the path if the request's method isn't one of them; no bytes for `None` (RFC 9110, section 10.2.1)
+-- the `Allow` field with these methods; no bytes for `None` (RFC 9110, section 10.2.1)
 abbrev pub allow_line : Option (List ℕ) → List ℕ
 allow_line None = []
 allow_line (Some methods) = codes "Allow: " ++ methods ++ line_end

@@ -13,7 +13,8 @@ pub enum MigrateError {
     /// An allocation failed.
     #[error("out of memory")]
     Memory,
-    /// The disk failed, the file is damaged, or a limit of the file was reached.
+    /// The disk failed, the file is damaged, a limit of the file was reached, or the connection was
+    /// closed.
     #[error("the disk failed")]
     Disk,
     /// A table or a column is missing or unknown, the database has a view, or the rows don't spell

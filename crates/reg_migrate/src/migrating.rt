@@ -63,8 +63,8 @@ fn migrate_connection<S: Alter>(
 /// If the database has no view and `meta` names a layout above 1: `AlreadyNew` for layout 2,
 /// `NewerLayout` for a greater one, with any contents of other tables. Otherwise
 /// `NotARegistry`, if the tables spell no registry in layout 1 or the database has a view.
-/// `Memory` if an allocation fails. `Disk` if the disk fails, the file is damaged, or it reaches a
-/// limit.
+/// `Memory` if an allocation fails. `Disk` if the disk fails, the file is damaged or reaches a limit,
+/// or the connection is closed.
 ///
 /// The database stays as it was. But if its tables spelled a registry in layout 1, a crash may
 /// leave layout 2 after `Disk`, or after `Memory` if the disk failed too.

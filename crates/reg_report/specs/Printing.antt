@@ -34,7 +34,7 @@ pub record PrintsListing {S : Type 0} {g : Ghosts S} (kind : Listing) (old new :
   pub failed_before : IsTrue (has_failed old) → (store_result result ≡ Err Disk) × (new ≡ old) × (writer' ≡ writer)
   -- after `Ok`, the whole listing is written
   pub ok : HasCleanDisk (state_of new) → OnOk result ((was : Stored) → SpellsWhileOpen (state_of old) was → Appends writer writer' (listing kind was.registry))
-  -- unless a write failed, a number of whole lines is written, from the header on
+  -- unless a write failed, the first lines were written, perhaps none, each in full
   pub begun : HasCleanDisk (state_of new) → result ≢ Err Write → (was : Stored) → SpellsWhileOpen (state_of old) was
       → WritesPrefix (header kind ∷ listing_lines kind was.registry) writer writer'
   -- over tables that spell a registry, the store fails only because of memory or the disk

@@ -17,10 +17,9 @@ use std::io::Write;
 /// reading the lines.
 const BUFFER_SIZE: usize = 65_536;
 
-/// Writes as CSV the subjects that have versions, soft-deleted ones too, in the order of their
-/// bytes. Each line has the subject, its own level, and its numbers of live and soft-deleted
-/// versions. The header is `subject,level,live,deleted`. The level is empty if the subject has none
-/// of its own.
+/// Writes as CSV the subjects that have a version, live or soft-deleted, in byte order. Each line
+/// has the subject, its own level, and its numbers of live and soft-deleted versions. The header is
+/// `subject,level,live,deleted`. The level is empty if the subject has none of its own.
 ///
 /// # Errors
 ///
@@ -102,8 +101,8 @@ pub fn list<W: Write, S: Alter>(
 ///
 /// `Store` if the store fails, runs out of memory, or failed before (then nothing is written).
 /// `OutOfMemory` if an allocation for the output fails. After either, the first lines of the
-/// listing were written, perhaps none, each in full. `Write` if a write fails, also one of the
-/// buffered lines after the store or an allocation failed; then part of a line may have been
+/// listing were written, perhaps none, each in full. `Write` if a write fails, including the
+/// final write of the buffered lines after another error; then part of a line may have been
 /// written. The registry stays the same in every case.
 pub fn list_in_pieces<W: Write, S: Alter>(
     alloc: Global,

@@ -11,15 +11,15 @@ use Rattle.reg_routes.specs.Targets.{path_text, path_subject}
 use Rattle.reg_routes.specs.Queries.{query_flag}
 use Rattle.reg_routes.specs.Bodies.{body_string_member, body_schema}
 
--- `then` of the subject in this part of the path; `None` if the part is no valid subject
+-- the result of `then` for the subject in this part of the path; `None` also if the part is no valid subject
 abbrev pub for_subject : ℕ → List ℕ → (List ℕ → Option Command) → Option Command
 for_subject slashes path then = option_and_then then (path_subject slashes path)
 
--- `then` of the text of this part of the path; `None` if the part isn't UTF-8 after decoding
+-- the result of `then` for the text of this part of the path; `None` also if the part isn't UTF-8 after decoding
 abbrev pub for_text : ℕ → List ℕ → (List ℕ → Option Command) → Option Command
 for_text slashes path then = option_and_then then (path_text slashes path)
 
--- `then` of the body's string member with this name; `None` if the body has none
+-- the result of `then` for the body's string member with this name; `None` if the body has none
 abbrev pub for_string : List ℕ → List ℕ → (List ℕ → Command) → Option Command
 for_string name body then = option_map then (body_string_member name body)
 

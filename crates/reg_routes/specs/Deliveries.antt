@@ -20,7 +20,7 @@ use Rattle.reg_routes.specs.Keys.{retry_key_for}
 abbrev pub Rejection : Type 0
 Rejection = Code × Option (List ℕ)
 
--- the delivery of a command with its retry key, or the code of the key's fault
+-- the delivery of a command with this retry key, or without one; or the code of the key's fault
 abbrev pub with_retry_key : Command → Result (Option (List ℕ)) Code → Result Delivery Code
 with_retry_key command (Err code) = Err code
 with_retry_key command (Ok key) = Ok (record { key = key; command = command })
@@ -61,7 +61,7 @@ delivery_of message = requested message.head.method message.head.target (fields_
 abbrev pub requested_by : Request → Result Delivery Rejection
 requested_by r = requested r.method.now r.target.now (fields_in r) r.body.now
 
--- how a message is rejected: with the code and methods of `what`, or with `BackendFault` and none (the program does so only if an allocation fails)
+-- how a message is rejected: with the code and methods of `what`, or with `BackendFault` and no methods (only if an allocation fails)
 abbrev pub IsRejected : Result Delivery Rejection → Code → Option (List ℕ) → Type 0
 IsRejected what code allow = ((code ≡ BackendFault) × (allow ≡ None)) ⊎ (what ≡ Err (code, allow))
 

@@ -36,8 +36,8 @@ ServesOver old new xs = (was : Stored) → SpellsWhileOpen old was → ServesTo 
 abbrev pub AreBackendFaults : List ReplyView → Type 0
 AreBackendFaults replies = All (λ reply. reply ≡ fault BackendFault) replies
 
--- This project's choice: each call keeps a failed store failed, an unclean disk unclean and, on a clean disk, a closed connection closed. It may
--- change the tables. `OnlyFaultReplies` says that every reply of the call is 50001.
+-- This project's choice: each call keeps a failed store failed and an unclean disk unclean. On a clean disk, a closed connection stays closed, and
+-- only a disk fault closes one. The call may change the tables. `OnlyFaultReplies` says that every reply of the call is 50001.
 pub record PreservesStore {S : Type 0} {g : Ghosts S} (old new : Store S g) (OnlyFaultReplies : Type 0) : Type 0 where
   -- if the store had failed, it still has, and every reply is 50001
   pub failed : IsTrue (has_failed old) → OnlyFaultReplies × IsTrue (has_failed new)

@@ -85,9 +85,10 @@ impl SchemaCaches {
     }
 
     /// Stores the schema under the hash of the sent text. If the cache is full, a text that was
-    /// sent recently evicts others, and the schema of any other text is dropped. So a text that is
-    /// sent once evicts nothing, unless its slot has its hash: from another text, or 0 from the
-    /// start. It may replace a cached text with an equal hash.
+    /// sent recently evicts others, and the schema of any other text is dropped. A text counts as
+    /// sent recently if `recent_hashes` has its hash. So a text that is sent once evicts nothing,
+    /// unless another text had the same hash, or the hash is 0, the initial value. The new text may
+    /// replace a cached text with an equal hash.
     fn keep_sent(&mut self, alloc: Global, text: &str, schema: Schema)
         requires { denoted_nodes text.now ≡ Some (nodes_view schema) }
     {

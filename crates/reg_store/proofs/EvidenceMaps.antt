@@ -11,7 +11,7 @@ use Rattle.reg_tables.specs.Contents.{version_cmp, PositionKey, position_cmp, Co
 use Rattle.reg_tables.proofs.KeyedTables.{version_order}
 use Rattle.reg_tables.proofs.MapLemmas.{same_or_not, tied_key, other_key}
 use Rattle.reg_store.specs.Spells.{id_at, IsSpelledEvidence}
-use Rattle.reg_store.specs.Inside.Evidence.{AreInOrder, IsEvidence}
+use Rattle.reg_store.specs.Inside.Evidence.{HasContiguousPositions, IsEvidence}
 use Rattle.reg_store.proofs.Bridge.{spelt}
 use Rattle.reg_store.proofs.EvidenceRows.{none_is, the_value}
 use Rattle.reg_store.proofs.ReadBack.{level_of-level_text}
@@ -126,7 +126,7 @@ stood one (suc n) within = elim (slice_get_cases one.against n).1 [
 ]
 
 module _ (contents : Contents) (evidence : EvidenceMap) (s : IsSpelledEvidence contents evidence) where
-  in_order : (key : RowKey) (o : Option Evidence) → get evidence key ≡ o → AreInOrder contents.against key
+  in_order : (key : RowKey) (o : Option Evidence) → get evidence key ≡ o → HasContiguousPositions contents.against key
   in_order key None none = record {
     count = 0;
     few = lit≤ tt;

@@ -26,7 +26,7 @@ use Rattle.reg_tables.proofs.MapLemmas.{same_or_not, tied_key}
 use Rattle.reg_tables.proofs.Tables.{shown_by}
 use Rattle.reg_rows.specs.Positions.{PositionKey, IsContiguousFor, AreContiguous}
 use Rattle.reg_store.specs.Spells.{SpellsUnopened}
-use Rattle.reg_store.specs.Inside.TableChecks.{AreDistinct, against_fits, version_at, position_at, evidence_fits, ArePositionsInOrder, JudgesVersions, EvidenceFits, EvidenceTablesPass, SpellsSome}
+use Rattle.reg_store.specs.Inside.TableChecks.{AreDistinct, against_fits, version_at, position_at, evidence_fits, ArePositionsContiguous, JudgesVersions, EvidenceFits, EvidenceTablesPass, SpellsSome}
 use Rattle.reg_store.proofs.EvidenceMaps.{evidence_if_spelled}
 use Rattle.reg_store.proofs.EvidenceRows.{version_listed}
 use Rattle.reg_store.proofs.LayoutTwoChecks.{all_tables_known, evidence_passes}
@@ -150,7 +150,7 @@ module _ (db : Database) (evidence : List RawEvidence) (lists : ListsEvidence db
     pub fits : EvidenceFits evidence ids
     fits = evidence_passes db s evidence ids lists all
 
-    stand : (some : List RowKey) (parts : List (List RawAgainst)) → Parts db some parts → AllByRecursion against_fits (joined db parts) → AllByRecursion ArePositionsInOrder parts
+    stand : (some : List RowKey) (parts : List (List RawAgainst)) → Parts db some parts → AllByRecursion against_fits (joined db parts) → AllByRecursion ArePositionsContiguous parts
     stand [] [] lists fit = tt
     stand [] (lines ∷ parts) lists fit = absurd lists
     stand (version ∷ some) [] lists fit = absurd lists

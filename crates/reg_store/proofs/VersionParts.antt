@@ -29,7 +29,7 @@ use Rattle.reg_tables.proofs.MapLemmas.{same_key, tied_key, same_or_not}
 use Rattle.reg_tables.proofs.Keys.{distinct_positions}
 use Rattle.reg_tables.proofs.VersionIds.{is_of_told}
 use Rattle.reg_rows.specs.Positions.{PositionKey, IsContiguousFor, AreContiguous}
-use Rattle.reg_store.specs.Inside.TableChecks.{AreDistinct, against_fits, position_at, ArePositionsInOrder, rowids_in, JudgesVersions}
+use Rattle.reg_store.specs.Inside.TableChecks.{AreDistinct, against_fits, position_at, ArePositionsContiguous, rowids_in, JudgesVersions}
 use Rattle.reg_store.proofs.TextParts.{mapped-append}
 
 -- ---- members of lists that are joined
@@ -207,7 +207,7 @@ module _ (db : Database) where
     | inr apart ↦ elim (read_or_not versions version) [ inl later ↦ inl (inr later) | inr none ↦ inr (λ there. elim there [ inl same ↦ apart same | inr later ↦ none later ]) ]
   ]
 
-  fits_joined : (parts : List (List RawAgainst)) → AllByRecursion ArePositionsInOrder parts → AllByRecursion against_fits (joined parts)
+  fits_joined : (parts : List (List RawAgainst)) → AllByRecursion ArePositionsContiguous parts → AllByRecursion against_fits (joined parts)
   fits_joined [] all = tt
   fits_joined (lines ∷ parts) all = fit_both lines (joined parts) all.0.0 (fits_joined parts all.1)
 
@@ -227,7 +227,7 @@ module _ (db : Database) where
     pub positions_if_fit : ListsAgainst db against → IsTrue fit → AreContiguous (map position_at against)
     positions_if_fit all sure version = elim (read_or_not versions version) [
       | inl there ↦
-          let part = part_of ArePositionsInOrder versions it.parts it.lists (it.judged.0 sure) version there in
+          let part = part_of ArePositionsContiguous versions it.parts it.lists (it.judged.0 sure) version there in
           if_counted rows against all version (wide rows version (counted_if (filter (is_of version) rows) part.0 part.1 version (part.2.1 version)))
       | inr none ↦ uncounted (map position_at against) version (λ position h.
           let l = has_mapped position_at against (version, position) (has_contained (map position_at against) (version, position) h) in

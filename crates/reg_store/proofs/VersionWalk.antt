@@ -9,7 +9,7 @@ use Rattle.reg_tables.specs.declared.evidence.RawEvidence.{RawEvidence}
 use Rattle.reg_tables.specs.declared.evidence.RawAgainst.{RawAgainst}
 use Rattle.reg_tables.specs.Listings.{against_rows, greatest_integer, ListsAgainstOf, ListsEvidence}
 use Rattle.reg_store.specs.Spells.{SpellsUnopened}
-use Rattle.reg_store.specs.Inside.TableChecks.{AreDistinct, evidence_fits, version_at, ArePositionsInOrder, rowids_in, JudgesVersion, JudgesVersions, JudgesIds, EvidenceTablesPass, SpellsSome}
+use Rattle.reg_store.specs.Inside.TableChecks.{AreDistinct, evidence_fits, version_at, ArePositionsContiguous, rowids_in, JudgesVersion, JudgesVersions, JudgesIds, EvidenceTablesPass, SpellsSome}
 use Rattle.reg_store.proofs.PartsPass.{parts_passed, fits, parts_apart, parts_counted, parts_fit}
 use Rattle.reg_store.proofs.TextParts.{mapped-append}
 
@@ -38,7 +38,7 @@ versions_more db versions version rowids added a b it one = record {
   lists = zip_more (λ version lines. ListsAgainstOf version db lines) versions it.parts version one.lines it.lists one.lists;
   have = ap rowids_in (joined_more it.parts one.lines) ∙ mapped-append (λ (line : RawAgainst). line.rowid) (flat_map (λ (l : List RawAgainst). l) it.parts) one.lines ∙ (λ i. it.have i ++ one.have i);
   judged =
-      let all = all_more ArePositionsInOrder it.parts one.lines in (
+      let all = all_more ArePositionsContiguous it.parts one.lines in (
         λ yes. let both = and_parts a b yes in all.0 (it.judged.0 both.0, one.judged.0 both.1),
         λ every. let both = all.1 every in and_from a b (it.judged.1 both.0) (one.judged.1 both.1),
       );

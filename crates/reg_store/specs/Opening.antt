@@ -87,7 +87,7 @@ ReportsOther own s e = (number : ℕ) → IsTrue s.is_open → HasOtherLayout ow
 abbrev pub HasMetaNumber : Database → StoreError → Type 0
 HasMetaNumber = HasMetaNumberOf 2
 
--- if `meta` names a layout other than 2, the error has its number, or memory or the disk failed
+-- `ReportsOther` for stores, which open layout 2
 abbrev pub ReportsLayout : State → StoreError → Type 0
 ReportsLayout = ReportsOther 2
 

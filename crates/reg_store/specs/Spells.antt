@@ -18,7 +18,7 @@ use Rattle.reg_core.specs.Replies.{IsKeptStatus}
 use Rattle.reg_core.specs.Registry.{RowKey, Version, Registry, IsRegistry, schema_at}
 use Rattle.reg_core.specs.Evidence.{Evidence, EvidenceMap}
 use Rattle.reg_core.specs.Stored.{Stored}
-use Rattle.reg_tables.specs.Layout.{IsLayoutOne, IsLayoutTwo, IsOpenable}
+use Rattle.reg_tables.specs.Layout.{IsLayoutOne, IsIndexedLayoutTwo, IsOpenable}
 use Rattle.reg_tables.specs.Contents.{TextMap, VersionEntryView, KeptReplyView, Contents, HoldsContents, PositionKey}
 use Rattle.reg_tables.specs.Changes.{meta_of_layout, meta_of_layout_one}
 use Rattle.reg_core.specs.KeptReplies.{KeptEntry, Kept}
@@ -105,7 +105,7 @@ pub record SpellsIn (IsAllowed : Schema → Type 0) (Spelled : Contents → Stor
 
 -- this project's choice: the tables are those of layout 2 with its index, and spell the stored state
 abbrev pub Spells : Database → Stored → Type 0
-Spells = SpellsIn IsLayoutTwo IsSpelledLayoutTwo
+Spells = SpellsIn IsIndexedLayoutTwo IsSpelledLayoutTwo
 
 -- this project's choice: the tables are those of layout 2, with or without the index, and spell the stored state
 abbrev pub SpellsUnopened : Database → Stored → Type 0
@@ -122,7 +122,7 @@ pub record RecoversToIn (IsAllowed : Schema → Type 0) (Spelled : Contents → 
 
 -- this project's choice: what a crash may leave: trees that, as tables of layout 2, spell the stored state
 abbrev pub RecoversTo : Trees → Stored → Type 0
-RecoversTo = RecoversToIn IsLayoutTwo IsSpelledLayoutTwo
+RecoversTo = RecoversToIn IsIndexedLayoutTwo IsSpelledLayoutTwo
 
 -- this project's choice: what a crash may leave: trees that, as tables of layout 1, spell the stored state
 abbrev pub RecoversToLayoutOne : Trees → Stored → Type 0

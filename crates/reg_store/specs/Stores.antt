@@ -55,8 +55,8 @@ pub record KeepsConnection (old new : State) (e : StoreError) : Type 0 where
   pub closes : HasCleanDisk new → IsTrue old.is_open → IsTrue new.is_open ⊎ MoreFaults old.faults new.faults
   pub settled : RecoversLastCommit new
 
--- This project's choice: why `create` fails: in an empty database on a clean disk, memory or a disk fault is the cause. A crash leaves what it could
--- leave before, or the new registry.
+-- This project's choice: why `create` fails, and what it leaves, if the disk has returned what was written (`HasCleanDisk`). In an empty database,
+-- memory or a disk fault is the cause. A crash leaves what it could leave before, or the new registry.
 pub record IsCreateFailure (RecoversToNew : Trees → Type 0) (old new : State) (e : StoreError) : Type 0 where
   pub fault : HasCleanDisk new → old.now.schema ≡ no_schema → IsFaultBy old new e
   pub leaves : KeepsConnection old new e

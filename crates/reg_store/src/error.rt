@@ -16,8 +16,9 @@ pub enum StoreError {
     /// Allocation failed. The store stays usable, unless the disk failed too.
     #[error("out of memory")]
     Memory,
-    /// The disk failed, the file is damaged, or a limit of the file was reached. Every later call
-    /// of the `Store` or the `Lines` that returned this error returns it too.
+    /// The disk failed, the file is damaged, a limit of the file was reached, or the connection was
+    /// closed. Every later call of the `Store` or the `Lines` that returned this error returns it
+    /// too.
     #[error("the disk failed")]
     Disk,
     /// A table or a column is missing or unknown, the database has a view, or the rows don't spell

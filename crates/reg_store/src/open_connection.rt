@@ -25,7 +25,7 @@ pub(crate) fn require_open<S: Alter>(db: &mut Conn<S>) -> Result<(), StoreError>
     }
 }
 
-/// Passes on `Memory` and `Disk`. Any other error means that SQLite rejected the statement, which
+/// Returns `Memory` and `Disk`. Any other error becomes `Ok`: SQLite rejected the statement, which
 /// it does only over an open connection.
 fn only_fault(error: StoreError) -> Result<(), StoreError>
     ensures ok { OnOk result (IsTrue (not (is_fault error))) }

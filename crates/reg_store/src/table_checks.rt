@@ -170,7 +170,8 @@ fn check_rest<S: Alter>(alloc: Global, db: &mut Conn<S>) -> Result<u64, StoreErr
 }
 
 /// Checks the tables of layout 1, with or without the index, and returns the number of rows of
-/// `versions`. `meta` is checked before the declarations and the rows of any other table.
+/// `versions`. The rows of `meta` are checked first, then the declarations of all tables, then the
+/// other rows.
 pub(crate) fn check_layout_one<S: Alter>(alloc: Global, db: &mut Conn<S>) -> Result<u64, StoreError>
     ensures tests { ChecksBaseTables (SpellsAs Layout.One) db.old db.new result
         (λ count db. BaseTablesPass Layout.One db × HasVersionRows db count) }
@@ -187,8 +188,8 @@ pub(crate) fn check_layout_one<S: Alter>(alloc: Global, db: &mut Conn<S>) -> Res
     check_rest(alloc, db)
 }
 
-/// Checks the tables of layout 2, with or without the index. `meta` is checked before the
-/// declarations and the rows of any other table.
+/// Checks the tables of layout 2, with or without the index. The rows of `meta` are checked first,
+/// then the declarations of all tables, then the other rows.
 pub(crate) fn check_layout_two<S: Alter>(alloc: Global, db: &mut Conn<S>) -> Result<(), StoreError>
     ensures tests { ChecksAllTables db.old db.new result (λ _. AllTablesPass) }
     ensures known { OnOk result (IsOpenable (shown db.old).now.schema) }

@@ -6,7 +6,7 @@ use Rattle.sqlite_schema.specs.Names.{same_name}
 use Rattle.sqlite_value.specs.Keys.{joined, first_key}
 use Rattle.reg_tables.specs.declared.kept.KeptReply.{KeptReply}
 use Rattle.reg_tables.specs.declared.versions.VersionEntry.{VersionEntry}
-use Rattle.reg_tables.specs.Layout.{five_tables_then, layout_one, meta, added_tables, IsLayoutTwo, TakesMeta}
+use Rattle.reg_tables.specs.Layout.{five_tables_then, layout_one, meta, added_tables, IsIndexedLayoutTwo, TakesMeta}
 use Rattle.reg_tables.specs.Contents.{text_cells, number_cells, version_key_cells, position_cells, VersionEntryView, version_cells, KeptReplyView, kept_cells, against_form, PositionKey, TableName, Versions, Levels, Kept, Meta, Modes, Evidence, Against}
 use Rattle.reg_tables.specs.KeptReplyViews.{kept_reply_view}
 use Rattle.reg_tables.specs.Entries.{version_entry_view}
@@ -123,22 +123,22 @@ module _ (first : ℕ) (indexes : List Index) (high : 10 ≤ first) where
     against_in : IsKeyed here Against
     against_in = keyed_if here s Against refl refl refl against_refers
 
-pub versions_keyed : (schema : Schema) → IsLayoutTwo schema → IsKeyed schema Versions
+pub versions_keyed : (schema : Schema) → IsIndexedLayoutTwo schema → IsKeyed schema Versions
 versions_keyed = in_layout_two (λ schema. IsKeyed schema Versions) versions_in
 
-pub levels_keyed : (schema : Schema) → IsLayoutTwo schema → IsKeyed schema Levels
+pub levels_keyed : (schema : Schema) → IsIndexedLayoutTwo schema → IsKeyed schema Levels
 levels_keyed = in_layout_two (λ schema. IsKeyed schema Levels) levels_in
 
-pub kept_keyed : (schema : Schema) → IsLayoutTwo schema → IsKeyed schema Kept
+pub kept_keyed : (schema : Schema) → IsIndexedLayoutTwo schema → IsKeyed schema Kept
 kept_keyed = in_layout_two (λ schema. IsKeyed schema Kept) kept_in
 
-pub modes_keyed : (schema : Schema) → IsLayoutTwo schema → IsKeyed schema Modes
+pub modes_keyed : (schema : Schema) → IsIndexedLayoutTwo schema → IsKeyed schema Modes
 modes_keyed = in_layout_two (λ schema. IsKeyed schema Modes) modes_in
 
-pub evidence_keyed : (schema : Schema) → IsLayoutTwo schema → IsKeyed schema Evidence
+pub evidence_keyed : (schema : Schema) → IsIndexedLayoutTwo schema → IsKeyed schema Evidence
 evidence_keyed = in_layout_two (λ schema. IsKeyed schema Evidence) evidence_in
 
-pub against_keyed : (schema : Schema) → IsLayoutTwo schema → IsKeyed schema Against
+pub against_keyed : (schema : Schema) → IsIndexedLayoutTwo schema → IsKeyed schema Against
 against_keyed = in_layout_two (λ schema. IsKeyed schema Against) against_in
 
 -- ---- `meta` in both layouts

@@ -13,23 +13,23 @@ use Rattle.reg_tables.proofs.Tables.{five}
 use Rattle.reg_tables.proofs.ListingLemmas.{listed_if_shown}
 
 -- the value of the first row with this name
-abbrev pub value_in : List ℕ → List RawMeta → Option (List ℕ)
-value_in name lines = option_map (λ (line : RawMeta). string_bytes line.value) (find (λ (line : RawMeta). bytes_eq (string_bytes line.name) name) lines)
+abbrev pub meta_value : List ℕ → List RawMeta → Option (List ℕ)
+meta_value name lines = option_map (λ (line : RawMeta). string_bytes line.value) (find (λ (line : RawMeta). bytes_eq (string_bytes line.name) name) lines)
 
-value_found : (name : List ℕ) (lines : List RawMeta) → value_in name lines ≡ find_key text_cmp name (map without_rowid (map meta_entry lines))
+value_found : (name : List ℕ) (lines : List RawMeta) → meta_value name lines ≡ find_key text_cmp name (map without_rowid (map meta_entry lines))
 value_found name [] = refl
 value_found name (line ∷ lines) = elim (same_or_not text_cmp text_order name (string_bytes line.name)) [
   | inl same ↦ go (value_found name lines) true ((bytes_eq-Decides (string_bytes line.name) name).1 (sym same)) (tied_key text_cmp text_order name (string_bytes line.name) same)
   | inr other ↦ go (value_found name lines) false (false_from_ne_true _ (λ h. other (sym ((bytes_eq-Decides (string_bytes line.name) name).0 h)))) (other_key text_cmp text_order name (string_bytes line.name) other)
 ]
   where
-    go : value_in name lines ≡ find_key text_cmp name (map without_rowid (map meta_entry lines)) → (b : Bool) → bytes_eq (string_bytes line.name) name ≡ b → is_eq (text_cmp name (string_bytes line.name)) ≡ b
-        → value_in name (line ∷ lines) ≡ find_key text_cmp name (map without_rowid (map meta_entry (line ∷ lines)))
+    go : meta_value name lines ≡ find_key text_cmp name (map without_rowid (map meta_entry lines)) → (b : Bool) → bytes_eq (string_bytes line.name) name ≡ b → is_eq (text_cmp name (string_bytes line.name)) ≡ b
+        → meta_value name (line ∷ lines) ≡ find_key text_cmp name (map without_rowid (map meta_entry (line ∷ lines)))
     go rest true here there = rw (here, there) refl
     go rest false here there = rw (here, there) rest
 
 -- if the tables hold some contents, this is their value under the name
-pub value_read : (schema : Schema) (db : Database) → HasFiveTables schema → (contents : Contents) → HoldsContents schema db contents → (lines : List RawMeta) → ListsMeta db lines → (name : List ℕ) → value_in name lines ≡ get contents.meta name
+pub value_read : (schema : Schema) (db : Database) → HasFiveTables schema → (contents : Contents) → HoldsContents schema db contents → (lines : List RawMeta) → ListsMeta db lines → (name : List ℕ) → meta_value name lines ≡ get contents.meta name
 value_read schema db first contents holds lines lists name =
     let shown = listed_if_shown pair_form text_cmp text_order distinct_texts (db.trees meta.tree) (map meta_entry lines) lists contents.meta distinct_texts (five holds first).meta in
     value_found name lines ∙ sym (get-from_entries text_order.total (map without_rowid (map meta_entry lines)) name) ∙ ap (λ m. get m name) (sym shown.is)

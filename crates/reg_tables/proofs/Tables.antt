@@ -1,7 +1,7 @@
 -- Facts about each table, by its name, if the tables hold some contents.
 use Rattle.std.proofs.Common.{◌≡◌, ◌≢◌, ◌==◌, ℕ, zero, suc, inl, inr, List, [], ◌∷◌, ◌++◌, Option, None, Some, slice_get, refl, sym, ap, subst, ◌∙◌}
 use Rattle.reg_tables.proofs.Kit.{IsSome, unwrap_or, Ordering, unsigned_Decides, FinMap, get, cases_Bool, both_ways, KeepsRows, Database, Schema, Table, Trees, IsAscending, Index, all_has, has_got}
-use Rattle.reg_tables.specs.Layout.{layout_one, layout_two, layout_two_indexed_last, IsLayoutTwo, TakesMeta, HasFiveTables, HasEightTables, five_tables_then, added_tables, texts, versions, levels, kept, meta, layout_two_unindexed, IsOpenable}
+use Rattle.reg_tables.specs.Layout.{layout_one, layout_two, layout_two_indexed_last, IsIndexedLayoutTwo, TakesMeta, HasFiveTables, HasEightTables, five_tables_then, added_tables, texts, versions, levels, kept, meta, layout_two_unindexed, IsOpenable}
 use Rattle.reg_tables.specs.TableMaps.{RowForm, ShowsMap}
 use Rattle.reg_tables.specs.Contents.{text_form, version_form, pair_form, kept_form, TableName, Texts, Versions, Levels, Kept, Meta, Modes, Evidence, Against, ordinal_of, table_in, HasTable, form_of, MapOf, map_of, with_map, Contents, ShowsIn, ShowsAll, HoldsContents}
 use Rattle.reg_tables.specs.Inside.KeyedLaws.{HaveOwnTrees, ReplacesMap}
@@ -167,7 +167,7 @@ has_table schema Against known = subst (HasPlace 7) (sym known.is) refl
 pub shown_by : {schema : Schema} {db : Database} {contents : Contents} → HoldsContents schema db contents → (name : TableName) → HasTable name schema → ShowsMap (form_of name) (db.trees (table_in schema name).tree) (get (map_of name contents))
 shown_by {schema} {db} {contents} h name known = shown_in (form_of name) (map_of name contents) db.trees _ (slice_get schema.tables (ordinal_of name)) (has_table schema name known) (h.shows name)
 
-pub two_has_eight : (schema : Schema) → IsLayoutTwo schema → HasEightTables schema
+pub two_has_eight : (schema : Schema) → IsIndexedLayoutTwo schema → HasEightTables schema
 two_has_eight schema (inl is) = record { first = 11; place = inr refl; indexes = layout_two.indexes; is = is }
 two_has_eight schema (inr is) = record { first = 10; place = inl refl; indexes = layout_two_indexed_last.indexes; is = is }
 
@@ -181,7 +181,7 @@ openable_has_eight schema (inl (inr is)) = record { first = 10; place = inl refl
 openable_has_eight schema (inr is) = record { first = 10; place = inl refl; indexes = layout_two_unindexed.indexes; is = is }
 
 -- what is true of the five tables followed by any tables and indexes, and so of each of these schemas
-pub begins_in_two : (P : Schema → Type 0) → ((tables : List Table) (indexes : List Index) → P (five_tables_then tables indexes)) → (schema : Schema) → IsLayoutTwo schema → P schema
+pub begins_in_two : (P : Schema → Type 0) → ((tables : List Table) (indexes : List Index) → P (five_tables_then tables indexes)) → (schema : Schema) → IsIndexedLayoutTwo schema → P schema
 begins_in_two P each schema is = let known = two_has_eight schema is in subst P (sym known.is) (each (added_tables known.first) known.indexes)
 
 pub begins_written : (P : Schema → Type 0) → ((tables : List Table) (indexes : List Index) → P (five_tables_then tables indexes)) → (schema : Schema) → TakesMeta schema → P schema

@@ -3,7 +3,7 @@ use Rattle.std.proofs.Common.{◌≡◌, ◌≢◌, ◌≤◌, ◌==◌, ℕ, in
 use Rattle.reg_tables.proofs.Kit.{AllByRecursion, flat_map, filter_map, and_parts, both_ways, not-true, eq-eqb, ne_eqb, Row, IsAscending, Table, Schema, edit_of, taken_by, Given, Enforced, Index, agree, parent_key, references_fit, Work, works, work_by, deed_of, pairs, ids_of, no_works}
 use Rattle.sqlite_schema.specs.Names.{same_name}
 use Rattle.sqlite_value.specs.Keys.{joined}
-use Rattle.reg_tables.specs.Layout.{five_tables_then, versions, added_tables, layout_two, layout_two_indexed_last, IsLayoutTwo}
+use Rattle.reg_tables.specs.Layout.{five_tables_then, versions, added_tables, layout_two, layout_two_indexed_last, IsIndexedLayoutTwo}
 use Rattle.reg_tables.specs.Contents.{TableName, Texts, Versions, Levels, Kept, Meta, Modes, Evidence, Against, ordinal_of, table_in, KeyOf, form_of}
 use Rattle.reg_tables.specs.Inside.KeyedLaws.{HaveOwnTrees, HasNoForeignKeyAction, HasNoUpdateAction, IsTableAt, HasKeys, InsertKeepsReferences, IsKeyed, IndexesGuardOnly}
 use Rattle.reg_tables.proofs.Keys.{key_columns, one_key}
@@ -93,12 +93,12 @@ unfolding are_apart is_apart_from
 last_settled = record { apart = apart_if layout_two_indexed_last.tables refl; at = last_at; on = last_on }
 
 -- what is true of both schemas of layout 2, by the first of the new trees
-pub in_layout_two : (P : Schema → Type 0) → ((first : ℕ) (indexes : List Index) → 10 ≤ first → IsWellDeclared (five_tables_then (added_tables first) indexes) → P (five_tables_then (added_tables first) indexes)) → (schema : Schema) → IsLayoutTwo schema → P schema
+pub in_layout_two : (P : Schema → Type 0) → ((first : ℕ) (indexes : List Index) → 10 ≤ first → IsWellDeclared (five_tables_then (added_tables first) indexes) → P (five_tables_then (added_tables first) indexes)) → (schema : Schema) → IsIndexedLayoutTwo schema → P schema
 in_layout_two P each schema (inl is) = subst P (sym is) (each 11 layout_two.indexes (lit≤ tt) two_settled)
 in_layout_two P each schema (inr is) = subst P (sym is) (each 10 layout_two_indexed_last.indexes (lit≤ tt) last_settled)
 
 -- the same with the trees given as numbers
-pub at_layout_two : (P : Schema → Type 0) → P layout_two → P layout_two_indexed_last → (schema : Schema) → IsLayoutTwo schema → P schema
+pub at_layout_two : (P : Schema → Type 0) → P layout_two → P layout_two_indexed_last → (schema : Schema) → IsIndexedLayoutTwo schema → P schema
 at_layout_two P here there schema (inl is) = subst P (sym is) here
 at_layout_two P here there schema (inr is) = subst P (sym is) there
 

@@ -6,23 +6,23 @@ use Rattle.sqlite.specs.Effect.{Database}
 use Rattle.sqlite.specs.declared.error.Error.{Error}
 use Rattle.sqlite.specs.declared.transaction.Transaction.{Transaction}
 use Rattle.sqlite_trees.specs.declared.store.Store.{Ghosts}
-use Rattle.reg_tables.specs.Layout.{no_schema, IsLayoutTwo}
+use Rattle.reg_tables.specs.Layout.{no_schema, IsIndexedLayoutTwo}
 use Rattle.reg_tables.specs.Contents.{Contents, HoldsContents}
 use Rattle.reg_tables.specs.Frames.{state_in, RunsInTransaction}
 
--- ---- in layout 2
+-- ---- in layout 2 with its index
 
--- if the tables have some contents in layout 2, this is true of them
+-- `P` is true of the contents that the tables have in layout 2 with its index, if any
 abbrev pub ForHeldContents : State → (Contents → Type 0) → Type 0
-ForHeldContents s P = (schema : Schema) → IsLayoutTwo schema → (contents : Contents) → HoldsContents schema s.now contents → P contents
+ForHeldContents s P = (schema : Schema) → IsIndexedLayoutTwo schema → (contents : Contents) → HoldsContents schema s.now contents → P contents
 
--- if the tables had contents in layout 2 that satisfied `Was`, they now have the changed contents, in the same schema
+-- if the tables had contents in layout 2 with its index that satisfied `Was`, they now have the changed contents, in the same schema
 abbrev pub ChangesIf : State → State → (Contents → Type 0) → (Contents → Contents) → Type 0
-ChangesIf old new Was change = (schema : Schema) → IsLayoutTwo schema → (contents : Contents) → HoldsContents schema old.now contents → Was contents → HoldsContents schema new.now (change contents)
+ChangesIf old new Was change = (schema : Schema) → IsIndexedLayoutTwo schema → (contents : Contents) → HoldsContents schema old.now contents → Was contents → HoldsContents schema new.now (change contents)
 
--- if the tables had some contents in layout 2, they now have the changed contents, in the same schema
+-- if the tables had some contents in layout 2 with its index, they now have the changed contents, in the same schema
 abbrev pub Changes : State → State → (Contents → Contents) → Type 0
-Changes old new change = (schema : Schema) → IsLayoutTwo schema → (contents : Contents) → HoldsContents schema old.now contents → HoldsContents schema new.now (change contents)
+Changes old new change = (schema : Schema) → IsIndexedLayoutTwo schema → (contents : Contents) → HoldsContents schema old.now contents → HoldsContents schema new.now (change contents)
 
 -- A call inside a transaction. After an Ok the contents are changed by `change`; an Err is a failure of this kind.
 pub record AppliesChange {S X : Type 0} (IsFailure : State → State → Error → Type 0) (g : Ghosts S) (old new : Transaction S) (result : Result X Error) (change : Contents → Contents) : Type 0 where

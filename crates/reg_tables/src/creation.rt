@@ -99,11 +99,11 @@ pub(crate) fn create_as<S: Alter>(tx: &mut Transaction<'_, S>, number: &str) -> 
 }
 
 /// Makes a new registry in layout 1, with the global level BACKWARD, in a database without tables,
-/// indexes and views (`has_no_tables`). (Schema Registry API reference, Config.)
+/// indexes and views (`is_empty_database`). (Schema Registry API reference, Config.)
 ///
 /// # Errors
 ///
-/// A write error; others only if `has_no_tables` returns `false`.
+/// A write error; others only if `is_empty_database` returns `false`.
 pub fn create_layout_one<S: Alter>(tx: &mut Transaction<'_, S>) -> Result<(), Error>
     ensures { Transforms IsWriteFault S.Store tx.old tx.new result IsEmpty
         (λ _ db. HoldsLayoutOne db new_contents_one) }
@@ -138,12 +138,12 @@ pub fn add_tables<S: Alter>(tx: &mut Transaction<'_, S>) -> Result<(), Error>
 }
 
 /// Makes a new registry in layout 2, with the global level BACKWARD and the global mode READWRITE,
-/// in a database without tables, indexes and views (`has_no_tables`). (Schema Registry API
+/// in a database without tables, indexes and views (`is_empty_database`). (Schema Registry API
 /// reference, Config, Mode.)
 ///
 /// # Errors
 ///
-/// A write error; others only if `has_no_tables` returns `false`.
+/// A write error; others only if `is_empty_database` returns `false`.
 pub fn create_layout_two<S: Alter>(tx: &mut Transaction<'_, S>) -> Result<(), Error>
     ensures { Transforms IsWriteFault S.Store tx.old tx.new result IsEmpty
         (λ _ db. HoldsContents layout_two db new_contents_two) }

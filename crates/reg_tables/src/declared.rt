@@ -2,7 +2,7 @@
 
 ghost use Rattle.std.specs.Prelude.{◌≡◌, ◌↔◌, IsTrue};
 ghost use Rattle.sqlite.specs.Held.{state};
-ghost use Rattle.reg_tables.specs.Layout.{layout_one, layout_one_unindexed, no_schema, layout_two_unindexed, IsLayoutTwo};
+ghost use Rattle.reg_tables.specs.Layout.{layout_one, layout_one_unindexed, no_schema, layout_two_unindexed, IsIndexedLayoutTwo};
 ghost use Rattle.reg_tables.specs.Inside.Forms.{schema_of};
 
 use crate::declared::listed_forms::are_declared;
@@ -38,7 +38,7 @@ pub fn is_unindexed_one<S: Alter>(conn: &Connection<S>) -> bool
 
 /// Whether the schema is layout 2, with the index made before or after the new tables.
 pub fn has_layout_two<S: Alter>(conn: &Connection<S>) -> bool
-    ensures { IsTrue result ↔ IsLayoutTwo (state S.Store conn.now).now.schema }
+    ensures { IsTrue result ↔ IsIndexedLayoutTwo (state S.Store conn.now).now.schema }
 {
     is_layout_two(conn.schema())
 }
@@ -52,7 +52,7 @@ pub fn is_unindexed_two<S: Alter>(conn: &Connection<S>) -> bool
 }
 
 /// Whether the database has no table, index or view.
-pub fn has_no_tables<S: Alter>(conn: &Connection<S>) -> bool
+pub fn is_empty_database<S: Alter>(conn: &Connection<S>) -> bool
     ensures { IsTrue result ↔ ((state S.Store conn.now).now.schema ≡ no_schema) }
 {
     is_empty(conn.schema())
@@ -67,7 +67,7 @@ fn is_empty(schema: &Schema) -> bool
 }
 
 fn is_layout_two(schema: &Schema) -> bool
-    ensures { IsTrue result ↔ IsLayoutTwo schema.now }
+    ensures { IsTrue result ↔ IsIndexedLayoutTwo schema.now }
 {
     is_schema(schema, &LAYOUT_TWO) || is_schema(schema, &LAYOUT_TWO_INDEXED_LAST)
 }

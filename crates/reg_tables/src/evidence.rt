@@ -6,7 +6,7 @@ ghost use Rattle.std.specs.Prelude.{◌≡◌, None, IsSome, OnOk, IfErr, option
 ghost use Rattle.std.specs.FinMap.{get};
 ghost use Rattle.sqlite.specs.State.{HasCleanDisk};
 ghost use Rattle.reg_tables.specs.Frames.{state_in, RunsInTransaction, conn_state, ReadsInAutocommit};
-ghost use Rattle.reg_tables.specs.Layout.{IsLayoutTwo, HasEightTables};
+ghost use Rattle.reg_tables.specs.Layout.{IsIndexedLayoutTwo, HasEightTables};
 ghost use Rattle.reg_tables.specs.Changes.{with_evidence, with_against};
 ghost use Rattle.reg_tables.specs.Lookups.{ReadsTable, ListsTable};
 ghost use Rattle.reg_tables.specs.FailedCalls.{IsInsertFault, IsFault, IsUnreadable};
@@ -40,7 +40,7 @@ impl KeyedTable for Evidence {
 }
 
 impl InsertableTable for Evidence {
-    ghost Written = { IsLayoutTwo };
+    ghost Written = { IsIndexedLayoutTwo };
 
     fn put_sql() -> &'static str {
         "INSERT INTO evidence (subject, version, level) VALUES (?1, ?2, ?3)"
@@ -62,7 +62,7 @@ impl KeyedTable for Against {
 }
 
 impl InsertableTable for Against {
-    ghost Written = { IsLayoutTwo };
+    ghost Written = { IsIndexedLayoutTwo };
 
     fn put_sql() -> &'static str {
         "INSERT INTO against (subject, version, position, id) VALUES (?1, ?2, ?3, ?4)"

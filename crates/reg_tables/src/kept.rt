@@ -11,7 +11,7 @@ ghost use Rattle.reg_tables.specs.Changes.{with_kept};
 ghost use Rattle.reg_tables.specs.Writing.{ForHeldContents, ChangesIf};
 ghost use Rattle.reg_tables.specs.FailedCalls.{IsInsertFault};
 ghost use Rattle.reg_tables.specs.KeptReplyViews.{kept_reply_view};
-ghost use Rattle.reg_tables.specs.Layout.{IsLayoutTwo, HasFiveTables};
+ghost use Rattle.reg_tables.specs.Layout.{IsIndexedLayoutTwo, HasFiveTables};
 ghost use Rattle.reg_tables.specs.Listings.{RowParts, parts_of, entry_parts, kept_entry, ListsKept};
 ghost use Rattle.reg_tables.specs.Inside.ReadableRows.{IsReadableKept};
 ghost use Rattle.reg_tables.specs.Reads.{CanBeRead};
@@ -62,7 +62,7 @@ impl KeyedTable for Kept {
 }
 
 impl InsertableTable for Kept {
-    ghost Written = { IsLayoutTwo };
+    ghost Written = { IsIndexedLayoutTwo };
 
     fn put_sql() -> &'static str {
         "INSERT INTO kept (key, command, status, body) VALUES (?1, ?2, ?3, ?4)"

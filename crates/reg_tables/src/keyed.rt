@@ -36,7 +36,7 @@ pub(crate) trait KeyedTable {
             → get (map_of name contents) key ≡ Some value → Self.Found.is_readable ((form_of name).value_cells value) };
 }
 
-/// A table that permits INSERT (`put`).
+/// A table into which `put` inserts. (`put_text` inserts into `texts`.)
 pub(crate) trait InsertableTable: KeyedTable {
     /// The schemas in which rows are written.
     ghost Written: { Schema → Type 0 };
@@ -47,8 +47,8 @@ pub(crate) trait InsertableTable: KeyedTable {
         ensures puts { (schema : Schema) → Written schema → PutsRow schema Self.name result.now };
 }
 
-/// A table that permits DELETE too (`delete`, `set`). Deleting a row deletes no row of another
-/// table.
+/// A table from which `delete` and `set` delete. Deleting a row deletes no row of another table,
+/// unlike in `versions`.
 pub(crate) trait DeletableTable: InsertableTable {
     /// The DELETE of a row. Its parameters are the columns of the key.
     fn drop_sql() -> &'static str

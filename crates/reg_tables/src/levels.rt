@@ -7,7 +7,7 @@ ghost use Rattle.reg_tables.specs.Changes.{with_level, without_level};
 ghost use Rattle.reg_tables.specs.Writing.{AppliesChange};
 ghost use Rattle.reg_tables.specs.FailedCalls.{IsWriteFault, IsInsertFault};
 ghost use Rattle.reg_tables.specs.Contents.{TableName, pair_form};
-ghost use Rattle.reg_tables.specs.Layout.{IsLayoutTwo, HasFiveTables};
+ghost use Rattle.reg_tables.specs.Layout.{IsIndexedLayoutTwo, HasFiveTables};
 ghost use Rattle.reg_tables.specs.Listings.{RowParts, parts_of, entry_parts, level_entry, ListsLevels};
 ghost use Rattle.reg_tables.specs.Inside.ReadableRows.{IsReadablePair};
 ghost use Rattle.reg_tables.specs.Reads.{CanBeRead};
@@ -33,7 +33,7 @@ impl KeyedTable for Levels {
 }
 
 impl InsertableTable for Levels {
-    ghost Written = { IsLayoutTwo };
+    ghost Written = { IsIndexedLayoutTwo };
 
     fn put_sql() -> &'static str {
         "INSERT INTO levels (subject, level) VALUES (?1, ?2)"

@@ -52,7 +52,7 @@ mod with_id;
 pub use autocommit::AutocommitConnection;
 pub use creation::{add_tables, create_layout_one, create_layout_two, index_versions};
 pub use declared::{
-    has_layout_one, has_layout_two, has_no_tables, is_unindexed_one, is_unindexed_two,
+    has_layout_one, has_layout_two, is_empty_database, is_unindexed_one, is_unindexed_two,
 };
 pub use evidence::{
     RawAgainst, RawEvidence, against_at, against_count, against_of, evidence_level_of, put_against,

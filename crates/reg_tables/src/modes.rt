@@ -6,7 +6,7 @@ ghost use Rattle.sqlite.specs.Schema.{Schema};
 ghost use Rattle.reg_tables.specs.Contents.{pair_form, TableName};
 ghost use Rattle.reg_tables.specs.Lookups.{ListsTable};
 ghost use Rattle.reg_tables.specs.Listings.{RowParts, parts_of, entry_parts, mode_entry, ListsModes};
-ghost use Rattle.reg_tables.specs.Layout.{IsLayoutTwo, HasEightTables};
+ghost use Rattle.reg_tables.specs.Layout.{IsIndexedLayoutTwo, HasEightTables};
 ghost use Rattle.reg_tables.specs.Reads.{CanBeReadIn};
 ghost use Rattle.reg_tables.specs.Writing.{AppliesChange};
 ghost use Rattle.reg_tables.specs.Changes.{with_mode, without_mode};
@@ -35,7 +35,7 @@ impl KeyedTable for Modes {
 }
 
 impl InsertableTable for Modes {
-    ghost Written = { IsLayoutTwo };
+    ghost Written = { IsIndexedLayoutTwo };
 
     fn put_sql() -> &'static str {
         "INSERT INTO modes (subject, mode) VALUES (?1, ?2)"

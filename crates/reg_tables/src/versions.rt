@@ -11,7 +11,7 @@ ghost use Rattle.reg_tables.specs.Changes.{without_version, with_version, markin
 ghost use Rattle.reg_tables.specs.Writing.{AppliesChange, ForHeldContents, ChangesIf};
 ghost use Rattle.reg_tables.specs.FailedCalls.{IsWriteFault, IsInsertFault};
 ghost use Rattle.reg_tables.specs.Entries.{version_entry_view};
-ghost use Rattle.reg_tables.specs.Layout.{IsLayoutTwo, HasFiveTables};
+ghost use Rattle.reg_tables.specs.Layout.{IsIndexedLayoutTwo, HasFiveTables};
 ghost use Rattle.reg_tables.specs.Listings.{RowParts, parts_of, entry_parts, version_entry, ListsVersions};
 ghost use Rattle.reg_tables.specs.Inside.ReadableRows.{IsReadableVersion};
 ghost use Rattle.reg_tables.specs.Reads.{CanBeRead};
@@ -60,7 +60,7 @@ impl KeyedTable for Versions {
 }
 
 impl InsertableTable for Versions {
-    ghost Written = { IsLayoutTwo };
+    ghost Written = { IsIndexedLayoutTwo };
 
     fn put_sql() -> &'static str {
         "INSERT INTO versions (subject, version, id, deleted) VALUES (?1, ?2, ?3, ?4)"

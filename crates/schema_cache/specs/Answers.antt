@@ -12,7 +12,7 @@ abbrev pub found_schema : CacheLookup → List Node
 found_schema (found.Cached schema) = schema.now
 found_schema (found.Uncached schema) = schema
 
--- If a schema is given, it is uncached, and the text denotes it. Otherwise an entry is given, and it has this text.
+-- If a schema is given, the text denotes it, and the entry is ignored. Otherwise an entry is given, and it has this text.
 abbrev pub IsSchemaOf : List ℕ → Option (List Node) → Option EntryView → Type 0
 IsSchemaOf text (Some schema) entry = denoted_nodes text ≡ Some (nodes_view schema)
 IsSchemaOf text None (Some entry) = entry.text ≡ text

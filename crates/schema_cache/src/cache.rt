@@ -196,7 +196,7 @@ impl SchemaCache {
         }
     }
 
-    /// Caches the schema of the text and returns `None`. If `has_room` is false for the text, or if
+    /// Caches the schema of the text and returns `None`. If `may_cache` is false for the text, or if
     /// an allocation fails, returns the schema.
     fn insert(
         &mut self,
@@ -209,7 +209,7 @@ impl SchemaCache {
         requires { denoted_nodes text.now ≡ Some (nodes_view schema) }
         ensures { IsSchemaOf text.now result (lookup (nat_eq id) self.new) }
     {
-        if !self.has_room(text.len(), eviction_policy) || !self.ensure_allocated(alloc) {
+        if !self.may_cache(text.len(), eviction_policy) || !self.ensure_allocated(alloc) {
             return Some(schema);
         }
         let entry = match Entry::new(alloc, text, schema) {
@@ -227,7 +227,7 @@ impl SchemaCache {
 
     /// Whether a text of this many bytes may be cached: it has at most 64 KiB, and if the policy is
     /// `NeverEvict`, there is room for one more entry.
-    fn has_room(&self, bytes: usize, eviction_policy: EvictionPolicy) -> bool
+    fn may_cache(&self, bytes: usize, eviction_policy: EvictionPolicy) -> bool
         ensures { IsTrue result → bytes ≤ max_cached_text }
     {
         if bytes > MAX_CACHED_TEXT {

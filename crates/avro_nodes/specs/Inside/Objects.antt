@@ -36,7 +36,7 @@ abbrev pub rest_after : List ℕ → Members → Members
 rest_after k no_members = no_members
 rest_after k (member l e ms) = match_ordering (slice_cmp nat_cmp k l) (member l e ms) ms (rest_after k ms)
 
--- the members with these attributes: each that has a value comes after the members that sort before it, and replaces one of its name
+-- if both are in byte order of their names: the members with these attributes; an attribute with a value replaces a member of its name
 abbrev pub merged : List Attribute → Members → Members
 merged [] others = others
 merged ((k, None) ∷ ps) others = merged ps others

@@ -45,8 +45,8 @@ HasWalkInvariant w r s = WalkInvariant w r s.assumed.items s.failed.items s.visi
 abbrev pub ExtendsWalk : List NodeView → List NodeView → Walk → Walk → Type 0
 ExtendsWalk w r s t = Extends w r s.assumed.items s.failed.items t.assumed.items t.failed.items
 
--- The recursion may continue over these nodes, at this depth (the number of open pairs). Its state is given in parts: the assumed and failed pairs,
--- their bit sets, and the number of visits.
+-- The recursion may continue over these nodes, at this depth (at most 1,000 and the number of assumed pairs). Its state is given in parts: the
+-- assumed and failed pairs, their bit sets, and the number of visits.
 pub record CanContinue (w r : List NodeView) (depth : ℕ) (ps qs : List Pair) (s t : PairSet) (visits : ℕ) : Type 0 where
   pub writer : IsSelfContained w
   pub reader : IsSelfContained r
@@ -57,13 +57,13 @@ pub record CanContinue (w r : List NodeView) (depth : ℕ) (ps qs : List Pair) (
   pub assumed : Represents (length r) s ps
   pub failed : Represents (length r) t qs
 
--- CanContinue, with the parts of this state
+-- `CanContinue`, with the parts of this state
 abbrev pub IsReady : List NodeView → List NodeView → ℕ → Walk → Type 0
 IsReady w r depth s = CanContinue w r depth s.assumed.items s.failed.items s.assumed_set s.failed_set s.visits
 
 -- both schemas are valid, their name ranks are mapped (IsValidSchemaPair), and the recursion may continue over their nodes (IsReady)
-abbrev pub MayContinue : SchemaPair → ℕ → Walk → Type 0
-MayContinue schemas depth s = IsValidSchemaPair schemas × IsReady (rows schemas) (columns schemas) depth s
+abbrev pub IsReadyForSchemas : SchemaPair → ℕ → Walk → Type 0
+IsReadyForSchemas schemas depth s = IsValidSchemaPair schemas × IsReady (rows schemas) (columns schemas) depth s
 
 -- What the answer means, from a state with these assumed and failed pairs to the state t. Yes proves the first property, No the second; either way,
 -- t extends the earlier state and is ready (IsReady). After Unfinished, t has only the invariant, and at least a thousand visits.

@@ -12,8 +12,8 @@ use Rattle.avro_schema.specs.declared.tables.FieldTable.{FieldTable}
 use Rattle.avro_schema.specs.Inside.Fitting.{Fitting, field_fits_by}
 
 -- the index that the table has for a name
-abbrev pub named_in : FieldTable → List ℕ → Option ℕ
-named_in t name = get_by (λ k. slice_cmp nat_cmp name k.now) t.by_name
+abbrev pub index_by_name : FieldTable → List ℕ → Option ℕ
+index_by_name t name = get_by (λ k. slice_cmp nat_cmp name k.now) t.by_name
 
 -- whether the list of required fields has the index
 abbrev pub is_required : List ℕ → ℕ → Bool
@@ -29,7 +29,7 @@ CoversFirst n required named fields = (i : ℕ) (f : FieldView) → i < n → sl
 
 -- the table covers all fields
 abbrev pub IsFieldTable : FieldTable → List FieldView → Type 0
-IsFieldTable t fields = CoversFirst (length fields) t.required.items (named_in t) fields
+IsFieldTable t fields = CoversFirst (length fields) t.required.items (index_by_name t) fields
 
 -- if the node is a record, the table is that of its fields
 unfoldable pub IsFieldTableOf : FieldTable → NodeView → Type 0
@@ -52,4 +52,4 @@ index_fits one ms fields (Some i) = fits_if_any one ms (slice_get fields i)
 -- whether each field fits that the table finds by a name of the last argument; names without a field are ignored
 abbrev pub named_fit : Fitting → Members → List FieldView → FieldTable → Members → Bool
 named_fit one ms fields t no_members = true
-named_fit one ms fields t (member k d more) = index_fits one ms fields (named_in t k) && named_fit one ms fields t more
+named_fit one ms fields t (member k d more) = index_fits one ms fields (index_by_name t k) && named_fit one ms fields t more

@@ -43,7 +43,7 @@ pub fn delete_version(
     ensures fit { IfOk result (λ decision. (g : Registry) → ChangesFit decision.changes.items g) }
     ensures adds_no_version { IfOk result (λ decision. AddNoVersion decision.changes.items) }
     ensures refusal { IfOk result (λ decision. decision.reply.status ≢ 200 → decision.changes.items ≡ []) }
-    // The reply is neither a backend fault nor that of a reused retry key.
+    // The reply's status is 200, 404, 409 or 422, and it isn't the fault of a reused retry key.
     ensures own { IfOk result (λ decision. IsCommandReply decision.reply) }
 {
     let rows = visible_rows(alloc, true, &view.rows)?;
@@ -155,7 +155,7 @@ pub fn delete_subject(
     ensures fit { IfOk result (λ decision. (g : Registry) → ChangesFit decision.changes.items g) }
     ensures adds_no_version { IfOk result (λ decision. AddNoVersion decision.changes.items) }
     ensures refusal { IfOk result (λ decision. decision.reply.status ≢ 200 → decision.changes.items ≡ []) }
-    // The reply is neither a backend fault nor that of a reused retry key.
+    // The reply's status is 200, 404, 409 or 422, and it isn't the fault of a reused retry key.
     ensures own { IfOk result (λ decision. IsCommandReply decision.reply) }
 {
     let rows = visible_rows(alloc, true, &view.rows)?;

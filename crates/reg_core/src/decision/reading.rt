@@ -82,19 +82,19 @@ pub fn version(
     }
 }
 
-/// The reply with only the schema of the version that the text chooses. It is a fault in the same
-/// cases as the reply of `version`.
+/// The reply with only the schema of the chosen version. It is a fault in the same cases as the
+/// reply of `version`.
 pub fn version_text(
     alloc: Global,
     view: &View,
-    text: &str,
+    choice: &str,
     shows_deleted: bool,
 ) -> Result<Reply, OutOfMemory>
     ensures { IfOk result (λ reply. reply ≡ version_text_reply (view_text view.now)
-        (found_row (parse_choice text.now) (visible_rows shows_deleted view.now.rows.items))) }
+        (found_row (parse_choice choice.now) (visible_rows shows_deleted view.now.rows.items))) }
 {
     let shown = visible_rows(alloc, shows_deleted, view.rows.as_slice())?;
-    match found_row(parse_choice(text), shown.as_slice()) {
+    match found_row(parse_choice(choice), shown.as_slice()) {
         Ok(row) => shown_text(view, row.id()),
         Err(code) => Ok(Reply::fault(code)),
     }

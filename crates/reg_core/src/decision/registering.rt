@@ -53,7 +53,7 @@ pub fn register(
         → IsDecisionInput g (Register subject.now text supported) (option_map nodes_view (option_copied schema.entry)) view.now
         → UpdateEvidence decision.changes.items g) }
     ensures refusal { IfOk result (λ decision. decision.reply.status ≢ 200 → decision.changes.items ≡ []) }
-    // The reply is neither a backend fault nor that of a reused retry key.
+    // The reply's status is 200, 404, 409 or 422, and it isn't the fault of a reused retry key.
     ensures own { IfOk result (λ decision. IsCommandReply decision.reply) }
 {
     let Some(new) = schema else {
@@ -87,7 +87,7 @@ pub fn check_all(
     ensures reply { IfOk result (λ reply. (g : Registry) (subject text : List ℕ) (supported : Bool)
         → IsDecisionInput g (CheckAll subject text supported) (option_map nodes_view (option_copied schema.entry)) view.now
         → reply ≡ (permitted_step g (CheckAll subject text supported)).1) }
-    // The reply is neither a backend fault nor that of a reused retry key.
+    // The reply's status is 200, 404, 409 or 422, and it isn't the fault of a reused retry key.
     ensures own { IfOk result (λ reply. IsCommandReply reply) }
 {
     let Some(new) = schema else {
@@ -111,7 +111,7 @@ pub fn check(
     ensures reply { IfOk result (λ reply. (g : Registry) (subject text : List ℕ) (supported : Bool)
         → IsDecisionInput g (Check subject version.now text supported) (option_map nodes_view (option_copied schema.entry)) view.now
         → reply ≡ (permitted_step g (Check subject version.now text supported)).1) }
-    // The reply is neither a backend fault nor that of a reused retry key.
+    // The reply's status is 200, 404, 409 or 422, and it isn't the fault of a reused retry key.
     ensures own { IfOk result (λ reply. IsCommandReply reply) }
 {
     let Some(choice) = parse_choice(version) else {

@@ -23,8 +23,8 @@ pub record IsIncompleteUntil (bytes : List ℕ) (needs : ℕ) : Type 0 where
   pub fits : needs ≤ max_head + max_body
   pub part : (more : List ℕ) → length (bytes ++ more) < needs → (bytes ++ more ≡ []) ⊎ Follows (bytes ++ more) Part
 
--- The facts at each stop: `rest` follows the messages xs, and `buffered` is in the buffer. `out` was written: the responses to xs and to a fault that
--- follows them, perhaps cut short. If the session waits for more bytes, `rest` equals `buffered`.
+-- The facts at each stop: `rest` follows the messages xs, and `buffered` is in the buffer. `out` was written: the responses to xs and, if a fault
+-- follows them, its response. It may be cut short at `NotWritten` and `OutOfMemory`. If the session waits for more bytes, `rest` equals `buffered`.
 abbrev pub StopsAs : List AnsweredMessage → List ℕ → List ℕ → List ℕ → Stop → Type 0
 StopsAs xs rest buffered out (Waiting needs) = NoneCloses xs × (rest ≡ buffered) × IsIncompleteUntil rest needs × (out ≡ responses xs)
 StopsAs xs rest buffered out AtClose = LastCloses xs × (out ≡ responses xs)

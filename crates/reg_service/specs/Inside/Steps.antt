@@ -43,12 +43,12 @@ pub record IsDecisionOfStep (was : Stored) (command : Command) (d : Decision) : 
 abbrev pub KeyAndText : Type 0
 KeyAndText = Option (List ℕ × List ℕ)
 
--- no reply is kept under the key, if any
+-- if there is a key, no reply is kept under it
 abbrev pub IsUnused : KeyAndText → Kept → Type 0
 IsUnused None kept = ⊤
 IsUnused (Some (key, text)) kept = kept key ≡ None
 
--- the kept replies, with this reply under the key, if any
+-- the kept replies; if there is a key, also this reply and the command's text under it
 abbrev pub kept_under : KeyAndText → ReplyView → Kept → Kept
 kept_under None reply kept = kept
 kept_under (Some (key, text)) reply kept = kept_with kept key (entry_with text reply)

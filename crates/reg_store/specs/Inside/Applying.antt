@@ -12,7 +12,7 @@ use Rattle.reg_core.specs.Levels.{level_text}
 use Rattle.reg_core.specs.Registry.{RowKey}
 use Rattle.reg_core.specs.Stored.{Stored, new_stored}
 use Rattle.reg_core.specs.Views.{ChangeFits, ChangesFit}
-use Rattle.reg_tables.specs.Layout.{IsLayoutTwo, layout_two_unindexed, layout_two_indexed_last}
+use Rattle.reg_tables.specs.Layout.{IsIndexedLayoutTwo, layout_two_unindexed, layout_two_indexed_last}
 use Rattle.reg_tables.specs.Contents.{Contents, HoldsContents}
 use Rattle.reg_tables.specs.Changes.{with_evidence, with_against}
 use Rattle.reg_tables.specs.FailedCalls.{IsInsertFault}
@@ -34,7 +34,8 @@ StoresChanges old new changes = (was : Stored) → Spells old.now was → Change
 abbrev pub StoresReply : State → State → Option Keep → Type 0
 StoresReply old new keep = (was : Stored) → Spells old.now was → IsNewTo was.replies keep → Spells new.now (stored_after_apply [] keep was)
 
--- if the tables spelled a registry that the change fits, a failed change has an error that an INSERT can have (`IsInsertFault`)
+-- If the connection was closed, or the tables spelled a registry that the change fits, a failed change has an error that an INSERT can have
+-- (`IsInsertFault`).
 abbrev pub IsFaultOfChange : State → State → Change → Error → Type 0
 IsFaultOfChange old new change e = (was : Stored) → SpellsInTransaction old was → ChangeFits change was.registry → IsInsertFault old new e
 
@@ -66,25 +67,25 @@ pub record HasTexts (contents : Contents) (key : RowKey) (ids : List ℕ) : Type
   pub version : IsSome (get contents.versions key)
   pub texts : All (λ id. IsSome (get contents.texts id)) ids
 
--- in layout 2, if the version had no ids, these ids are now at its positions from 1 on
+-- in layout 2 with its index, if the version had no ids, these ids are now at its positions from 1 on
 pub record PutsIds (old new : State) (key : RowKey) (ids : List ℕ) : Type 0 where
   pub few : length ids < 2 ^ 32
-  pub puts : (schema : Schema) → IsLayoutTwo schema → (contents : Contents) → HoldsContents schema old.now contents → HasNoPositions contents key → HoldsContents schema new.now (with_ids key 1 ids contents)
+  pub puts : (schema : Schema) → IsIndexedLayoutTwo schema → (contents : Contents) → HoldsContents schema old.now contents → HasNoPositions contents key → HoldsContents schema new.now (with_ids key 1 ids contents)
 
--- In layout 2, let the version and the texts exist, and the version have no ids. If adding the ids fails, the error is one that an INSERT can
--- have (`IsInsertFault`).
+-- In layout 2 with its index, let the version and the texts exist, and the version have no ids. If adding the ids fails, the error is one that an
+-- INSERT can have (`IsInsertFault`).
 abbrev pub IsFaultOfIds : State → State → RowKey → List ℕ → Error → Type 0
-IsFaultOfIds old new key ids e = (schema : Schema) → IsLayoutTwo schema → (contents : Contents) → HoldsContents schema old.now contents → HasNoPositions contents key → HasTexts contents key ids → IsInsertFault old new e
+IsFaultOfIds old new key ids e = (schema : Schema) → IsIndexedLayoutTwo schema → (contents : Contents) → HoldsContents schema old.now contents → HasNoPositions contents key → HasTexts contents key ids → IsInsertFault old new e
 
--- in layout 2, if the version had no evidence and no ids, it now has this evidence
+-- in layout 2 with its index, if the version had no evidence and no ids, it now has this evidence
 pub record PutsEvidence (old new : State) (key : RowKey) (evidence : Evidence) : Type 0 where
   pub few : length evidence.against < 2 ^ 32
-  pub puts : (schema : Schema) → IsLayoutTwo schema → (contents : Contents) → HoldsContents schema old.now contents → get contents.evidence key ≡ None → HasNoPositions contents key → HoldsContents schema new.now (with_level_and_ids key evidence contents)
+  pub puts : (schema : Schema) → IsIndexedLayoutTwo schema → (contents : Contents) → HoldsContents schema old.now contents → get contents.evidence key ≡ None → HasNoPositions contents key → HoldsContents schema new.now (with_level_and_ids key evidence contents)
 
--- In layout 2, let the version and the texts exist, and the version have no evidence and no ids. If adding the evidence fails, the error is one
--- that an INSERT can have (`IsInsertFault`).
+-- In layout 2 with its index, let the version and the texts exist, and the version have no evidence and no ids. If adding the evidence fails, the
+-- error is one that an INSERT can have (`IsInsertFault`).
 abbrev pub IsFaultOfEvidence : State → State → RowKey → Evidence → Error → Type 0
-IsFaultOfEvidence old new key evidence e = (schema : Schema) → IsLayoutTwo schema → (contents : Contents) → HoldsContents schema old.now contents → get contents.evidence key ≡ None → HasNoPositions contents key → HasTexts contents key evidence.against → IsInsertFault old new e
+IsFaultOfEvidence old new key evidence e = (schema : Schema) → IsIndexedLayoutTwo schema → (contents : Contents) → HoldsContents schema old.now contents → get contents.evidence key ≡ None → HasNoPositions contents key → HasTexts contents key evidence.against → IsInsertFault old new e
 
 -- ---- adding the index
 

@@ -165,9 +165,9 @@ pub record Judges (Lists : List RawText → Type 0) (fit : Bool) : Type 0 where
 
 -- ---- ids, one version at a time
 
--- the positions of a version's rows are 1, 2, and so on, in any order
-abbrev pub ArePositionsInOrder : List RawAgainst → Type 0
-ArePositionsInOrder lines = AllByRecursion against_fits lines × AreContiguous (map position_at lines)
+-- The positions of a version's rows are below 2^32. They are 1, 2, and so on without a gap, in any order; one may occur twice.
+abbrev pub ArePositionsContiguous : List RawAgainst → Type 0
+ArePositionsContiguous lines = AllByRecursion against_fits lines × AreContiguous (map position_at lines)
 
 abbrev pub rowids_in : List RawAgainst → List ℤ
 rowids_in = map (λ (line : RawAgainst). line.rowid)
@@ -177,14 +177,14 @@ pub record JudgesVersion (version : RowKey) (db : Database) (rowids : List ℤ) 
   pub lines : List RawAgainst
   pub lists : ListsAgainstOf version db lines
   pub have : rowids_in lines ≡ rowids
-  pub judged : IsTrue fit ↔ ArePositionsInOrder lines
+  pub judged : IsTrue fit ↔ ArePositionsContiguous lines
 
 -- the rowids of the rows of `against` of several versions, and whether the positions of each version are 1, 2, and so on
 pub record JudgesVersions (versions : List RowKey) (db : Database) (rowids : List ℤ) (fit : Bool) : Type 0 where
   pub parts : List (List RawAgainst)
   pub lists : AllZip (λ version lines. ListsAgainstOf version db lines) versions parts
   pub have : rowids_in (flat_map (λ lines. lines) parts) ≡ rowids
-  pub judged : IsTrue fit ↔ AllByRecursion ArePositionsInOrder parts
+  pub judged : IsTrue fit ↔ AllByRecursion ArePositionsContiguous parts
 
 -- the same, with the number of rows of `against`, or the maximum integer if there are more
 pub record JudgesIds (versions : List RowKey) (db : Database) (rowids : List ℤ) (fit : Bool) (count : ℕ) : Type 0 where

@@ -21,8 +21,8 @@ use Rattle.reg_tables.specs.Entries.{SubjectVersionView, ListedVersionView, vers
 -- ---- settings
 
 -- the value of the first row of `meta` with this name
-abbrev pub value_in : List ℕ → List RawMeta → Option (List ℕ)
-value_in name lines = option_map (λ (line : RawMeta). string_bytes line.value) (find (λ (line : RawMeta). bytes_eq (string_bytes line.name) name) lines)
+abbrev pub meta_value : List ℕ → List RawMeta → Option (List ℕ)
+meta_value name lines = option_map (λ (line : RawMeta). string_bytes line.value) (find (λ (line : RawMeta). bytes_eq (string_bytes line.name) name) lines)
 
 -- ---- rows
 
@@ -51,7 +51,7 @@ IsLastShown shows_deleted subject rows None = All (λ row. is_shown_of shows_del
 IsLastShown shows_deleted subject rows (Some last) =
     Contains rows last × (is_shown_of shows_deleted subject last ≡ true) × All (λ row. is_shown_of shows_deleted subject row ≡ true → row.0.1 ≤ last.0.1) rows
 
--- the version with the greater number; without an earlier version, `line`
+-- the version with the greater number; `line` if no version was found before it
 abbrev pub IsLaterOf : Option ListedVersion → ListedVersion → ListedVersion → Type 0
 IsLaterOf None line result = result ≡ line
 IsLaterOf (Some before) line result = ((result ≡ before) × (line.number ≤ before.number)) ⊎ ((result ≡ line) × (before.number ≤ line.number))

@@ -18,7 +18,7 @@ use crate::conn::Conn;
 use crate::error::StoreError;
 use crate::layout::Layout;
 use crate::store::Store;
-use reg_tables::has_no_tables;
+use reg_tables::is_empty_database;
 use sqlite::{Alter, Connection, Error, Transaction};
 use std::alloc::Global;
 
@@ -30,8 +30,9 @@ impl<S: Alter> Store<S> {
     /// # Errors
     ///
     /// `NotARegistry` if and only if the database has a table, an index or a view. Otherwise
-    /// `Memory` if an allocation fails, `Disk` if the disk fails. The database stays as it was. But
-    /// after `Disk`, or after `Memory` if the disk failed too, a crash may leave the new registry.
+    /// `Memory` if an allocation fails, `Disk` if the disk fails, the file is damaged or the
+    /// connection is closed. The database stays as it was. But after `Disk`, or after `Memory` if the
+    /// disk failed too, a crash may leave the new registry.
     pub fn create(
         alloc: Global,
         mut connection: Connection<S>,
@@ -53,7 +54,7 @@ impl<S: Alter> Store<S> {
             → (state_of store).may_leave db → RecoversTo db new_stored) }
     {
         connection.set_step_limit(None);
-        if !has_no_tables(&connection) {
+        if !is_empty_database(&connection) {
             let _idle = connection.is_autocommit();
             return Err((StoreError::NotARegistry, connection));
         }
@@ -107,8 +108,9 @@ impl<S: Alter> Store<S> {
 /// # Errors
 ///
 /// `NotARegistry` if and only if the database has a table, an index or a view. Otherwise `Memory`
-/// if an allocation fails, `Disk` if the disk fails. The database stays as it was. But after
-/// `Disk`, or after `Memory` if the disk failed too, a crash may leave the new registry.
+/// if an allocation fails, `Disk` if the disk fails, the file is damaged or the connection is
+/// closed. The database stays as it was. But after `Disk`, or after `Memory` if the disk failed
+/// too, a crash may leave the new registry.
 pub fn create_first<S: Alter>(
     mut connection: Connection<S>,
 ) -> (Result<(), StoreError>, Connection<S>)
@@ -128,7 +130,7 @@ pub fn create_first<S: Alter>(
         → (state S.Store result.1).may_leave db → RecoversToLayoutOne db new_stored) }
 {
     connection.set_step_limit(None);
-    if !has_no_tables(&connection) {
+    if !is_empty_database(&connection) {
         let _idle = connection.is_autocommit();
         return (Err(StoreError::NotARegistry), connection);
     }

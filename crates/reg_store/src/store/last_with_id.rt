@@ -1,5 +1,5 @@
-//! The last version of a subject that has an id. A version is shown if it is live, or if `deleted`
-//! is set.
+//! The last version of a subject that has an id. A live version is always shown, a soft-deleted one
+//! only if `shows_deleted` is true.
 
 ghost use Rattle.std.specs.Prelude.{◌≡◌, None, option_map, map};
 ghost use Rattle.std.specs.FinMap.{entries};
@@ -25,18 +25,18 @@ pub(crate) fn line_with_id<S: Alter>(
     alloc: Global,
     db: &mut Conn<S>,
     subject: &Subject,
-    deleted: bool,
+    shows_deleted: bool,
     id: u32,
 ) -> Result<Option<SubjectVersion>, StoreError>
     ensures { Reads db.old db.new result (λ was found.
         option_map (λ line. row_numbered subject.now (subject_version_view line)) found
-        ≡ last_or None (rows_with id (visible_rows deleted (rows_of was.registry subject.now)))) }
+        ≡ last_or None (rows_with id (visible_rows shows_deleted (rows_of was.registry subject.now)))) }
 {
     let lines = lines_of_id(alloc, db, id)?;
     if lines.len() < VERSIONS_LIMIT {
-        return Ok(last_among(lines, subject, deleted));
+        return Ok(last_among(lines, subject, shows_deleted));
     }
-    line_of_subject(db, subject, deleted, id)
+    line_of_subject(db, subject, shows_deleted, id)
 }
 
 /// Versions of the id: all of them, if they are fewer than `VERSIONS_LIMIT`.
@@ -55,24 +55,28 @@ fn lines_of_id<S: Alter>(
 fn line_of_subject<S: Alter>(
     db: &mut Conn<S>,
     subject: &Subject,
-    deleted: bool,
+    shows_deleted: bool,
     id: u32,
 ) -> Result<Option<SubjectVersion>, StoreError>
     ensures { Reads db.old db.new result (λ was found.
         option_map (λ line. row_numbered subject.now (subject_version_view line)) found
-        ≡ last_or None (rows_with id (visible_rows deleted (rows_of was.registry subject.now)))) }
+        ≡ last_or None (rows_with id (visible_rows shows_deleted (rows_of was.registry subject.now)))) }
 {
-    Ok(last_version_with_id(&mut db.idle, subject.as_str(), id, deleted)?)
+    Ok(last_version_with_id(&mut db.idle, subject.as_str(), id, shows_deleted)?)
 }
 
 /// The last of these versions that is of the subject and shown, or `None`.
-fn last_among(lines: Vec<ListedVersion>, subject: &Subject, deleted: bool) -> Option<SubjectVersion>
-    ensures { IsLastShown deleted subject.now (map (λ line. row_spelled (listed_version_view line)) lines.items)
+fn last_among(
+    lines: Vec<ListedVersion>,
+    subject: &Subject,
+    shows_deleted: bool,
+) -> Option<SubjectVersion>
+    ensures { IsLastShown shows_deleted subject.now (map (λ line. row_spelled (listed_version_view line)) lines.items)
         (option_map (λ line. row_numbered subject.now (subject_version_view line)) result) }
 {
     let mut last = None;
     for line in lines {
-        if is_shown_of(&line, subject, deleted) {
+        if is_shown_of(&line, subject, shows_deleted) {
             last = Some(later_of(last, line));
         }
     }
@@ -87,10 +91,10 @@ fn last_among(lines: Vec<ListedVersion>, subject: &Subject, deleted: bool) -> Op
 }
 
 /// Whether the version is of the subject and shown.
-fn is_shown_of(line: &ListedVersion, subject: &Subject, deleted: bool) -> bool
-    ensures { result ≡ is_shown_of deleted subject.now (row_spelled (listed_version_view line.now)) }
+fn is_shown_of(line: &ListedVersion, subject: &Subject, shows_deleted: bool) -> bool
+    ensures { result ≡ is_shown_of shows_deleted subject.now (row_spelled (listed_version_view line.now)) }
 {
-    line.subject.as_str() == subject.as_str() && (deleted || !line.deleted)
+    line.subject.as_str() == subject.as_str() && (shows_deleted || !line.deleted)
 }
 
 /// The version with the greater number; `line` if `last` is `None`.

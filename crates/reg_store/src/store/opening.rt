@@ -32,8 +32,9 @@ impl<S: Alter> Store<S> {
     /// `OldLayout` or `NewerLayout` if the database has no view and `meta` names a layout below or
     /// above 2, with any contents of other tables. Otherwise `NotARegistry`, if the tables
     /// spell no registry in layout 2 or the database has a view. `Memory` if an allocation fails,
-    /// `Disk` if the disk fails. The database stays as it was. But after `Disk`, or after `Memory`
-    /// if the disk failed too, a crash may leave the index in addition.
+    /// `Disk` if the disk fails, the file is damaged or the connection is closed. The database stays
+    /// as it was. But after `Disk`, or after `Memory` if the disk failed too, a crash may leave the
+    /// index in addition.
     pub fn open(
         alloc: Global,
         mut connection: Connection<S>,

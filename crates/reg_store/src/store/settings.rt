@@ -3,7 +3,7 @@
 ghost use Rattle.std.specs.Prelude.{◌≡◌, ◌⊎◌, None, Some, IfOk, OnErr, IsTrue, codes, option_and_then, option_copied};
 ghost use Rattle.reg_core.specs.Levels.{level_of};
 ghost use Rattle.reg_core.specs.Modes.{mode_of};
-ghost use Rattle.reg_store.specs.Inside.Viewing.{value_in};
+ghost use Rattle.reg_store.specs.Inside.Viewing.{meta_value};
 ghost use Rattle.reg_store.specs.Inside.Reads.{Reads};
 
 use crate::conn::Conn;
@@ -95,10 +95,10 @@ fn globals<S: Alter>(alloc: Global, db: &mut Conn<S>) -> Result<(Level, Mode), S
 /// The global level and the global mode that the rows of `meta` spell.
 fn globals_in(lines: &[RawMeta]) -> Result<(Level, Mode), StoreError>
     ensures ok { IfOk result (λ globals.
-        (option_and_then level_of (value_in (codes "global") lines.now) ≡ Some globals.0)
-        × (option_and_then mode_of (value_in (codes "mode") lines.now) ≡ Some globals.1)) }
-    ensures err { OnErr result ((option_and_then level_of (value_in (codes "global") lines.now) ≡ None)
-        ⊎ (option_and_then mode_of (value_in (codes "mode") lines.now) ≡ None)) }
+        (option_and_then level_of (meta_value (codes "global") lines.now) ≡ Some globals.0)
+        × (option_and_then mode_of (meta_value (codes "mode") lines.now) ≡ Some globals.1)) }
+    ensures err { OnErr result ((option_and_then level_of (meta_value (codes "global") lines.now) ≡ None)
+        ⊎ (option_and_then mode_of (meta_value (codes "mode") lines.now) ≡ None)) }
 {
     let Some(level) = level_under(lines) else {
         return Err(StoreError::NotARegistry);
@@ -110,7 +110,7 @@ fn globals_in(lines: &[RawMeta]) -> Result<(Level, Mode), StoreError>
 }
 
 fn level_under(lines: &[RawMeta]) -> Option<Level>
-    ensures { result ≡ option_and_then level_of (value_in (codes "global") lines.now) }
+    ensures { result ≡ option_and_then level_of (meta_value (codes "global") lines.now) }
 {
     match value_under(lines, "global") {
         None => None,
@@ -119,7 +119,7 @@ fn level_under(lines: &[RawMeta]) -> Option<Level>
 }
 
 fn mode_under(lines: &[RawMeta]) -> Option<Mode>
-    ensures { result ≡ option_and_then mode_of (value_in (codes "mode") lines.now) }
+    ensures { result ≡ option_and_then mode_of (meta_value (codes "mode") lines.now) }
 {
     match value_under(lines, "mode") {
         None => None,
@@ -129,7 +129,7 @@ fn mode_under(lines: &[RawMeta]) -> Option<Mode>
 
 /// The value of the first row with this name, or `None`.
 fn value_under<'a>(lines: &'a [RawMeta], name: &str) -> Option<&'a str>
-    ensures { option_copied result ≡ value_in name.now lines.now }
+    ensures { option_copied result ≡ meta_value name.now lines.now }
 {
     lines
         .iter()

@@ -1,5 +1,5 @@
-//! Reads only those versions of a subject that determine a command's reply and changes. A version
-//! is shown if it is live, or if `deleted` is set.
+//! Reads only those versions of a subject that determine a command's reply and changes. A live
+//! version is always shown, a soft-deleted one only if `shows_deleted` is true.
 
 ghost use Rattle.std.specs.Prelude.{◌≡◌, ℕ, Option, Some, false};
 ghost use Rattle.reg_core.specs.declared.level.Level.{Level};
@@ -116,16 +116,16 @@ pub(crate) fn looked_up_rows<S: Alter>(
     alloc: Global,
     db: &mut Conn<S>,
     subject: &Subject,
-    deleted: bool,
+    shows_deleted: bool,
     known: Option<u32>,
 ) -> Result<Vec<Row>, StoreError>
     ensures { Reads db.old db.new result (λ was rows.
-        lookup_row known (visible_rows deleted rows.items)
-        ≡ lookup_row known (visible_rows deleted (rows_of was.registry subject.now))) }
+        lookup_row known (visible_rows shows_deleted rows.items)
+        ≡ lookup_row known (visible_rows shows_deleted (rows_of was.registry subject.now))) }
 {
     match known {
-        Some(id) => found_rows(alloc, db, subject, deleted, id),
-        None => last_rows(alloc, db, subject, deleted),
+        Some(id) => found_rows(alloc, db, subject, shows_deleted, id),
+        None => last_rows(alloc, db, subject, shows_deleted),
     }
 }
 
@@ -134,16 +134,16 @@ fn found_rows<S: Alter>(
     alloc: Global,
     db: &mut Conn<S>,
     subject: &Subject,
-    deleted: bool,
+    shows_deleted: bool,
     id: u32,
 ) -> Result<Vec<Row>, StoreError>
     ensures { Reads db.old db.new result (λ was rows.
-        lookup_row (Some id) (visible_rows deleted rows.items)
-        ≡ lookup_row (Some id) (visible_rows deleted (rows_of was.registry subject.now))) }
+        lookup_row (Some id) (visible_rows shows_deleted rows.items)
+        ≡ lookup_row (Some id) (visible_rows shows_deleted (rows_of was.registry subject.now))) }
 {
-    match line_with_id(alloc, db, subject, deleted, id)? {
+    match line_with_id(alloc, db, subject, shows_deleted, id)? {
         Some(line) => Ok(row_list(alloc, subject, Some(line))?),
-        None => last_rows(alloc, db, subject, deleted),
+        None => last_rows(alloc, db, subject, shows_deleted),
     }
 }
 

@@ -5,7 +5,7 @@ ghost use Rattle.std.specs.List.{AllByRecursion};
 ghost use Rattle.reg_tables.specs.Listings.{ListsEvidence, HasAgainstRows, greatest_integer};
 ghost use Rattle.reg_rows.specs.Positions.{position_view};
 ghost use Rattle.reg_store.specs.Failures.{HasNoLayoutNumber};
-ghost use Rattle.reg_store.specs.Inside.TableChecks.{AreDistinct, mode_fits, evidence_fits, against_fits, version_at, position_at, ArePositionsInOrder, rowids_in, JudgesVersion, JudgesIds, ModesPass, EvidenceTablesPass, AddedTablesPass, ChecksAllTables};
+ghost use Rattle.reg_store.specs.Inside.TableChecks.{AreDistinct, mode_fits, evidence_fits, against_fits, version_at, position_at, ArePositionsContiguous, rowids_in, JudgesVersion, JudgesIds, ModesPass, EvidenceTablesPass, AddedTablesPass, ChecksAllTables};
 
 use crate::conn::Conn;
 use crate::error::StoreError;
@@ -52,7 +52,7 @@ impl CheckedRow for RawEvidence {
 impl CheckedRow for RawAgainst {
     ghost rowid_of = { λ line. line.rowid };
 
-    // The positions are checked for the rows of a version together (`are_in_order`).
+    // The positions are checked for the rows of a version together (`are_positions_contiguous`).
     ghost fits_table = { against_fits };
 
     fn rowid(&self) -> i64 {
@@ -95,9 +95,10 @@ fn positions_in<'a>(
     Ok(positions)
 }
 
-/// Whether the ids of a version are at consecutive positions from 1 on.
-fn are_in_order(alloc: Global, lines: &[RawAgainst]) -> Result<bool, AllocError>
-    ensures { IfOk result (λ yes. IsTrue yes ↔ ArePositionsInOrder lines.now) }
+/// Whether the positions of a version's ids are 1, 2, and so on without a gap, in any order. One may
+/// occur twice.
+fn are_positions_contiguous(alloc: Global, lines: &[RawAgainst]) -> Result<bool, AllocError>
+    ensures { IfOk result (λ yes. IsTrue yes ↔ ArePositionsContiguous lines.now) }
 {
     if !all_fit(lines) {
         return Ok(false);
@@ -135,7 +136,7 @@ fn judge_version<S: Alter>(
         evidence_row.version,
     )?;
     add_rowids(rowids, &lines)?;
-    Ok(are_in_order(alloc, &lines)?)
+    Ok(are_positions_contiguous(alloc, &lines)?)
 }
 
 /// The number of rows of `against`, at most `MAX_COUNT`.
@@ -152,7 +153,7 @@ fn count_against<S: Alter>(db: &mut Conn<S>) -> Result<u64, StoreError>
 struct Ids {
     /// The rowids of the ids of all versions with evidence.
     rowids: Vec<i64>,
-    /// Whether the ids of each of these versions are at consecutive positions.
+    /// Whether the positions of each of these versions are 1, 2, and so on without a gap.
     fit: bool,
     /// The number of rows, at most `MAX_COUNT`.
     count: u64,

@@ -56,6 +56,7 @@ fn is_fourth(nodes: &[Op], at: usize) -> bool
     }
 }
 
+/// Whether the expression at this node is this number.
 fn is_literal(nodes: &[Op], at: usize, number: i64) -> bool
     ensures { IsTrue result ↔ (node_at nodes.now at ≡ LiteralNode (Int number)) }
 {

@@ -41,9 +41,9 @@ returns-in-Err-clause-fails g c =
       ];
     }
 
-pub returns-then-not-has_no_tables-clause-fails : goal.returns-then-not-has_no_tables-clause-fails
-returns-then-not-has_no_tables-clause-fails g c =
+pub returns-then-not-is_empty_database-clause-fails : goal.returns-then-not-is_empty_database-clause-fails
+returns-then-not-is_empty_database-clause-fails g c =
     let idle : IsTrue c.is_autocommit-idle.result = search rules in
     let begun = c.set_step_limit.new.self in
-    unmade_beside g.S.Store c.args.connection begun c.set_step_limit.ensures (λ none. both_ways _ c.if-not-has_no_tables.true (c.has_no_tables.ensures.1 none))
+    unmade_beside g.S.Store c.args.connection begun c.set_step_limit.ensures (λ none. both_ways _ c.if-not-is_empty_database.true (c.is_empty_database.ensures.1 none))
     (c.is_autocommit-idle.ensures.settled idle) (λ is_open db it. g.met.S.Store.settled begun.store db is_open it)

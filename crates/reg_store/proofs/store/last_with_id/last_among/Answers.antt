@@ -19,7 +19,7 @@ loop-line-init c = record { read = search rules; last = λ k d lt. search rules 
 
 pub loop-line-preserved-then-is_shown_of : goal.loop-line-preserved-then-is_shown_of
 loop-line-preserved-then-is_shown_of c =
-    let deleted = c.args.deleted in
+    let deleted = c.args.shows_deleted in
     let subject = c.args.subject.now in
     let seen = map line_row c.loop-line.yielded in
     let line = c.in-Some.line in
@@ -31,7 +31,7 @@ loop-line-preserved-then-is_shown_of c =
 
 pub loop-line-preserved : goal.loop-line-preserved
 loop-line-preserved c =
-    let deleted = c.args.deleted in
+    let deleted = c.args.shows_deleted in
     let subject = c.args.subject.now in
     let seen = map line_row c.loop-line.yielded in
     let line = c.in-Some.line in
@@ -47,12 +47,12 @@ all_read done rest all none read = sym (append-nil done) ∙ ap (λ l. done ++ l
 pub returns-in_default : goal.returns-in_default
 returns-in_default c =
     let read = all_read c.loop-line.yielded c.loop-line.line-iterator.rest.items c.args.lines.items (sym c.loop-line.line-iterator.rest.ok.0 ∙ c.in-None.ensures.steps.0) c.loop-line.invariant.read in
-    subst (λ (lines : List ListedVersion). IsLastShown c.args.deleted c.args.subject.now (map line_row lines) None) read
-    (subst (λ (o : Option ListedVersion). IsLastShown c.args.deleted c.args.subject.now (map line_row c.loop-line.yielded) (option_map line_row o)) c.in_default.is c.loop-line.invariant.last)
+    subst (λ (lines : List ListedVersion). IsLastShown c.args.shows_deleted c.args.subject.now (map line_row lines) None) read
+    (subst (λ (o : Option ListedVersion). IsLastShown c.args.shows_deleted c.args.subject.now (map line_row c.loop-line.yielded) (option_map line_row o)) c.in_default.is c.loop-line.invariant.last)
 
 pub returns : goal.returns
 returns c =
     let read = all_read c.loop-line.yielded c.loop-line.line-iterator.rest.items c.args.lines.items (sym c.loop-line.line-iterator.rest.ok.0 ∙ c.in-None.ensures.steps.0) c.loop-line.invariant.read in
-    subst (λ (lines : List ListedVersion). IsLastShown c.args.deleted c.args.subject.now (map line_row lines) (Some (row_numbered c.args.subject.now (subject_version_view (record { number = c.in-Some-last.line.number; id = c.in-Some-last.line.id; deleted = c.in-Some-last.line.deleted }))))) read
-    (last_of_subject c.args.deleted c.args.subject.now (map line_row c.loop-line.yielded) c.in-Some-last.line
-    (subst (λ (o : Option ListedVersion). IsLastShown c.args.deleted c.args.subject.now (map line_row c.loop-line.yielded) (option_map line_row o)) c.in-Some-last.is c.loop-line.invariant.last))
+    subst (λ (lines : List ListedVersion). IsLastShown c.args.shows_deleted c.args.subject.now (map line_row lines) (Some (row_numbered c.args.subject.now (subject_version_view (record { number = c.in-Some-last.line.number; id = c.in-Some-last.line.id; deleted = c.in-Some-last.line.deleted }))))) read
+    (last_of_subject c.args.shows_deleted c.args.subject.now (map line_row c.loop-line.yielded) c.in-Some-last.line
+    (subst (λ (o : Option ListedVersion). IsLastShown c.args.shows_deleted c.args.subject.now (map line_row c.loop-line.yielded) (option_map line_row o)) c.in-Some-last.is c.loop-line.invariant.last))

@@ -9,5 +9,5 @@ invariant-loop-line l =
     let row = λ (line : ListedVersion). row_spelled (listed_version_view line) in
     record {
       read : l.yielded ++ l.line-iterator.rest.items ≡ l.fn.lines.items;
-      last : IsLastShown l.fn.deleted l.fn.subject (map row l.yielded) (option_map row l.last);
+      last : IsLastShown l.fn.shows_deleted l.fn.subject (map row l.yielded) (option_map row l.last);
     }

@@ -11,4 +11,4 @@ returns g c =
     read c.in_ok-last_version_with_id.ensures.frame (λ clean was over.
     let it = base_of over.spells in
     let found = rw c.as_str.ensures.text at (c.in_ok-last_version_with_id.ensures.found clean it.schema it.first it.contents it.holds) in
-    last_with_id_told it.contents was.registry it.spelled.versions c.args.subject.now c.args.id c.args.deleted c.in_ok-last_version_with_id.field-0 found)
+    last_with_id_told it.contents was.registry it.spelled.versions c.args.subject.now c.args.id c.args.shows_deleted c.in_ok-last_version_with_id.field-0 found)

@@ -18,7 +18,7 @@ pub returns-then-len-lt-VERSIONS_LIMIT : goal.returns-then-len-lt-VERSIONS_LIMIT
 returns-then-len-lt-VERSIONS_LIMIT g c =
     let lines = c.in_ok-lines.lines in
     let few : length (map line_row lines.items) < versions_limit = omega (arith, c.if-len-lt-VERSIONS_LIMIT.true, c.len.ensures, lines.ok.0, length-map lines.items line_row) in
-    tell c.in_ok-lines.ensures (λ was over some. last_is_told was.registry c.args.subject.now c.args.deleted c.args.id (map line_row lines.items) some few _ c.last_among.ensures)
+    tell c.in_ok-lines.ensures (λ was over some. last_is_told was.registry c.args.subject.now c.args.shows_deleted c.args.id (map line_row lines.items) some few _ c.last_among.ensures)
 
 pub returns : goal.returns
 returns g c = go_on c.in_ok-lines.ensures c.line_of_subject.ensures.may (λ was over some. match_each c.line_of_subject.result (λ found is. is) (λ e h. h))

@@ -21,7 +21,7 @@ pub returns-in_ok-row_list-in-Some : goal.returns-in_ok-row_list-in-Some
 returns-in_ok-row_list-in-Some g c =
     tell c.in_ok-line.ensures (λ was over found.
     let subject = c.args.subject.now in
-    let deleted = c.args.deleted in
+    let deleted = c.args.shows_deleted in
     let all = rows_of was.registry subject in
     let row = row_numbered subject (subject_version_view c.in-Some.line) in
     let last : last_or None (rows_with c.args.id (visible_rows deleted all)) ≡ Some row =
@@ -33,7 +33,7 @@ pub returns-in-None : goal.returns-in-None
 returns-in-None g c =
     go_on c.in_ok-line.ensures c.last_rows.ensures.may (λ was over found.
     let subject = c.args.subject.now in
-    let deleted = c.args.deleted in
+    let deleted = c.args.shows_deleted in
     let all = rows_of was.registry subject in
     let none : last_or None (rows_with c.args.id (visible_rows deleted all)) ≡ None =
     sym found ∙ ap (option_map (λ (line : SubjectVersion). row_numbered subject (subject_version_view line))) c.in-None.is in

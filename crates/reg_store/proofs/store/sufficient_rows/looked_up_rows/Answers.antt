@@ -10,11 +10,11 @@ pub returns-in-Some : goal.returns-in-Some
 returns-in-Some g c =
     retell c.found_rows.ensures (λ was over rows told.
     let all = rows_of was.registry c.args.subject.now in
-    subst (λ (known : Option ℕ). lookup_row known (visible_rows c.args.deleted rows.items) ≡ lookup_row known (visible_rows c.args.deleted all)) (sym c.in-Some.is) told)
+    subst (λ (known : Option ℕ). lookup_row known (visible_rows c.args.shows_deleted rows.items) ≡ lookup_row known (visible_rows c.args.shows_deleted all)) (sym c.in-Some.is) told)
 
 pub returns-in-None : goal.returns-in-None
 returns-in-None g c =
     retell c.last_rows.ensures (λ was over rows is.
     let all = rows_of was.registry c.args.subject.now in
-    subst (λ (known : Option ℕ). lookup_row known (visible_rows c.args.deleted rows.items) ≡ lookup_row known (visible_rows c.args.deleted all)) (sym c.in-None.is)
-    (ap (λ items. lookup_row None (visible_rows c.args.deleted items)) is ∙ looks_up_none c.args.deleted None all refl))
+    subst (λ (known : Option ℕ). lookup_row known (visible_rows c.args.shows_deleted rows.items) ≡ lookup_row known (visible_rows c.args.shows_deleted all)) (sym c.in-None.is)
+    (ap (λ items. lookup_row None (visible_rows c.args.shows_deleted items)) is ∙ looks_up_none c.args.shows_deleted None all refl))

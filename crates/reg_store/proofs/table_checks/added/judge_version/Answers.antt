@@ -6,7 +6,7 @@ use Rattle.reg_tables.specs.Listings.{ListsAgainstOf}
 use Rattle.reg_tables.specs.Layout.{HasEightTables}
 use Rattle.reg_store.specs.Spells.{SpellsUnopened}
 use Rattle.reg_store.specs.Failures.{HasNoLayoutNumber}
-use Rattle.reg_store.specs.Inside.TableChecks.{SpellsSome, ArePositionsInOrder, rowids_in}
+use Rattle.reg_store.specs.Inside.TableChecks.{SpellsSome, ArePositionsContiguous, rowids_in}
 use Rattle.reg_store.proofs.Failing.{numberless, passed}
 use Rattle.reg_store.proofs.LayoutTwoChecks.{some_can_read_all}
 use Rattle.reg_store.proofs.CheckLemmas.{test_unread, test_read, test_tells}
@@ -19,7 +19,7 @@ returns-in_err-lines-clause-tests g c =
 pub returns-clause-tests : goal.returns-clause-tests
 returns-clause-tests g c =
     let lines = c.in_ok-lines.lines.items in
-    let fit = c.in_ok-are_in_order.field-0 in
+    let fit = c.in_ok-are_positions_contiguous.field-0 in
     let text : c.as_str.result.now ≡ string_bytes c.args.evidence_row.now.subject = search rules in
     let a = c.args.db.now.idle.conn in
     let b = c.against_of.new.db.conn in
@@ -27,7 +27,7 @@ returns-clause-tests g c =
     (λ db lists. (
       rowids_in lines,
       c.in_ok-add_rowids.ensures ∙ ap (λ (l : List RawAgainst). c.args.rowids.now.items ++ rowids_in l) c.deref.ensures.value,
-      record { lines = lines; lists = subst (λ (s : List ℕ). ListsAgainstOf (s, c.args.evidence_row.now.version) db lines) text lists; have = refl; judged = subst (λ (l : List RawAgainst). IsTrue fit ↔ ArePositionsInOrder l) c.deref-2.ensures.value c.in_ok-are_in_order.ensures },
+      record { lines = lines; lists = subst (λ (s : List ℕ). ListsAgainstOf (s, c.args.evidence_row.now.version) db lines) text lists; have = refl; judged = subst (λ (l : List RawAgainst). IsTrue fit ↔ ArePositionsContiguous l) c.deref-2.ensures.value c.in_ok-are_positions_contiguous.ensures },
     ))
 
 pub returns-in_err-lines-clause-plain : goal.returns-in_err-lines-clause-plain
