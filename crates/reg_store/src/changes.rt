@@ -149,7 +149,7 @@ pub(crate) fn keep_reply<S: Alter>(
         Some(keep) => keep_row(
             tx,
             keep.key.as_str(),
-            keep.text(),
+            keep.command_text(),
             u32::from(keep.reply.status()),
             keep.reply.body(),
         ),

@@ -14,7 +14,7 @@ pub struct Keep<'a> {
 
 impl<'a> Keep<'a> {
     /// The text of the command.
-    pub(crate) fn text(&self) -> &'a str
+    pub(crate) fn command_text(&self) -> &'a str
         ensures { result.now ≡ self.now.command.now }
     {
         self.command

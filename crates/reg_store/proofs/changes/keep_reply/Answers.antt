@@ -18,8 +18,8 @@ returns-in-Some-clause-put g c clean =
     rw c.in-Some.is
     (on_ok c.keep_reply.result
     (respells_kept (state g.S.Store c.args.tx.now.conn.now) (state g.S.Store c.keep_reply.new.tx.conn.now) keep
-    (record { is_key = rw c.as_str.ensures.text at c.as_str.ensures.key; status = keepable; text = rw c.text.ensures at c.text.utf8; body = rw c.body.ensures at c.body.utf8 }))
-    (rw (c.as_str.ensures.text, c.text.ensures, c.from.ensures, c.status.ensures.value, c.body.ensures) at (c.keep_reply.ensures.put clean)))
+    (record { is_key = rw c.as_str.ensures.text at c.as_str.ensures.key; status = keepable; text = rw c.command_text.ensures at c.command_text.utf8; body = rw c.body.ensures at c.body.utf8 }))
+    (rw (c.as_str.ensures.text, c.command_text.ensures, c.from.ensures, c.status.ensures.value, c.body.ensures) at (c.keep_reply.ensures.put clean)))
 
 pub returns-in-Some-clause-goes_on : goal.returns-in-Some-clause-goes_on
 returns-in-Some-clause-goes_on g c clean = on_ok c.keep_reply.result (λ inside ended. absurd (both_ways _ ended inside)) (c.keep_reply.ensures.frame.inside clean)
