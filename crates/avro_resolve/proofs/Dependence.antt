@@ -19,7 +19,7 @@ use Rattle.avro_resolve.specs.declared.schemas.SchemaPair.{SchemaPair}
 use Rattle.avro_resolve.specs.Asking.{source_place}
 use Rattle.avro_resolve.specs.Resolution.{Pairs, Readable, first_named, source, Fits, Supports}
 use Rattle.avro_resolve.specs.Inside.Agreeing.{fields_of}
-use Rattle.avro_resolve.specs.Inside.Referrers.{element_place, AreReferrers, GivenBy, CanMatchKinds, HasBranch, IsOfNode, LinkKindsMatch}
+use Rattle.avro_resolve.specs.Inside.Referrers.{element_place, AreReferrers, IsLinkOfField, CanMatchKinds, HasBranch, IsLinkOfNode, LinkKindsMatch}
 use Rattle.avro_resolve.specs.Inside.Remaining.{DependsOn}
 use Rattle.avro_resolve.specs.Inside.Lists.{IsListedAt}
 use Rattle.avro_resolve.specs.Inside.Schemas.{columns, names_of, rows, IsValidSchemaPair}
@@ -138,9 +138,9 @@ entry_some (Some z) p e = let same : z ≡ p = omega (arith, e) in ap Some same
 -- ---- what a match of two links means
 
 module _ (names : List (List ℕ)) (rank_map : Option (List (Option ℕ))) (numbered : List Aliased) (a : NodeView) (x : Link) (place : ℕ) where
-  of_contents : x.kind ≡ ByElement → IsOfNode names rank_map numbered a x place → element_place a ≡ Some place
+  of_contents : x.kind ≡ ByElement → IsLinkOfNode names rank_map numbered a x place → element_place a ≡ Some place
   of_contents e (inl h) = h.1
-  of_contents e (inr (ranks, ranked, (index, f, y, ef, ey, at, given))) = absurd (subst (GivenBy rank_map numbered index y x) e given)
+  of_contents e (inr (ranks, ranked, (index, f, y, ef, ey, at, given))) = absurd (subst (IsLinkOfField rank_map numbered index y x) e given)
 
   -- the field that gives the link
   record Field (kind : LinkKind) : Type 0 where
@@ -150,9 +150,9 @@ module _ (names : List (List ℕ)) (rank_map : Option (List (Option ℕ))) (numb
     there : slice_get (fields_of a) index ≡ Some field
     ranked : IsFieldRanked names field ranks
     at : field.place ≡ place
-    given : GivenBy rank_map numbered index ranks x kind
+    given : IsLinkOfField rank_map numbered index ranks x kind
 
-  of_field : (kind : LinkKind) → (kind ≡ ByElement → ⊥) → x.kind ≡ kind → IsOfNode names rank_map numbered a x place → Field kind
+  of_field : (kind : LinkKind) → (kind ≡ ByElement → ⊥) → x.kind ≡ kind → IsLinkOfNode names rank_map numbered a x place → Field kind
   of_field kind n e (inl h) = absurd (n (sym e ∙ h.0))
   of_field kind n e (inr (ranks, ranked, (index, f, y, ef, ey, at, given))) =
       let here = zip_got (IsFieldRanked names) (fields_of a) ranks ranked index f ef in
@@ -163,7 +163,7 @@ module _ (names : List (List ℕ)) (rank_map : Option (List (Option ℕ))) (numb
         there = ef;
         ranked = subst (IsFieldRanked names f) (same_Some here.0 y (sym here.1 ∙ ey)) here.2;
         at = at;
-        given = subst (GivenBy rank_map numbered index y x) e given;
+        given = subst (IsLinkOfField rank_map numbered index y x) e given;
       }
 
 module _ (schemas : SchemaPair) (is : IsValidSchemaPair schemas) (writer_links reader_links : Links) (sources : List (Vec ℕ Global)) (are_referrers : AreReferrers schemas writer_links reader_links sources) (p q : ℕ) (x y : Link) (R : Pairs) (out : R p q ≡ false)
@@ -192,8 +192,8 @@ module _ (schemas : SchemaPair) (is : IsValidSchemaPair schemas) (writer_links r
       let from = entry_some (source_place (fields_of a) t.field) p (sym entry ∙ told) in
       field_needed R x.referrer y.referrer p q t.index a b t.field t.there from t.at out fits
 
-  by_ways : (wx wy : LinkKind) → x.kind ≡ wx → y.kind ≡ wy → CanMatchKinds sources p x.referrer wx wy → IsOfNode (names_of schemas.writer) (Some schemas.rank_map.ranks.items) writer_links.aliased.items a x p
-      → IsOfNode (names_of schemas.reader) None reader_links.aliased.items b y q → ⊥
+  by_ways : (wx wy : LinkKind) → x.kind ≡ wx → y.kind ≡ wy → CanMatchKinds sources p x.referrer wx wy → IsLinkOfNode (names_of schemas.writer) (Some schemas.rank_map.ranks.items) writer_links.aliased.items a x p
+      → IsLinkOfNode (names_of schemas.reader) None reader_links.aliased.items b y q → ⊥
   by_ways ByElement ByElement ex ey asks m t = contents_needed R x.referrer y.referrer p q a b (of_contents (names_of schemas.writer) (Some schemas.rank_map.ranks.items) writer_links.aliased.items a x p ex m)
       (of_contents (names_of schemas.reader) None reader_links.aliased.items b y q ey t) out fits
   by_ways ByName ByName ex ey asks m t = by_names (of_field (names_of schemas.writer) (Some schemas.rank_map.ranks.items) writer_links.aliased.items a x p ByName (λ e. absurd cc) ex m)

@@ -45,11 +45,11 @@ eliminated_pair w r t v i j ww wr h li lj here never shape others fewer = record
   readers = shape.readers ∙ h.readers;
   eliminated = h.eliminated ++ (i, j) ∷ [];
   refutes = refutes_push w r [] h.eliminated i j h.refutes (λ s. never (supports_below w r (without h.eliminated) (remains t) ww wr (λ a b la lb m. h.exact a b la lb ∙ m) i j s));
-  differ = differ_push h.eliminated i j h.differ (not_in (remains t i j) (member h.eliminated i j) (h.exact i j li lj) here);
+  distinct = differ_push h.eliminated i j h.distinct (not_in (remains t i j) (member h.eliminated i j) (h.exact i j li lj) here);
   exact = λ a b la lb. others a b ∙ ap (λ x. if a == i && b == j then false else x) (h.exact a b la lb) ∙ without-push h.eliminated i j a b;
   count = (let c = h.count in let l : length (h.eliminated ++ (i, j) ∷ []) ≡ length h.eliminated + 1 = length-append h.eliminated ((i, j) ∷ []) in omega arith);
 }
 
 pub all_left : (w r : List NodeView) (t : Table) → t.writers ≡ length w → t.readers ≡ length r → ((i j : ℕ) → i < length w → j < length r → remains t i j ≡ true) → count_remaining t ≡ length w * length r → IsRemainder w r t
 unfolding AreDistinct RefutesAfter
-all_left w r t e f whole count = record { writers = e; readers = f; eliminated = []; refutes = tt; differ = tt; exact = λ i j li lj. whole i j li lj ∙ sym (ap not (member-nil i j)); count = omega arith }
+all_left w r t e f whole count = record { writers = e; readers = f; eliminated = []; refutes = tt; distinct = tt; exact = λ i j li lj. whole i j li lj ∙ sym (ap not (member-nil i j)); count = omega arith }

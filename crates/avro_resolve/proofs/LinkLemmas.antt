@@ -17,7 +17,7 @@ use Rattle.avro_resolve.specs.declared.links.Links.{Links}
 use Rattle.avro_resolve.specs.declared.links.LinkKind.{LinkKind}
 use Rattle.avro_resolve.specs.declared.links.LinkKind.TheVariants.{ByElement, ByName, ByAlias}
 use Rattle.avro_resolve.specs.Inside.Agreeing.{fields_of}
-use Rattle.avro_resolve.specs.Inside.Referrers.{HasLabel, IsAlias, LinkedBy, IsFieldLinked, AreFieldsLinked, IsPlaceLinked, IsUnionListed, OnlyAddsLinks, GivenBy, IsOfField, IsOfNode, alias_labels}
+use Rattle.avro_resolve.specs.Inside.Referrers.{HasLabel, IsAlias, LinkedBy, IsFieldLinked, AreFieldsLinked, IsPlaceLinked, IsUnionListed, OnlyAddsLinks, IsLinkOfField, IsLinkOfFields, IsLinkOfNode, alias_labels}
 use Rattle.avro_resolve.specs.Inside.Lists.{IsListedAt}
 use Rattle.avro_resolve.specs.Inside.RankMaps.{RanksDecideNames}
 use Rattle.avro_resolve.proofs.ListLemmas.{adds_none, adds_such, adds_then}
@@ -68,15 +68,15 @@ pub record SameLists (old new : List (Vec Link Global)) : Type 0 where
 
 -- a field gives the same links after more fields got numbers
 module _ (old new : List Aliased) (kept : (number : ℕ) (field : Aliased) → slice_get old number ≡ Some field → slice_get new number ≡ Some field) (rank_map : Option (List (Option ℕ))) (x : Link) where
-  pub given_on : (index : ℕ) (y : FieldRanks) (kind : LinkKind) → GivenBy rank_map old index y x kind → GivenBy rank_map new index y x kind
+  pub given_on : (index : ℕ) (y : FieldRanks) (kind : LinkKind) → IsLinkOfField rank_map old index y x kind → IsLinkOfField rank_map new index y x kind
   given_on index y ByElement h = h
   given_on index y ByName h = h
   given_on index y (ByAlias number) h = kept number (record { place = x.referrer; index = index }) h
 
-  pub of_field_on : (fields : List FieldView) (ranks : List FieldRanks) (p : ℕ) → IsOfField rank_map old fields ranks x p → IsOfField rank_map new fields ranks x p
+  pub of_field_on : (fields : List FieldView) (ranks : List FieldRanks) (p : ℕ) → IsLinkOfFields rank_map old fields ranks x p → IsLinkOfFields rank_map new fields ranks x p
   of_field_on fields ranks p (index, f, y, ef, ey, e, h) = (index, f, y, ef, ey, e, given_on index y x.kind h)
 
-  pub of_node_on : (names : List (List ℕ)) (a : NodeView) (p : ℕ) → IsOfNode names rank_map old a x p → IsOfNode names rank_map new a x p
+  pub of_node_on : (names : List (List ℕ)) (a : NodeView) (p : ℕ) → IsLinkOfNode names rank_map old a x p → IsLinkOfNode names rank_map new a x p
   of_node_on names a p (inl h) = inl h
   of_node_on names a p (inr (ranks, ranked, h)) = inr (ranks, ranked, of_field_on (fields_of a) ranks p h)
 

@@ -11,7 +11,7 @@ use Rattle.avro_schema.specs.declared.index.Index.{Index}
 use Rattle.avro_schema.specs.declared.index.NamedRanks.{NamedRanks}
 use Rattle.avro_schema.specs.declared.index.Ranks.{Ranks}
 use Rattle.avro_schema.specs.declared.index.Ranks.TheVariants.{Unnamed, Fixed, Enum, Rec}
-use Rattle.avro_schema.specs.Index.{AreSortedRanks, IsIndex, IsNamedRanked, IsRank, IsRanked, IsUnnamed}
+use Rattle.avro_schema.specs.Index.{AreSortedRanks, IsIndex, IsDefinitionRanked, IsRank, IsRanked, IsUnnamed}
 use Rattle.avro_resolve.specs.declared.schemas.IndexedSchema.{IndexedSchema}
 use Rattle.avro_resolve.specs.Resolution.{NameMatch}
 use Rattle.avro_resolve.specs.Inside.Agreeing.{fields_of, named_of, named_ranks, symbols_of, symbol_ranks, DecidesNameMatch}
@@ -46,7 +46,7 @@ node_ranks indexed is place a ea =
 
 module _ (names : List (List ℕ)) where
   -- a named node has the ranks of its names
-  ranked_name : (a : NodeView) (v : Ranks) → IsRanked names a v → MatchOption (named_of a) (Unit {0}) (λ n. IsSomeAnd (named_ranks v) (IsNamedRanked names n))
+  ranked_name : (a : NodeView) (v : Ranks) → IsRanked names a v → MatchOption (named_of a) (Unit {0}) (λ n. IsSomeAnd (named_ranks v) (IsDefinitionRanked names n))
   ranked_name (primitive k x) v h = tt
   ranked_name (array p x) v h = tt
   ranked_name (mapping p x) v h = tt
@@ -107,25 +107,25 @@ fields_named n (rec k fs x) h = h
 module _ (w r : List (List ℕ)) (matched : Bool) where
   -- a test that decides a match for all names with these ranks
   abbrev pub Matches : NamedRanks → NamedRanks → Type 0
-  Matches named wanted = (n m : NamedView) → IsNamedRanked w n named → IsNamedRanked r m wanted → IsTrue matched ↔ NameMatch n m
+  Matches named wanted = (n m : NamedView) → IsDefinitionRanked w n named → IsDefinitionRanked r m wanted → IsTrue matched ↔ NameMatch n m
 
   both : (x y : Option NamedView) (k l : Option NamedRanks) (named wanted : NamedRanks) → k ≡ Some named → l ≡ Some wanted → Matches named wanted
-      → MatchOption x (Unit {0}) (λ n. IsSomeAnd k (IsNamedRanked w n)) → MatchOption y (Unit {0}) (λ m. IsSomeAnd l (IsNamedRanked r m)) → MatchOption x (Unit {0}) (λ n. MatchOption y (Unit {0}) (λ m. IsTrue matched ↔ NameMatch n m))
+      → MatchOption x (Unit {0}) (λ n. IsSomeAnd k (IsDefinitionRanked w n)) → MatchOption y (Unit {0}) (λ m. IsSomeAnd l (IsDefinitionRanked r m)) → MatchOption x (Unit {0}) (λ n. MatchOption y (Unit {0}) (λ m. IsTrue matched ↔ NameMatch n m))
   both None y k l named wanted e f right g h = tt
   both (Some n) None k l named wanted e f right g h = tt
-  both (Some n) (Some m) k l named wanted e f right g h = right n m (some_and (IsNamedRanked w) k n named e g) (some_and (IsNamedRanked r) l m wanted f h)
+  both (Some n) (Some m) k l named wanted e f right g h = right n m (some_and (IsDefinitionRanked w) k n named e g) (some_and (IsDefinitionRanked r) l m wanted f h)
 
   pub decides_name_match : (a b : NodeView) (v u : Ranks) → IsRanked w a v → IsRanked r b u → (named wanted : NamedRanks) → named_ranks v ≡ Some named → named_ranks u ≡ Some wanted → Matches named wanted → DecidesNameMatch matched a b
   decides_name_match a b v u g h named wanted e f right = both (named_of a) (named_of b) (named_ranks v) (named_ranks u) named wanted e f right (ranked_name w a v g) (ranked_name r b u h)
 
-  none_left : (x y : Option NamedView) (k : Option NamedRanks) → k ≡ None → MatchOption x (Unit {0}) (λ n. IsSomeAnd k (IsNamedRanked w n)) → MatchOption x (Unit {0}) (λ n. MatchOption y (Unit {0}) (λ m. IsTrue matched ↔ NameMatch n m))
+  none_left : (x y : Option NamedView) (k : Option NamedRanks) → k ≡ None → MatchOption x (Unit {0}) (λ n. IsSomeAnd k (IsDefinitionRanked w n)) → MatchOption x (Unit {0}) (λ n. MatchOption y (Unit {0}) (λ m. IsTrue matched ↔ NameMatch n m))
   none_left None y k e g = tt
-  none_left (Some n) y k e g = absurd (subst (λ (o : Option NamedRanks). IsSomeAnd o (IsNamedRanked w n)) e g)
+  none_left (Some n) y k e g = absurd (subst (λ (o : Option NamedRanks). IsSomeAnd o (IsDefinitionRanked w n)) e g)
 
-  none_right : (x y : Option NamedView) (l : Option NamedRanks) → l ≡ None → MatchOption y (Unit {0}) (λ m. IsSomeAnd l (IsNamedRanked r m)) → MatchOption x (Unit {0}) (λ n. MatchOption y (Unit {0}) (λ m. IsTrue matched ↔ NameMatch n m))
+  none_right : (x y : Option NamedView) (l : Option NamedRanks) → l ≡ None → MatchOption y (Unit {0}) (λ m. IsSomeAnd l (IsDefinitionRanked r m)) → MatchOption x (Unit {0}) (λ n. MatchOption y (Unit {0}) (λ m. IsTrue matched ↔ NameMatch n m))
   none_right None y l e h = tt
   none_right (Some n) None l e h = tt
-  none_right (Some n) (Some m) l e h = absurd (subst (λ (o : Option NamedRanks). IsSomeAnd o (IsNamedRanked r m)) e h)
+  none_right (Some n) (Some m) l e h = absurd (subst (λ (o : Option NamedRanks). IsSomeAnd o (IsDefinitionRanked r m)) e h)
 
   pub unnamed_left : (a b : NodeView) (v : Ranks) → IsRanked w a v → named_ranks v ≡ None → DecidesNameMatch matched a b
   unnamed_left a b v g e = none_left (named_of a) (named_of b) (named_ranks v) e (ranked_name w a v g)
@@ -133,7 +133,7 @@ module _ (w r : List (List ℕ)) (matched : Bool) where
   pub unnamed_right : (a b : NodeView) (u : Ranks) → IsRanked r b u → named_ranks u ≡ None → DecidesNameMatch matched a b
   unnamed_right a b u h e = none_right (named_of a) (named_of b) (named_ranks u) e (ranked_name r b u h)
 
-module _ (w r : List (List ℕ)) (rank_map : List (Option ℕ)) (ranks_decide_names : RanksDecideNames w r rank_map) (n m : NamedView) (named wanted : NamedRanks) (g : IsNamedRanked w n named) (h : IsNamedRanked r m wanted) where
+module _ (w r : List (List ℕ)) (rank_map : List (Option ℕ)) (ranks_decide_names : RanksDecideNames w r rank_map) (n m : NamedView) (named wanted : NamedRanks) (g : IsDefinitionRanked w n named) (h : IsDefinitionRanked r m wanted) where
   pub match_last : (mapped_rank rank_map named.last ≡ Some wanted.last) ↔ (last_part n.name ≡ last_part m.name)
   match_last = ranks_decide_names named.last wanted.last (last_part n.name) (last_part m.name) g.last h.last
 

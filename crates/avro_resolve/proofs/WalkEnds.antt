@@ -4,7 +4,7 @@ use Rattle.std.specs.Prelude.{IsTrue}
 use Rattle.avro_nodes.specs.Nodes.{NodeView}
 use Rattle.avro_resolve.specs.Resolution.{Closed, Resolves}
 use Rattle.avro_resolve.specs.Witnesses.{Pair, member, RefutesAfter, AreDistinct, HasClosedSet, HasRefutation}
-use Rattle.avro_resolve.specs.Asking.{ContainsAsked, at_roots, asked_by, AreReached}
+use Rattle.avro_resolve.specs.Asking.{ContainsAsked, at_roots, asked_by, AreAllReached}
 use Rattle.avro_resolve.specs.declared.recursion.Walk.{Walk}
 use Rattle.avro_resolve.specs.declared.recursion.Answer.{Answer}
 use Rattle.avro_resolve.specs.declared.recursion.Answer.TheVariants.{Yes, No, Unfinished}
@@ -18,9 +18,9 @@ unfolding AreDistinct RefutesAfter
 good_start w r = record {
   assumed_reachable = λ i j h. absurd (true≢false (sym h ∙ member-nil i j));
   failed_reachable = λ i j h. absurd (true≢false (sym h ∙ member-nil i j));
-  assumed_differ = tt;
-  failed_differ = tt;
-  apart = λ i j h g. true≢false (sym h ∙ member-nil i j);
+  assumed_distinct = tt;
+  failed_distinct = tt;
+  disjoint = λ i j h g. true≢false (sym h ∙ member-nil i j);
   refutes = tt;
   at_least = omega arith;
   at_most = λ ps h. omega arith;
@@ -45,7 +45,7 @@ pub one_at_least : (ps : List Pair) (i j : ℕ) → member ps i j ≡ true → 1
 one_at_least [] i j m = absurd (true≢false (sym m ∙ member-nil i j))
 one_at_least (p ∷ ps) i j m = omega arith
 
-pub reached_hold : (w r : List NodeView) (ps : List Pair) → AreReached w r ps → ContainsAsked w r ps
+pub reached_hold : (w r : List NodeView) (ps : List Pair) → AreAllReached w r ps → ContainsAsked w r ps
 reached_hold w r ps h = record { roots = (h.exact 0 0).1 at_roots; on = λ i j p q m a. (h.exact p q).1 (asked_by ((h.exact i j).0 m) a) }
 
 -- ---- the answer for the roots
@@ -59,7 +59,7 @@ module _ (w r : List NodeView) (s t : Walk) (e : s.assumed.items ≡ []) (f : s.
 
   shown : (answer : Answer) → AnswerResult answer → RootAnswerProves w r t.visits answer
   shown Yes h = let l = h.0.good.at_least in yes_shown w r t.assumed.items t.failed.items t.visits (from_none w r s t e f h.1) h.2 (omega arith)
-  shown No h = let l = h.0.good.at_least in no_shown w r t.failed.items t.visits h.0.good.refutes h.0.good.failed_differ h.2.1 (omega arith)
+  shown No h = let l = h.0.good.at_least in no_shown w r t.failed.items t.visits h.0.good.refutes h.0.good.failed_distinct h.2.1 (omega arith)
   shown Unfinished h = h.1
 
   at_most : (answer : Answer) → AnswerResult answer → (ps : List Pair) → ContainsAsked w r ps → t.visits ≤ length ps * length ps

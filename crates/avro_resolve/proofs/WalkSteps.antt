@@ -44,9 +44,9 @@ module _ (w r : List NodeView) where
   opened a f v i j g reachable out never = record {
     assumed_reachable = λ x y m. elim (push_cases a i j x y m) [ inl n ↦ g.assumed_reachable x y n | inr e ↦ at_same i j x y e reachable ];
     failed_reachable = g.failed_reachable;
-    assumed_differ = differ_push a i j g.assumed_differ out;
-    failed_differ = g.failed_differ;
-    apart = λ x y m n. elim (push_cases a i j x y m) [ inl o ↦ g.apart x y o n | inr e ↦ true≢false (sym (subst (λ (q : ℕ). member f q j ≡ true) e.0 (subst (λ (q : ℕ). member f x q ≡ true) e.1 n)) ∙ never) ];
+    assumed_distinct = differ_push a i j g.assumed_distinct out;
+    failed_distinct = g.failed_distinct;
+    disjoint = λ x y m n. elim (push_cases a i j x y m) [ inl o ↦ g.disjoint x y o n | inr e ↦ true≢false (sym (subst (λ (q : ℕ). member f q j ≡ true) e.0 (subst (λ (q : ℕ). member f x q ≡ true) e.1 n)) ∙ never) ];
     refutes = g.refutes;
     at_least = let l = length_push a (i, j) in let k = g.at_least in omega arith;
     at_most = λ ps h. let l = length_push a (i, j) in let k = g.at_most ps h in omega arith;
@@ -68,16 +68,16 @@ module _ (w r : List NodeView) where
   opened_no a f a2 f2 v v2 i j g h grown reachable out never = record {
     assumed_reachable = g.assumed_reachable;
     failed_reachable = λ x y m. elim (push_cases f2 i j x y m) [ inl n ↦ h.failed_reachable x y n | inr e ↦ at_same i j x y e reachable ];
-    assumed_differ = g.assumed_differ;
-    failed_differ = differ_push f2 i j h.failed_differ (false_unless (member f2 i j) (h.apart i j (more (a ++ (i, j) ∷ []) f a2 f2 grown i j (member_last a i j))));
-    apart = λ x y m n. elim (push_cases f2 i j x y n) [
-      | inl o ↦ h.apart x y (more (a ++ (i, j) ∷ []) f a2 f2 grown x y (member_front a ((i, j) ∷ []) x y m)) o
+    assumed_distinct = g.assumed_distinct;
+    failed_distinct = differ_push f2 i j h.failed_distinct (false_unless (member f2 i j) (h.disjoint i j (more (a ++ (i, j) ∷ []) f a2 f2 grown i j (member_last a i j))));
+    disjoint = λ x y m n. elim (push_cases f2 i j x y n) [
+      | inl o ↦ h.disjoint x y (more (a ++ (i, j) ∷ []) f a2 f2 grown x y (member_front a ((i, j) ∷ []) x y m)) o
       | inr e ↦ true≢false (sym (subst (λ (q : ℕ). member a q j ≡ true) e.0 (subst (λ (q : ℕ). member a x q ≡ true) e.1 m)) ∙ out)
     ];
     refutes = refutes_push w r [] f2 i j h.refutes never;
     at_least = (let l = length_push a (i, j) in let l2 = length_push f2 (i, j) in let k = h.at_least in let o = grown.longer in omega arith);
     at_most = λ ps hold. (let l2 = length_push f2 (i, j) in let k = h.at_most ps hold in
-        let o = fewer a2 ps h.assumed_differ (λ x y m. reachable_in x y ps hold (h.assumed_reachable x y m)) in
+        let o = fewer a2 ps h.assumed_distinct (λ x y m. reachable_in x y ps hold (h.assumed_reachable x y m)) in
         let e : length ps * length (f2 ++ (i, j) ∷ []) ≡ length ps * length f2 + length ps = rw l2 (omega arith) in omega arith);
   }
 
@@ -91,5 +91,5 @@ bound l a f v one fit most =
 pub bounded : (w r : List NodeView) (a f : List Pair) (v : ℕ) → WalkInvariant w r a f v → (ps : List Pair) → ContainsAsked w r ps → v ≤ length ps * length ps
 bounded w r a f v g ps h =
     bound (length ps) (length a) (length f) v (some_member ps 0 0 h.roots)
-    (fewer_both a f ps g.assumed_differ g.failed_differ g.apart (λ x y m. reachable_in w r x y ps h (g.assumed_reachable x y m)) (λ x y m. reachable_in w r x y ps h (g.failed_reachable x y m)))
+    (fewer_both a f ps g.assumed_distinct g.failed_distinct g.disjoint (λ x y m. reachable_in w r x y ps h (g.assumed_reachable x y m)) (λ x y m. reachable_in w r x y ps h (g.failed_reachable x y m)))
     (g.at_most ps h)

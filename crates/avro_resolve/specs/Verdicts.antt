@@ -50,7 +50,7 @@ nodes_fit R i j (fixed n size _) (fixed m wanted _) = is_name_match n m && size 
 nodes_fit R i j (rec n fields _) (rec m wanted _) = is_name_match n m && list_all (λ f. is_readable_from R f (source fields f)) wanted
 nodes_fit R i j _ _ = false
 
--- the same for optional nodes: false if one is `None`
+-- whether the set supports the pair of these nodes, at the places i and j; false if a node is `None`
 abbrev pub both_fit : Pairs → ℕ → ℕ → Option NodeView → Option NodeView → Bool
 both_fit R i j (Some a) (Some b) = nodes_fit R i j a b
 both_fit R i j _ _ = false

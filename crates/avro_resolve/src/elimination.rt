@@ -4,7 +4,7 @@ ghost use Rattle.std.specs.Prelude.{◌<◌, ◌≡◌, ◌≤◌, ◌∷◌, �
 ghost use Rattle.std.specs.List.Sorted.{IsNonDecreasingBy};
 ghost use Rattle.avro_nodes.specs.Nodes.{nodes_view, union, NodeView};
 ghost use Rattle.avro_schema.specs.Texts.{IsSchema};
-ghost use Rattle.avro_resolve.specs.Inside.Referrers.{AreReferrers, AreUnions, HasBranch, IsNoUnion, Joins, LinkKindsMatch};
+ghost use Rattle.avro_resolve.specs.Inside.Referrers.{AreReferrers, HasAllUnions, HasBranch, IsNoUnion, Joins, LinkKindsMatch};
 ghost use Rattle.avro_resolve.specs.Inside.Remaining.{remains, AreRun, AreStillSupported, AreStillSupportedBut, IsRemainder, HasAgreedRemainder, IsStillSupported, IsPopped, DependsOn, Eliminates};
 ghost use Rattle.avro_resolve.specs.Inside.Lists.{list_at};
 ghost use Rattle.avro_resolve.specs.Inside.Schemas.{columns, rows};
@@ -177,7 +177,7 @@ fn propagate_to_unions(
 ) -> AllocResult<()>
     requires rest { HasAgreedRemainder schemas.now progress.old }
     requires referrers { AreReferrers schemas.now dependents.now.rows dependents.now.columns dependents.now.sources.items }
-    requires unions { AreUnions (columns schemas.now) dependents.now.unions.items }
+    requires unions { HasAllUnions (columns schemas.now) dependents.now.unions.items }
     requires run { AreRun progress.old.table row run.now }
     ensures eliminates { OnOk result (Eliminates schemas.now progress.old progress.new) }
     ensures down { OnOk result (All (λ u. All (λ (p : Pair). remains progress.new.table u p.1 ≡ false) run.now) (list_at dependents.now.rows.unions.items row)) }
@@ -224,7 +224,7 @@ fn propagate(
 ) -> AllocResult<()>
     requires rest { HasAgreedRemainder schemas.now progress.old }
     requires referrers { AreReferrers schemas.now dependents.now.rows dependents.now.columns dependents.now.sources.items }
-    requires unions { AreUnions (columns schemas.now) dependents.now.unions.items }
+    requires unions { HasAllUnions (columns schemas.now) dependents.now.unions.items }
     requires run { AreRun progress.old.table row run.now }
     requires before { AreStillSupportedBut schemas.now progress.old run.now }
     ensures eliminates { OnOk result (Eliminates schemas.now progress.old progress.new) }

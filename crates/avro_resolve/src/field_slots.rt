@@ -60,7 +60,7 @@ pub fn find_source(
         return Some(fields.fields[own].place);
     }
     for alias in &names.aliases {
-        if !schemas.rank_map.knows(*alias) {
+        if !schemas.rank_map.writer_has(*alias) {
             continue;
         }
         if let Some(field) = slots[*alias as usize] {

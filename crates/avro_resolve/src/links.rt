@@ -3,7 +3,7 @@
 
 ghost use Rattle.std.specs.Prelude.{◌<◌, ◌≡◌, length, slice_get, All, Contains, IfOk, OnOk, Some};
 ghost use Rattle.avro_nodes.specs.Nodes.{NodeView};
-ghost use Rattle.avro_resolve.specs.Inside.Referrers.{ranks_of, HasReferrers, HasLabel, IsOfNode, IsPlaceLinked, LinkedBy, OnlyAddsLinks};
+ghost use Rattle.avro_resolve.specs.Inside.Referrers.{ranks_of, HasReferrers, HasLabel, IsLinkOfNode, IsPlaceLinked, LinkedBy, OnlyAddsLinks};
 ghost use Rattle.avro_resolve.specs.Inside.Schemas.{names_of, nodes_of, IsValidIndexedSchema};
 
 use crate::AllocResult;
@@ -83,7 +83,7 @@ fn add_node_links(
     requires long { length links.old.lists.items ≡ length indexed.now.schema.now }
     ensures only_adds { OnOk result (OnlyAddsLinks (λ x p. (x.referrer ≡ referrer) × ((a : NodeView)
         → slice_get (nodes_of indexed.now) referrer ≡ Some a
-        → IsOfNode (names_of indexed.now) (ranks_of rank_map.entry) links.new.aliased.items a x p)) links.old links.new) }
+        → IsLinkOfNode (names_of indexed.now) (ranks_of rank_map.entry) links.new.aliased.items a x p)) links.old links.new) }
     ensures there { OnOk result ((a : NodeView) → slice_get (nodes_of indexed.now) referrer ≡ Some a
         → IsPlaceLinked (names_of indexed.now) (ranks_of rank_map.entry) links.new referrer a) }
 {

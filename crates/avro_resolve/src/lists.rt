@@ -2,7 +2,7 @@
 
 ghost use Rattle.std.specs.Prelude.{◌<◌, ◌≡◌, length, IfOk, OnOk, ℕ};
 ghost use Rattle.avro_nodes.specs.Nodes.{nodes_view};
-ghost use Rattle.avro_resolve.specs.Inside.Referrers.{AreUnions, HasUnions};
+ghost use Rattle.avro_resolve.specs.Inside.Referrers.{HasAllUnions, HasUnions};
 ghost use Rattle.avro_resolve.specs.Inside.Lists.{list_at, OnlyAdds, IsListedAt};
 ghost use Rattle.avro_resolve.specs.Inside.Places.{IsSelfContained};
 
@@ -62,7 +62,7 @@ pub fn unions_of(alloc: Global, schema: &Schema) -> AllocResult<Vec<Vec<u32>>>
 
 /// The places of all unions of a schema.
 pub fn unions_in(alloc: Global, schema: &Schema) -> AllocResult<Vec<u32>>
-    ensures { IfOk result (λ v. AreUnions (nodes_view schema.now) v.items) }
+    ensures { IfOk result (λ v. HasAllUnions (nodes_view schema.now) v.items) }
 {
     let mut unions = Vec::new(alloc);
     for i in 0..schema.places() {

@@ -10,7 +10,7 @@ ghost use Rattle.avro_resolve.specs.Inside.FieldSlots.{AreFieldsInSlots};
 ghost use Rattle.avro_resolve.specs.Inside.Remaining.{remains};
 ghost use Rattle.avro_resolve.specs.Inside.Rows.{row_fields, IsFieldSource, TableCoversPair, IsWriterPlace};
 ghost use Rattle.avro_resolve.specs.Inside.Schemas.{columns, IsValidIndexedSchema};
-ghost use Rattle.avro_resolve.specs.Inside.Sources.{field_at, Describes, IsSourceEntry, IsReaderField};
+ghost use Rattle.avro_resolve.specs.Inside.Sources.{field_at, Describes, IsSourceEntry, DescribesAliasedField};
 ghost use Rattle.avro_resolve.specs.Resolution.{Readable};
 ghost use Rattle.avro_resolve.specs.declared.schemas.SchemaPair.{SchemaPair};
 
@@ -66,7 +66,7 @@ fn reader_field<'a>(field: &Field, names: &'a FieldRanks) -> ReaderField<'a>
 /// Looks up a field that has aliases. `None`: the schema has no such field.
 fn reader_field_of<'a>(indexed: &'a IndexedSchema, aliased: Aliased) -> Option<ReaderField<'a>>
     requires { IsValidIndexedSchema indexed.now }
-    ensures { IsReaderField indexed.now aliased result }
+    ensures { DescribesAliasedField indexed.now aliased result }
 {
     if aliased.place >= indexed.places() {
         return None;
@@ -83,7 +83,7 @@ pub fn reader_fields_of<'a>(
     aliased: &[Aliased],
 ) -> AllocResult<Vec<Option<ReaderField<'a>>>>
     requires { IsValidIndexedSchema indexed.now }
-    ensures { IfOk result (λ v. AllZip (IsReaderField indexed.now) aliased.now v.items) }
+    ensures { IfOk result (λ v. AllZip (DescribesAliasedField indexed.now) aliased.now v.items) }
 {
     let mut wanted = Vec::with_capacity(alloc, aliased.len())?;
     for field in aliased {
@@ -114,7 +114,7 @@ pub fn source_entries(
 ) -> AllocResult<Vec<u16>>
     requires in_slots { AreFieldsInSlots schemas.now fields slots.now }
     requires fields_in { All (λ g. g.place < 65535) fields.fields.now }
-    requires wanted { AllZip (IsReaderField schemas.now.reader) aliased_fields.aliased.now aliased_fields.wanted.now }
+    requires wanted { AllZip (DescribesAliasedField schemas.now.reader) aliased_fields.aliased.now aliased_fields.wanted.now }
     ensures { IfOk result (λ v. AllZip (IsSourceEntry (columns schemas.now) (map field_view fields.entry.fields.now))
         aliased_fields.entry.aliased.now v.items) }
 {

@@ -2,7 +2,7 @@
 
 ghost use Rattle.std.specs.Prelude.{◌*◌, ◌<◌, ◌↔◌, ◌≡◌, ◌≤◌, false, length, IfOk, IsTrue, List};
 ghost use Rattle.avro_nodes.specs.Nodes.{nodes_view, NodeView};
-ghost use Rattle.avro_resolve.specs.Asking.{AreReached, ContainsAsked};
+ghost use Rattle.avro_resolve.specs.Asking.{AreAllReached, ContainsAsked};
 ghost use Rattle.avro_resolve.specs.Resolution.{Resolves};
 ghost use Rattle.avro_resolve.specs.Verdicts.{does_resolve};
 ghost use Rattle.avro_resolve.specs.Witnesses.{HasClosedSet, HasRefutation, Pair};
@@ -57,7 +57,7 @@ pub fn resolves(alloc: Global, writer: &Schema, reader: &Schema) -> Result<Verdi
         → HasClosedSet (nodes_view writer.now) (nodes_view reader.now) v.visits) }
     ensures refuted { IfOk result (λ v. v.yes ≡ false → v.visits < 1000
         → HasRefutation (nodes_view writer.now) (nodes_view reader.now) v.visits) }
-    ensures reached { IfOk result (λ v. (ps : List Pair) → AreReached (nodes_view writer.now) (nodes_view reader.now) ps
+    ensures reached { IfOk result (λ v. (ps : List Pair) → AreAllReached (nodes_view writer.now) (nodes_view reader.now) ps
         → v.visits ≤ length ps * length ps) }
     // the same for any list that contains at least the pairs that the roots reach
     ensures at_most { IfOk result (λ v. (ps : List Pair) → ContainsAsked (nodes_view writer.now) (nodes_view reader.now) ps

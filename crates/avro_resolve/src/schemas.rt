@@ -22,7 +22,7 @@ use std::cmp::Ordering;
 pub struct RankMap {
     pub ranks: Vec<Option<u32>>,
     /// for each of the reader's names whether the writer has it
-    pub known: Vec<bool>,
+    pub writer_has: Vec<bool>,
 }
 
 /// For each rank below `count`, whether it is one of these.
@@ -73,7 +73,7 @@ impl RankMap {
         requires writer { AreIndexNames (texts_view writer.now) }
         requires reader { AreIndexNames (texts_view reader.now) }
         ensures mapped { IfOk result (λ m. AreMapped (texts_view writer.now) (texts_view reader.now) m.ranks.items) }
-        ensures known { IfOk result (λ m. IsKnown m.ranks.items m.known.items) }
+        ensures known { IfOk result (λ m. IsKnown m.ranks.items m.writer_has.items) }
     {
         let mut ranks = Vec::with_capacity(alloc, writer.len())?;
         let mut from = 0;
@@ -82,22 +82,22 @@ impl RankMap {
             from = at;
             ranks.push(mapped)?;
         }
-        let known = known_of(alloc, &ranks, reader.len())?;
-        Ok(RankMap { ranks, known })
+        let writer_has = known_of(alloc, &ranks, reader.len())?;
+        Ok(RankMap { ranks, writer_has })
     }
 
     /// The reader's rank of a writer's name, or `None` if the reader lacks the name.
-    pub fn rank(&self, rank: u32) -> Option<u32>
-        ensures { result ≡ mapped_rank self.now.ranks.items rank }
+    pub fn rank(&self, writer_rank: u32) -> Option<u32>
+        ensures { result ≡ mapped_rank self.now.ranks.items writer_rank }
     {
-        *self.ranks.get(rank as usize)?
+        *self.ranks.get(writer_rank as usize)?
     }
 
     /// Whether the writer has the reader's name of this rank.
-    pub fn knows(&self, rank: u32) -> bool
-        ensures { result ≡ get_or self.now.known.items rank false }
+    pub fn writer_has(&self, reader_rank: u32) -> bool
+        ensures { result ≡ get_or self.now.writer_has.items reader_rank false }
     {
-        match self.known.get(rank as usize) {
+        match self.writer_has.get(reader_rank as usize) {
             Some(known) => *known,
             None => false,
         }

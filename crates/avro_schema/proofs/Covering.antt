@@ -20,7 +20,7 @@ use Rattle.avro_nodes.specs.declared.node.Node.{Node}
 use Rattle.avro_nodes.specs.Nodes.{NamedView, FieldView, NodeView, primitive, array, mapping, union, enumeration, fixed, rec, field_view, node_view, nodes_view}
 use Rattle.avro_schema.specs.declared.tables.FieldTable.{FieldTable}
 use Rattle.avro_schema.specs.Inside.Fitting.{Fitting, field_fits_by, fields_fit}
-use Rattle.avro_schema.specs.Inside.FieldTables.{is_required, IsCovered, index_by_name, CoversFirst, IsFieldTable, IsFieldTableOf, AreFieldTables, fits_if_any, index_fits, named_fit}
+use Rattle.avro_schema.specs.Inside.FieldTables.{is_required, IsCovered, index_by_name, CoversFirstFields, IsFieldTable, IsFieldTableOf, AreFieldTables, fits_if_any, index_fits, named_fit}
 use Rattle.avro_schema.proofs.Inversion.{same_bytes}
 
 or_more : (a b c : Bool) → (b ≡ true → c ≡ true) → (a || b) ≡ true → (a || c) ≡ true
@@ -111,7 +111,7 @@ module _ (one : Fitting) (ms : Members) where
   one_fits fields t i f at (inr found) required named = left_out fields t i f (get_member f.name ms) at refl found.0 found.1 named
 
   pub table_decides : (fields : List FieldView) (t : FieldTable) → IsFieldTable t fields → (list_all (λ j. fits_if_any one ms (slice_get fields j)) t.required.items && named_fit one ms fields t ms) ≡ fields_fit one ms fields
-  unfolding CoversFirst
+  unfolding CoversFirstFields
   table_decides fields t is =
       same_tests (list_all (λ j. fits_if_any one ms (slice_get fields j)) t.required.items && named_fit one ms fields t ms) (fields_fit one ms fields)
       (λ h. all_fit fields (λ i f at. one_fits fields t i f at (is i f (below fields i f at) at)
@@ -152,8 +152,8 @@ no_tables nodes place t node e f = absurd cc
 
 -- ---- construction of a table
 
-pub covers_none : (named : List ℕ → Option ℕ) (fields : List FieldView) → CoversFirst 0 [] named fields
-unfolding CoversFirst
+pub covers_none : (named : List ℕ → Option ℕ) (fields : List FieldView) → CoversFirstFields 0 [] named fields
+unfolding CoversFirstFields
 covers_none named fields i f h e = absurd (omega arith)
 
 other_index : (i j : ℕ) → (j == i) ≡ false → j ≢ i
@@ -175,20 +175,20 @@ named_still required named named2 i n f g same is new more (inl among) = inl amo
 named_still required named named2 i n f g true is new more (inr found) = absurd (none_is_no_index i (sym new ∙ ap named (same_bytes g.name f.name is) ∙ found.1))
 named_still required named named2 i n f g false is new more (inr found) = inr (found.0, more ∙ update_other bytes_eq named g.name (Some n) f.name is ∙ found.1)
 
-module _ (n : ℕ) (required : List ℕ) (named : List ℕ → Option ℕ) (fields : List FieldView) (so_far : CoversFirst n required named fields) where
+module _ (n : ℕ) (required : List ℕ) (named : List ℕ → Option ℕ) (fields : List FieldView) (so_far : CoversFirstFields n required named fields) where
   pushed_at : (same : Bool) (i : ℕ) (f : FieldView) → (i == n) ≡ same → i < n + 1 → slice_get fields i ≡ Some f → IsCovered (required ++ n ∷ []) named i f
-  unfolding CoversFirst
+  unfolding CoversFirstFields
   pushed_at true i f is h e = inl (subst (λ (k : ℕ). is_required (required ++ n ∷ []) k ≡ true) (sym (eqb-true i n is)) (always_last required n))
   pushed_at false i f is h e = still_found required named i n f (so_far i f (omega (arith, other_index n i is)) e)
 
   -- a field that is required
-  pub covers_pushed : CoversFirst (n + 1) (required ++ n ∷ []) named fields
-  unfolding CoversFirst
+  pub covers_pushed : CoversFirstFields (n + 1) (required ++ n ∷ []) named fields
+  unfolding CoversFirstFields
   covers_pushed i f h e = pushed_at (i == n) i f refl h e
 
   module _ (g : FieldView) (named2 : List ℕ → Option ℕ) (here : slice_get fields n ≡ Some g) (has : is_some g.value ≡ true) (new : named g.name ≡ None) (more : (q : List ℕ) → named2 q ≡ update bytes_eq named g.name (Some n) q) where
     named_at : (same : Bool) (i : ℕ) (f : FieldView) → (i == n) ≡ same → i < n + 1 → slice_get fields i ≡ Some f → IsCovered required named2 i f
-    unfolding CoversFirst
+    unfolding CoversFirstFields
     named_at true i f is h e =
         let i_is : i ≡ n = eqb-true i n is in
         let f_is : g ≡ f = same_Some _ _ (sym here ∙ ap (slice_get fields) (sym i_is) ∙ e) in
@@ -199,13 +199,13 @@ module _ (n : ℕ) (required : List ℕ) (named : List ℕ → Option ℕ) (fiel
     named_at false i f is h e = named_still required named named2 i n f g (bytes_eq g.name f.name) refl new (more f.name) (so_far i f (omega (arith, other_index n i is)) e)
 
     -- a field with a default and a new name
-    pub covers_named : CoversFirst (n + 1) required named2 fields
-    unfolding CoversFirst
+    pub covers_named : CoversFirstFields (n + 1) required named2 fields
+    unfolding CoversFirstFields
     covers_named i f h e = named_at (i == n) i f refl h e
 
-pub covers_all : (n : ℕ) (required : List ℕ) (named : List ℕ → Option ℕ) (fields : List Field) → length fields ≤ n → CoversFirst n required named (map field_view fields)
-    → CoversFirst (length (map field_view fields)) required named (map field_view fields)
-unfolding CoversFirst
+pub covers_all : (n : ℕ) (required : List ℕ) (named : List ℕ → Option ℕ) (fields : List Field) → length fields ≤ n → CoversFirstFields n required named (map field_view fields)
+    → CoversFirstFields (length (map field_view fields)) required named (map field_view fields)
+unfolding CoversFirstFields
 covers_all n required named fields h so_far i f within e = so_far i f (omega (arith, length-map fields field_view)) e
 
 pub field_here : (fields : List Field) (n : ℕ) (x d : Field) → n < length fields → x ≡ get_or fields n d → slice_get (map field_view fields) n ≡ Some (field_view x)

@@ -40,7 +40,7 @@ pub record AreSortedRanks (names texts : List (List ℕ)) (ranks : List ℕ) : T
   pub only : All (λ rank. (text : List ℕ) × Contains texts text × IsRank names text rank) ranks
 
 -- the ranks of a definition's names
-pub record IsNamedRanked (names : List (List ℕ)) (named : NamedView) (ranks : NamedRanks) : Type 0 where
+pub record IsDefinitionRanked (names : List (List ℕ)) (named : NamedView) (ranks : NamedRanks) : Type 0 where
   pub last : IsRank names (last_part named.name) ranks.last
   pub full : IsRank names named.name ranks.full
   pub aliases : AreSortedRanks names named.aliases ranks.aliases.items
@@ -64,21 +64,21 @@ IsUnnamed (Rec named fields) = ⊥
 
 abbrev pub IsFixedRanked : List (List ℕ) → NamedView → Ranks → Type 0
 IsFixedRanked names named Unnamed = ⊥
-IsFixedRanked names named (Fixed ranks) = IsNamedRanked names named ranks
+IsFixedRanked names named (Fixed ranks) = IsDefinitionRanked names named ranks
 IsFixedRanked names named (Enum ranks symbols) = ⊥
 IsFixedRanked names named (Rec ranks fields) = ⊥
 
 abbrev pub IsEnumRanked : List (List ℕ) → NamedView → List (List ℕ) → Ranks → Type 0
 IsEnumRanked names named symbols Unnamed = ⊥
 IsEnumRanked names named symbols (Fixed ranks) = ⊥
-IsEnumRanked names named symbols (Enum ranks by_rank) = IsNamedRanked names named ranks × AreSortedRanks names symbols by_rank.items
+IsEnumRanked names named symbols (Enum ranks by_rank) = IsDefinitionRanked names named ranks × AreSortedRanks names symbols by_rank.items
 IsEnumRanked names named symbols (Rec ranks fields) = ⊥
 
 abbrev pub IsRecRanked : List (List ℕ) → NamedView → List FieldView → Ranks → Type 0
 IsRecRanked names named fields Unnamed = ⊥
 IsRecRanked names named fields (Fixed ranks) = ⊥
 IsRecRanked names named fields (Enum ranks symbols) = ⊥
-IsRecRanked names named fields (Rec ranks by_rank) = IsNamedRanked names named ranks × AreFieldsRanked names fields by_rank.items
+IsRecRanked names named fields (Rec ranks by_rank) = IsDefinitionRanked names named ranks × AreFieldsRanked names fields by_rank.items
 
 abbrev pub IsRanked : List (List ℕ) → NodeView → Ranks → Type 0
 IsRanked names (primitive kind extra) ranks = IsUnnamed ranks

@@ -3,7 +3,7 @@
 
 ghost use Rattle.std.specs.Prelude.{◌≡◌, ◌++◌, All, Contains, IfOk, OnOk, map};
 ghost use Rattle.avro_nodes.specs.Nodes.{field_view, named_view, node_view, nodes_view, texts_view};
-ghost use Rattle.avro_schema.specs.Index.{AreFieldsRanked, AreIndexNames, AreRanked, IsFieldRanked, IsIndex, IsNamedRanked, IsRanked};
+ghost use Rattle.avro_schema.specs.Index.{AreFieldsRanked, AreIndexNames, AreRanked, IsFieldRanked, IsIndex, IsDefinitionRanked, IsRanked};
 ghost use Rattle.avro_schema.specs.Inside.NodeTexts.{borrowed, named_texts, field_texts, fields_texts, node_texts, nodes_texts};
 
 use crate::index::{FieldRanks, Index, NamedRanks, Ranks};
@@ -96,7 +96,7 @@ fn named_ranks(
 ) -> Result<NamedRanks, AllocError>
     requires names { AreIndexNames (borrowed names.now) }
     requires known { All (Contains (borrowed names.now)) (named_texts (named_view named.now)) }
-    ensures { IfOk result (IsNamedRanked (borrowed names.now) (named_view named.now)) }
+    ensures { IfOk result (IsDefinitionRanked (borrowed names.now) (named_view named.now)) }
 {
     let name = named.name.as_str();
     let last = rank_of(names, hints, last_part(name));

@@ -30,6 +30,7 @@ fn after_place(budget: usize, place: u32, nodes: &[Node]) -> usize
     budget.saturating_sub(name_length(nodes, place))
 }
 
+/// What remains of the budget after the full names of the types at these places.
 fn after_places(budget: usize, places: &Vec<u32>, nodes: &[Node]) -> usize
     ensures { result ≡ budget - places_mentions (nodes_view nodes.now) places.now.items }
 {
@@ -40,6 +41,7 @@ fn after_places(budget: usize, places: &Vec<u32>, nodes: &[Node]) -> usize
     rest
 }
 
+/// What remains of the budget after the full names of the types of fields.
 fn after_fields(budget: usize, fields: &Vec<Field>, nodes: &[Node]) -> usize
     ensures { result ≡ budget - fields_mentions (nodes_view nodes.now) (map field_view fields.now.items) }
 {

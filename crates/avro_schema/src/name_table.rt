@@ -89,7 +89,8 @@ impl NameTable {
         self.place_in(space, without_namespace(space, full))
     }
 
-    /// Adds the full name of a definition, and returns the number of its namespace.
+    /// Defines a full name at a place, and returns the number of its namespace. If the name was
+    /// defined before, its place is replaced.
     ///
     /// # Errors
     ///

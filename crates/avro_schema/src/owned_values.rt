@@ -71,12 +71,12 @@ fn nearest(is_negative: bool, numeral: &Numeral<'_>) -> Option<Number>
     Number::from_f64(numeral.to_float::<f64>(is_negative))
 }
 
-/// Reads a value that nests at most `depth` levels deep.
+/// Reads a value whose arrays and objects nest at most `depth` levels deep; at 0 it has none.
 ///
 /// # Errors
 ///
-/// `Invalid` if the reader isn't at the start of such a value, and `OutOfMemory` if allocation
-/// fails.
+/// `Invalid` if the JSON is malformed, a number is too large for a float, or the value nests deeper.
+/// `OutOfMemory` if allocation fails. After an error, the reader may have advanced.
 #[cycle(keep)]
 #[inline(always)]
 pub fn owned_value_at(
@@ -115,12 +115,12 @@ pub fn owned_value_at(
     }
 }
 
-/// Reads the rest of an array after the items `before`, and returns all items. Each nests at most
-/// `depth` levels deep.
+/// Reads the items that are left of an array, and its closing bracket. Returns the items `before`,
+/// followed by these. Each of these nests at most `depth` levels deep.
 ///
 /// # Errors
 ///
-/// `Invalid` if the reader isn't at the start of such items, and `OutOfMemory` if allocation fails.
+/// As `owned_value_at`, for any of the items.
 #[cycle(keep)]
 #[inline(never)]
 pub fn owned_items_at(
@@ -144,6 +144,12 @@ pub fn owned_items_at(
     Ok(found)
 }
 
+/// Reads the rest of an object after its opening brace. Of members with the same key, the last one
+/// stays. Each value nests at most `depth` levels deep.
+///
+/// # Errors
+///
+/// As `owned_value_at`, for any of the members.
 #[cycle(keep)]
 #[inline(never)]
 fn owned_members_at(

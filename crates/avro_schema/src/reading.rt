@@ -410,6 +410,13 @@ fn owned_fields_at(
     Ok(fields)
 }
 
+/// Reads a field of a record with the namespace `space`, and adds the nodes of its type.
+///
+/// # Errors
+///
+/// `BadShape` if the value isn't an object or has no `type`. `TooLarge` if another attribute nests too
+/// deep, and `OutOfMemory` if allocation fails. Also the errors of `field_attributes_of` and `type_at`.
+/// After an error, some nodes may be added and some names defined.
 #[cycle(read)]
 fn field_at(
     alloc: Global,

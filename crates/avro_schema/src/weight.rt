@@ -130,7 +130,9 @@ fn after_definition(budget: usize, members: ObjectRef<'_, '_>, enclosing: &str) 
     }
 }
 
-/// What remains after the definitions of a type that nests at most `depth` levels deep.
+/// What remains of the budget of bytes after the full names and full aliases of all definitions in a
+/// type; 0 if the budget is too small. It counts only the outermost `depth` levels. `space` is the
+/// enclosing namespace.
 #[cycle(weigh)]
 #[tactic(auto, unfolding(crate::specs::Inside::Weight::weight))]
 fn after_type(budget: usize, value: ValueRef<'_, '_>, space: &str, depth: u32) -> usize
@@ -242,6 +244,9 @@ fn after_record(budget: usize, members: ObjectRef<'_, '_>, enclosing: &str, dept
     }
 }
 
+/// What remains of the budget after the definitions in the types of a record's fields. `space` is the
+/// record's namespace. A field's own name and aliases take nothing. A field that isn't an object, or
+/// has no `type`, takes nothing either.
 #[cycle(weigh)]
 fn after_fields(budget: usize, fields: ItemsRef<'_, '_>, space: &str, depth: u32) -> usize
     ensures { result ≡ budget - items_size (field_size (weight depth space.now)) (items_ref_data fields.entry) }

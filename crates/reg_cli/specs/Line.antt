@@ -69,7 +69,8 @@ task_in name rows =
     else if bytes_eq name (codes "audit") then audit_task_in rows
     else None
 
--- the task of the subcommand in the arguments, if clap finds no fault in them
+-- The task of the subcommand in the arguments. `None` if `clap` found a fault, such as a request for help: the list has the kinds of its faults. `None`
+-- also without a subcommand, or if a value is missing or invalid.
 abbrev pub task_unless_faulty : Kinds → List Text → Option TaskView
 task_unless_faulty [] arguments = option_and_then (λ found. task_in found.0 found.1) (subcommand_of program arguments)
 task_unless_faulty (fault ∷ faults) arguments = None

@@ -33,7 +33,7 @@ impl From<AllocError> for LineFault {
 
 /// The fault for an error of `clap`: `Usage` with its text. It is `OutOfMemory` if an allocation
 /// failed in `clap`, or if the text can't be allocated.
-pub fn fault_of(alloc: Global, error: &Error) -> LineFault
+pub fn line_fault_of(alloc: Global, error: &Error) -> LineFault
     ensures { IsUsage result → kind_of error.now ≢ ErrorKind.OutOfMemory }
 {
     match error.kind() {
@@ -54,7 +54,7 @@ pub fn usage_error(
     message: &str,
 ) -> LineFault {
     match command.error(kind, message) {
-        Ok(error) => fault_of(alloc, &error),
+        Ok(error) => line_fault_of(alloc, &error),
         Err(_) => LineFault::OutOfMemory,
     }
 }

@@ -6,7 +6,7 @@ ghost use Rattle.reg_cli.specs.Line.{audit_task_in, check_task_in, line, list_ta
 ghost use Rattle.reg_cli.specs.Tasks.{IsUsage, task_view};
 
 use crate::command::{list_command, program};
-use crate::fault::{LineFault, fault_of, usage_error};
+use crate::fault::{LineFault, line_fault_of, usage_error};
 use crate::task::{Job, Server, Task};
 use crate::values::{connections_in, copy_of, listing_in, port_in, value_of};
 use clap::ArgMatches;
@@ -178,6 +178,6 @@ pub fn task_of(alloc: Global, arguments: &[String]) -> Result<Task, LineFault>
             Some((name, inner)) => task_in(alloc, name, inner),
             None => Err(incomplete(alloc)?),
         },
-        Err(error) => Err(fault_of(alloc, &error)),
+        Err(error) => Err(line_fault_of(alloc, &error)),
     }
 }

@@ -11,7 +11,7 @@ use Rattle.reg_core.specs.declared.code.Code.TheVariants.{SubjectSoftDeleted, Ve
 use Rattle.reg_core.specs.declared.number.VersionChoice.{VersionChoice}
 use Rattle.reg_core.specs.declared.number.VersionChoice.TheVariants.{Latest, Numbered}
 use Rattle.reg_core.specs.Additions.{IsRetained}
-use Rattle.reg_core.specs.DeletionCommands.{require_live, require_deleted, found_and, row_to_soft_delete, row_to_remove, as_deleted, with_deleted, without_row, version_deleted, delete_version, deleted_of, soft_delete, remove_subject, delete_subject}
+use Rattle.reg_core.specs.DeletionCommands.{require_live, require_deleted, if_found, row_to_soft_delete, row_to_remove, as_deleted, with_deleted, without_row, version_deleted, delete_version, deleted_of, soft_delete, remove_subject, delete_subject}
 use Rattle.reg_core.specs.ReadCommands.{found_row}
 use Rattle.reg_core.specs.Registry.{Registry, Row, RowKey, Rows, Version, row_cmp}
 use Rattle.reg_core.specs.Rows.{rows_of, live_rows, chosen_row}
@@ -45,7 +45,7 @@ removed_was rows key q version e = itself rows q version (left_was (same_key q k
 
 -- ---- facts about the deleted version
 
-found_ok : (test : Row → Result Row Code) (found : Result Row Code) (row : Row) → ((r : Row) → test r ≡ Ok row → r ≡ row) → found_and test found ≡ Ok row → found ≡ Ok row
+found_ok : (test : Row → Result Row Code) (found : Result Row Code) (row : Row) → ((r : Row) → test r ≡ Ok row → r ≡ row) → if_found test found ≡ Ok row → found ≡ Ok row
 found_ok test (Err code) row same e = e
 found_ok test (Ok r) row same e = ap Ok (same r e)
 

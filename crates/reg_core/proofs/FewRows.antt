@@ -12,7 +12,7 @@ use Rattle.reg_core.specs.declared.code.Code.TheVariants.{SchemaNotFound, Subjec
 use Rattle.reg_core.specs.declared.number.VersionChoice.{VersionChoice}
 use Rattle.reg_core.specs.declared.number.VersionChoice.TheVariants.{Latest, Numbered}
 use Rattle.reg_core.specs.Compatibility.{latest, named_versions, is_transitive}
-use Rattle.reg_core.specs.DeletionCommands.{require_live, require_deleted, found_and, row_to_soft_delete, row_to_delete}
+use Rattle.reg_core.specs.DeletionCommands.{require_live, require_deleted, if_found, row_to_soft_delete, row_to_delete}
 use Rattle.reg_core.specs.ReadCommands.{found_row, lookup_row, rows_with_id}
 use Rattle.reg_core.specs.RegisterCommands.{is_among}
 use Rattle.reg_core.specs.Registry.{Row}
@@ -183,16 +183,16 @@ looks_up_none deleted known all e =
 
 -- versions that suffice to choose one suffice to choose the removed one
 pub removes_as : (choice : Option VersionChoice) (seen all : List Row) → found_row choice seen ≡ found_row choice all → row_to_delete true choice seen ≡ row_to_delete true choice all
-removes_as choice seen all e = ap (found_and require_deleted) e
+removes_as choice seen all e = ap (if_found require_deleted) e
 
-mark_is : (number : ℕ) (rows : List Row) → row_to_soft_delete (Some (Numbered number)) rows ≡ found_and require_live (found_row (Some (Numbered number)) rows)
+mark_is : (number : ℕ) (rows : List Row) → row_to_soft_delete (Some (Numbered number)) rows ≡ if_found require_live (found_row (Some (Numbered number)) rows)
 mark_is number [] = refl
 mark_is number (row ∷ rows) = refl
 
 -- versions that suffice to find a number suffice to choose the soft-deleted one
 pub marks_as : (number : ℕ) (seen all : List Row) → found_row (Some (Numbered number)) seen ≡ found_row (Some (Numbered number)) all
     → row_to_delete false (Some (Numbered number)) seen ≡ row_to_delete false (Some (Numbered number)) all
-marks_as number seen all e = mark_is number seen ∙ (ap (found_and require_live) e ∙ sym (mark_is number all))
+marks_as number seen all e = mark_is number seen ∙ (ap (if_found require_live) e ∙ sym (mark_is number all))
 
 marked_last : (rows : List Row) (row : Row) → latest (live_rows rows) ≡ row ∷ [] → row_to_soft_delete (Some Latest) rows ≡ Ok row
 marked_last [] row e = absurd cc

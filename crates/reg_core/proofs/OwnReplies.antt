@@ -20,7 +20,7 @@ use Rattle.reg_core.specs.Settings.{Setting, level_setting, mode_setting, set}
 use Rattle.reg_core.specs.ReadCommands.{Texts, found_row, lookup_row, rows_with_id, text_reply, version_reply, version_text_reply, id_reply, id_versions_reply, lookup_reply}
 use Rattle.reg_core.specs.declared.number.VersionChoice.TheVariants.{Latest, Numbered}
 use Rattle.reg_core.specs.Inside.Deleting.{subject_refusal}
-use Rattle.reg_core.specs.DeletionCommands.{require_live, require_deleted, found_and, row_to_soft_delete, row_to_remove, row_to_delete}
+use Rattle.reg_core.specs.DeletionCommands.{require_live, require_deleted, if_found, row_to_soft_delete, row_to_remove, row_to_delete}
 
 other_status : (m n : ReplyView) → m.status ≢ n.status → m ≢ n
 other_status m n ne e = ne (ap (λ (t : ReplyView). t.status) e)
@@ -133,9 +133,9 @@ lookup_reply-IsCommandReply texts None known rows = invalid_schema-IsCommandRepl
 lookup_reply-IsCommandReply texts (Some nodes) known rows = version_reply-IsCommandReply texts (lookup_row known rows) (lookup_row-fault known rows)
 
 -- the code of a rejected deletion gives a command reply
-found_and-fault : (test : Row → Result Row Code) → ((row : Row) → HasOwnFault (test row)) → (found : Result Row Code) → HasOwnFault found → HasOwnFault (found_and test found)
-found_and-fault test each (Err code) own = own
-found_and-fault test each (Ok row) own = each row
+if_found-fault : (test : Row → Result Row Code) → ((row : Row) → HasOwnFault (test row)) → (found : Result Row Code) → HasOwnFault found → HasOwnFault (if_found test found)
+if_found-fault test each (Err code) own = own
+if_found-fault test each (Ok row) own = each row
 
 require_live-fault : (row : Row) → HasOwnFault (require_live row)
 require_live-fault row = by row.1.deleted
@@ -156,10 +156,10 @@ row_to_soft_delete-fault None rows = invalid_version-IsCommandReply
 row_to_soft_delete-fault (Some choice) [] = subject_not_found-IsCommandReply
 row_to_soft_delete-fault (Some Latest) (row ∷ rows) = ok_or_fault (last_or None (live_rows (row ∷ rows))) SubjectSoftDeleted (not_found SubjectSoftDeleted refl)
 row_to_soft_delete-fault (Some (Numbered number)) (row ∷ rows) =
-    found_and-fault require_live require_live-fault (ok_or (chosen_row (Numbered number) (row ∷ rows)) VersionNotFound) (ok_or_fault (chosen_row (Numbered number) (row ∷ rows)) VersionNotFound version_not_found-IsCommandReply)
+    if_found-fault require_live require_live-fault (ok_or (chosen_row (Numbered number) (row ∷ rows)) VersionNotFound) (ok_or_fault (chosen_row (Numbered number) (row ∷ rows)) VersionNotFound version_not_found-IsCommandReply)
 
 row_to_remove-fault : (choice : Option VersionChoice) (rows : List Row) → HasOwnFault (row_to_remove choice rows)
-row_to_remove-fault choice rows = found_and-fault require_deleted require_deleted-fault (found_row choice rows) (found_row-fault choice rows)
+row_to_remove-fault choice rows = if_found-fault require_deleted require_deleted-fault (found_row choice rows) (found_row-fault choice rows)
 
 pub row_to_delete-fault : (permanent : Bool) (choice : Option VersionChoice) (rows : List Row) → HasOwnFault (row_to_delete permanent choice rows)
 row_to_delete-fault false choice rows = row_to_soft_delete-fault choice rows

@@ -18,7 +18,7 @@ use Rattle.reg_core.specs.Replies.{ReplyView}
 use Rattle.reg_core.specs.RegisterCommands.{supported_schema}
 use Rattle.reg_core.specs.Machine.{command_schema, permitted_step}
 use Rattle.reg_core.proofs.RowLemmas.{All-mapped}
-use Rattle.reg_core.specs.Views.{IsViewOf, IsDecisionInput, found_as_list, used_schema, view_text}
+use Rattle.reg_core.specs.Views.{IsViewOf, IsDecisionInput, found_as_list, schema_if_supported, view_text}
 
 -- ---- texts that agree
 
@@ -134,30 +134,30 @@ told_lookup g view schema subject text supported deleted sent shows =
     ∙ known_as (text_at g.schemas) text supported view.known (known_id g.schemas (supported_schema text supported)) (visible_rows deleted (rows_of g subject)) shows.known))
 
 -- the used schema is the command's schema
-pub used_schema-sent : (c : Command) → used_schema c (command_schema c) ≡ command_schema c
+pub schema_if_supported-sent : (c : Command) → schema_if_supported c (command_schema c) ≡ command_schema c
 unfolding supported_schema
-used_schema-sent (SetGlobal level) = refl
-used_schema-sent (SetLevel subject level) = refl
-used_schema-sent (Register subject text true) = refl
-used_schema-sent (Register subject text false) = refl
-used_schema-sent (DeleteVersion subject version permanent) = refl
-used_schema-sent (DeleteSubject subject permanent) = refl
-used_schema-sent Global = refl
-used_schema-sent (LevelOf subject default) = refl
-used_schema-sent (Lookup subject text true deleted) = refl
-used_schema-sent (Lookup subject text false deleted) = refl
-used_schema-sent (Subjects deleted) = refl
-used_schema-sent (Versions subject deleted) = refl
-used_schema-sent (Version subject version deleted) = refl
-used_schema-sent (Text subject version deleted) = refl
-used_schema-sent (ById id) = refl
-used_schema-sent (VersionsOfId id deleted) = refl
-used_schema-sent Types = refl
-used_schema-sent (Check subject version text true) = refl
-used_schema-sent (Check subject version text false) = refl
-used_schema-sent (CheckAll subject text true) = refl
-used_schema-sent (CheckAll subject text false) = refl
-used_schema-sent (SetGlobalMode mode) = refl
-used_schema-sent (SetMode subject mode) = refl
-used_schema-sent GlobalMode = refl
-used_schema-sent (ModeOf subject default) = refl
+schema_if_supported-sent (SetGlobal level) = refl
+schema_if_supported-sent (SetLevel subject level) = refl
+schema_if_supported-sent (Register subject text true) = refl
+schema_if_supported-sent (Register subject text false) = refl
+schema_if_supported-sent (DeleteVersion subject version permanent) = refl
+schema_if_supported-sent (DeleteSubject subject permanent) = refl
+schema_if_supported-sent Global = refl
+schema_if_supported-sent (LevelOf subject default) = refl
+schema_if_supported-sent (Lookup subject text true deleted) = refl
+schema_if_supported-sent (Lookup subject text false deleted) = refl
+schema_if_supported-sent (Subjects deleted) = refl
+schema_if_supported-sent (Versions subject deleted) = refl
+schema_if_supported-sent (Version subject version deleted) = refl
+schema_if_supported-sent (Text subject version deleted) = refl
+schema_if_supported-sent (ById id) = refl
+schema_if_supported-sent (VersionsOfId id deleted) = refl
+schema_if_supported-sent Types = refl
+schema_if_supported-sent (Check subject version text true) = refl
+schema_if_supported-sent (Check subject version text false) = refl
+schema_if_supported-sent (CheckAll subject text true) = refl
+schema_if_supported-sent (CheckAll subject text false) = refl
+schema_if_supported-sent (SetGlobalMode mode) = refl
+schema_if_supported-sent (SetMode subject mode) = refl
+schema_if_supported-sent GlobalMode = refl
+schema_if_supported-sent (ModeOf subject default) = refl

@@ -35,7 +35,7 @@ numbers_body numbers = compact_text (array (items_of (map (λ n. number (unsigne
 abbrev pub subject_version_data : Row → Data
 subject_version_data row = object (member (codes "subject") (string row.0.0) (member (codes "version") (number (unsigned row.0.1)) no_members))
 
--- Schema Registry API reference, GET /schemas/ids/{id}/versions: an array of subjects and numbers
+-- Schema Registry API reference, GET /schemas/ids/{id}/versions: an array of objects, each with a version's `subject` and its number as `version`
 abbrev pub subject_versions_body : List Row → List ℕ
 subject_versions_body rows = compact_text (array (items_of (map subject_version_data rows)))
 

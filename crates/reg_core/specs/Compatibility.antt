@@ -43,6 +43,7 @@ Compatible FullTransitive earlier new = Resolves earlier new × Resolves new ear
 Compatible Off earlier new = Unit {0}
 
 -- Schema Registry API reference, Compatibility; Schema Evolution and Compatibility, Compatibility Types: the level admits the new schema after
--- these live versions: it is `Compatible` with each one that the level compares with (`named_versions`)
+-- these live versions, which are in order of number. The new schema is `Compatible` with each one that the level compares with (`named_versions`).
+-- If there is none to compare with, the level admits every schema.
 abbrev pub Admits : Level → List (List NodeView) → List NodeView → Type 0
 Admits level live new = All (λ earlier. Compatible level earlier new) (named_versions level live)

@@ -26,9 +26,9 @@ abbrev pub require_deleted : Row → Result Row Code
 require_deleted row = if row.1.deleted then Ok row else Err VersionNotSoftDeleted
 
 -- the test's result for a version that was found; the code if none was found
-abbrev pub found_and : (Row → Result Row Code) → Result Row Code → Result Row Code
-found_and test (Err code) = Err code
-found_and test (Ok row) = test row
+abbrev pub if_found : (Row → Result Row Code) → Result Row Code → Result Row Code
+if_found test (Err code) = Err code
+if_found test (Ok row) = test row
 
 -- Schema Registry API reference, DELETE /subjects/{subject}/versions/{version}: the version to soft-delete, or the code of the refusal; `latest` is
 -- the last live one, and a number must be that of a live one. (This project's choice: if versions exist but none is live, `latest` gets 40404.)
@@ -36,12 +36,12 @@ abbrev pub row_to_soft_delete : Option VersionChoice → List Row → Result Row
 row_to_soft_delete None rows = Err InvalidVersion
 row_to_soft_delete (Some choice) [] = Err SubjectNotFound
 row_to_soft_delete (Some Latest) (row ∷ rows) = ok_or (last_or None (live_rows (row ∷ rows))) SubjectSoftDeleted
-row_to_soft_delete (Some (Numbered number)) (row ∷ rows) = found_and require_live (ok_or (chosen_row (Numbered number) (row ∷ rows)) VersionNotFound)
+row_to_soft_delete (Some (Numbered number)) (row ∷ rows) = if_found require_live (ok_or (chosen_row (Numbered number) (row ∷ rows)) VersionNotFound)
 
 -- The same with `permanent`: the soft-deleted version to remove, or the code of the refusal. (This project's choice: `latest` is the last version,
 -- soft-deleted or not. A live version gets 40407, also if a number names it.)
 abbrev pub row_to_remove : Option VersionChoice → List Row → Result Row Code
-row_to_remove choice rows = found_and require_deleted (found_row choice rows)
+row_to_remove choice rows = if_found require_deleted (found_row choice rows)
 
 -- the version to soft-delete, or with `permanent` to remove, or the code of the refusal
 abbrev pub row_to_delete : Bool → Option VersionChoice → List Row → Result Row Code
@@ -65,8 +65,9 @@ abbrev pub version_deleted : (Registry → Row → Registry) → Registry → Re
 version_deleted change g (Err code) = (g, fault code)
 version_deleted change g (Ok row) = (change g row, success (number_body row.0.1))
 
--- Schema Registry API reference, DELETE /subjects/{subject}/versions/{version}: with `permanent`, removes the chosen version, which must be
--- soft-deleted. Without it, soft-deletes the chosen version, which must be live. Replies with its number. A refusal changes nothing.
+-- Schema Registry API reference, DELETE /subjects/{subject}/versions/{version}: soft-deletes the chosen version, which must be live (`latest` is the
+-- last live one). With `permanent`, removes the chosen version, which must be soft-deleted (`latest` is the last of all). Replies with the version's
+-- number. A refusal, also of an invalid choice (`None`), changes nothing.
 abbrev pub delete_version : Registry → List ℕ → Option VersionChoice → Bool → Registry × ReplyView
 delete_version g subject choice false = version_deleted with_deleted g (row_to_soft_delete choice (rows_of g subject))
 delete_version g subject choice true = version_deleted without_row g (row_to_remove choice (rows_of g subject))

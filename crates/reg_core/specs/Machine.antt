@@ -53,12 +53,12 @@ subject_of GlobalMode = None
 subject_of (ModeOf subject default_to_global) = Some subject
 
 -- Schema Registry API reference, Subjects and Compatibility: whether a command sends a supported schema (Avro, without references)
-abbrev pub sends_schema : Command → Bool
-sends_schema (Register subject text supported) = supported
-sends_schema (Lookup subject text supported deleted) = supported
-sends_schema (Check subject version text supported) = supported
-sends_schema (CheckAll subject text supported) = supported
-sends_schema _ = false
+abbrev pub sends_supported_schema : Command → Bool
+sends_supported_schema (Register subject text supported) = supported
+sends_supported_schema (Lookup subject text supported deleted) = supported
+sends_supported_schema (Check subject version text supported) = supported
+sends_supported_schema (CheckAll subject text supported) = supported
+sends_supported_schema _ = false
 
 -- Schema Registry API reference, Subjects and Compatibility: the schema that a command's text denotes; `None` if the command sends none,
 -- the schema isn't supported (Avro, without references), or the text denotes no schema

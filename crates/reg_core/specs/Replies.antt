@@ -11,12 +11,12 @@ pub record ReplyView : Type 0 where
   pub body : List ℕ
 
 -- this project's choice: the nine HTTP statuses (RFC 9110, section 15) that a reply of the registry may have
-abbrev pub statuses : List ℕ
-statuses = 200 ∷ 400 ∷ 404 ∷ 405 ∷ 409 ∷ 413 ∷ 422 ∷ 500 ∷ 501 ∷ []
+abbrev pub reply_statuses : List ℕ
+reply_statuses = 200 ∷ 400 ∷ 404 ∷ 405 ∷ 409 ∷ 413 ∷ 422 ∷ 500 ∷ 501 ∷ []
 
--- this project's choice: the number is one of these nine statuses
-abbrev pub IsStatus : ℕ → Type 0
-IsStatus n = IsTrue (list_any (λ status. n == status) statuses)
+-- this project's choice: the number is one of the nine `reply_statuses`
+abbrev pub IsReplyStatus : ℕ → Type 0
+IsReplyStatus n = IsTrue (list_any (λ status. n == status) reply_statuses)
 
 -- this project's choice: the statuses of replies to commands that succeed or are rejected; such replies are kept
 abbrev pub kept_statuses : List ℕ

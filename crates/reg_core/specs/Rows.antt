@@ -26,7 +26,8 @@ visible_rows shows_deleted rows = filter (λ (row : Row). shows_deleted || not r
 abbrev pub live_rows : List Row → List Row
 live_rows rows = filter (λ (row : Row). not row.1.deleted) rows
 
--- Schema Registry API reference, Subjects: the chosen one of these versions: the last one, or that with the number
+-- Schema Registry API reference, Subjects: the chosen one of these versions, or `None`. `Latest` is the last in the list, soft-deleted or not;
+-- `Numbered` is the version with the number.
 abbrev pub chosen_row : VersionChoice → List Row → Option Row
 chosen_row Latest rows = last_or None rows
 chosen_row (Numbered number) rows = find (λ (row : Row). row.0.1 == number) rows

@@ -26,7 +26,7 @@ use Rattle.reg_core.specs.Replies.{IsCommandReply}
 use Rattle.reg_core.specs.Compatibility.{latest, named_versions}
 use Rattle.reg_core.specs.Needs.{row_needs, rows_needed, needs_levels, needs_modes, needs_count, SufficeFor}
 use Rattle.reg_core.specs.Evidence.{Evidence, EvidenceMap, HasOnlyVersions, IsEvidenceAfter, IsTrueForSchema, next_evidence}
-use Rattle.reg_core.specs.Machine.{is_write, subject_of, sends_schema, command_schema, governing_mode, step}
+use Rattle.reg_core.specs.Machine.{is_write, subject_of, sends_supported_schema, command_schema, governing_mode, step}
 
 -- ---- views
 
@@ -62,14 +62,14 @@ view_text view id = option_map string_bytes (tree.get nat_cmp view.texts id)
 
 -- this project's choice: if the command sends a supported schema, this is its identity text, or `None` if the text denotes no schema
 abbrev pub IsCommandIdentity : Command → Option (List ℕ) → Type 0
-IsCommandIdentity command text = IsTrue (sends_schema command) → text ≡ option_map identity (command_schema command)
+IsCommandIdentity command text = IsTrue (sends_supported_schema command) → text ≡ option_map identity (command_schema command)
 
 -- This project's choice: the view shows what the command needs of the registry. It may show more, but each text in it is that of its id.
 pub record IsViewOf (view : View) (g : Registry) (command : Command) : Type 0 where
   pub rows : SufficeFor (level_of_view view) view.known (row_needs command) view.rows.items (rows_needed g (subject_of command) (row_needs command))
   pub levels : IsTrue (needs_levels command) → (view.own ≡ option_and_then g.own (subject_of command)) × (view.global ≡ g.global)
   pub modes : IsTrue (needs_modes command) → (view.own_mode ≡ option_and_then g.own_modes (subject_of command)) × (view.global_mode ≡ g.global_mode)
-  pub known : IsTrue (sends_schema command) → view.known ≡ known_id g.schemas (command_schema command)
+  pub known : IsTrue (sends_supported_schema command) → view.known ≡ known_id g.schemas (command_schema command)
   pub count : IsTrue (needs_count command) → view.count ≡ length g.schemas
   pub texts : All (λ (row : Row). view_text view row.1.id ≡ text_at g.schemas row.1.id) (rows_to_read command view)
   pub true_texts : (id : ℕ) (text : List ℕ) → view_text view id ≡ Some text → text_at g.schemas id ≡ Some text
@@ -81,8 +81,8 @@ pub record IsDecisionInput (g : Registry) (command : Command) (schema : Option (
   pub shows : IsViewOf view g command
 
 -- this project's choice: the schema passed next to a command; `None` if the command sends no supported schema
-abbrev pub used_schema : Command → Option (List NodeView) → Option (List NodeView)
-used_schema command schema = if sends_schema command then schema else None
+abbrev pub schema_if_supported : Command → Option (List NodeView) → Option (List NodeView)
+schema_if_supported command schema = if sends_supported_schema command then schema else None
 
 -- ---- changes
 
@@ -145,7 +145,8 @@ pub record IsNewEvidence (g : Registry) (row : Row) (evidence : Evidence) : Type
   pub named : evidence ≡ next_evidence g row.0.0
   pub holds : (nodes : List NodeView) → schema_at g.schemas row.1.id ≡ Some nodes → IsTrueForSchema g.schemas nodes evidence
 
--- this project's choice: the change can be applied to the registry
+-- This project's choice: the change can be applied to the registry. `AddText` needs the identity text of an unregistered schema, and the next id
+-- (`IsNewText`). `AddRow` needs what `IsNewRow` and `IsNewEvidence` demand. Every other change can always be applied.
 abbrev pub ChangeFits : Change → Registry → Type 0
 ChangeFits (change.SetGlobal level) g = ⊤
 ChangeFits (change.SetLevel subject level) g = ⊤
@@ -158,7 +159,7 @@ ChangeFits (change.SetGlobalMode mode) g = ⊤
 ChangeFits (change.SetMode subject mode) g = ⊤
 ChangeFits (change.DropMode subject) g = ⊤
 
--- this project's choice: the changes can be applied to the registry, in order
+-- this project's choice: the changes can be applied in order, each to the registry that the changes before it leave
 abbrev pub ChangesFit : List Change → Registry → Type 0
 ChangesFit [] g = ⊤
 ChangesFit (change ∷ changes) g = ChangeFits change g × ChangesFit changes (after_change change g)
@@ -169,10 +170,10 @@ ChangesFit (change ∷ changes) g = ChangeFits change g × ChangesFit changes (a
 -- after `step`, and they can be applied in order. A read or a refusal changes nothing. The reply has the status 200, 404, 409 or 422, and isn't
 -- the fault of a reused retry key.
 pub record IsDecisionFor (command : Command) (schema : Option (List NodeView)) (view : View) (decision : Decision) : Type 0 where
-  pub reply : (g : Registry) → IsDecisionInput g command (used_schema command schema) view → decision.reply ≡ (step g command).1
-  pub changes : (g : Registry) → IsDecisionInput g command (used_schema command schema) view → after_changes decision.changes.items g ≡ (step g command).0
-  pub evidence : (g : Registry) → IsDecisionInput g command (used_schema command schema) view → (had : EvidenceMap) → HasOnlyVersions g had → IsEvidenceAfter g command had (evidence_after_changes decision.changes.items had)
-  pub fit : (g : Registry) → IsDecisionInput g command (used_schema command schema) view → ChangesFit decision.changes.items g
+  pub reply : (g : Registry) → IsDecisionInput g command (schema_if_supported command schema) view → decision.reply ≡ (step g command).1
+  pub changes : (g : Registry) → IsDecisionInput g command (schema_if_supported command schema) view → after_changes decision.changes.items g ≡ (step g command).0
+  pub evidence : (g : Registry) → IsDecisionInput g command (schema_if_supported command schema) view → (had : EvidenceMap) → HasOnlyVersions g had → IsEvidenceAfter g command had (evidence_after_changes decision.changes.items had)
+  pub fit : (g : Registry) → IsDecisionInput g command (schema_if_supported command schema) view → ChangesFit decision.changes.items g
   pub read : is_write command ≡ false → decision.changes.items ≡ []
   pub refusal : decision.reply.status ≢ 200 → decision.changes.items ≡ []
   pub own : IsCommandReply decision.reply

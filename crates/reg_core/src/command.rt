@@ -2,7 +2,7 @@
 
 ghost use Rattle.std.specs.Prelude.{◌≡◌, option_and_then, option_copied};
 ghost use Rattle.avro_schema.specs.DenotedNodes.{denoted_nodes};
-ghost use Rattle.reg_core.specs.Machine.{is_write, command_schema, sends_schema, subject_of};
+ghost use Rattle.reg_core.specs.Machine.{is_write, command_schema, sends_supported_schema, subject_of};
 
 use crate::subject::Subject;
 use crate::text::Text;
@@ -170,8 +170,8 @@ impl Command {
     }
 
     /// Whether the command sends a supported schema: its type is Avro, and it has no references.
-    pub(crate) fn sends_schema(&self) -> bool
-        ensures { result ≡ sends_schema self.now }
+    pub(crate) fn sends_supported_schema(&self) -> bool
+        ensures { result ≡ sends_supported_schema self.now }
     {
         match self {
             Command::Register { supported, .. }

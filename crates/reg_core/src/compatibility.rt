@@ -30,7 +30,7 @@ pub fn admits(
     ensures { IfOk result (λ yes. IsTrue yes
         ↔ Admits level (map nodes_view earlier.now) (nodes_view new.now)) }
 {
-    let compared = named(level, earlier);
+    let compared = named_versions(level, earlier);
     for schema in compared {
         if !is_compatible(alloc, level, schema, new)? {
             return Ok(false);
@@ -41,7 +41,7 @@ pub fn admits(
 
 /// The versions that the level compares a new schema with: all, the latest, or none. `earlier` must
 /// be in order of number.
-pub(crate) fn named<T>(level: Level, earlier: &[T]) -> &[T]
+pub(crate) fn named_versions<T>(level: Level, earlier: &[T]) -> &[T]
     ensures { result.now ≡ named_versions level earlier.now }
 {
     match level {

@@ -6,7 +6,7 @@ ghost use Rattle.reg_core.specs.Inside.Evidence.{UpdateEvidence};
 ghost use Rattle.reg_core.specs.Machine.{permitted_step, is_write};
 ghost use Rattle.reg_core.specs.Registry.{Registry};
 ghost use Rattle.reg_core.specs.Replies.{IsCommandReply};
-ghost use Rattle.reg_core.specs.Views.{ChangesFit, IsDecisionFor, IsDecisionInput, after_changes, used_schema};
+ghost use Rattle.reg_core.specs.Views.{ChangesFit, IsDecisionFor, IsDecisionInput, after_changes, schema_if_supported};
 
 use crate::code::Code;
 use crate::command::Command;
@@ -140,15 +140,25 @@ pub fn decide_with_cache(
     if is_forbidden_by_mode(view, command) {
         return Ok(unchanged(alloc, Reply::fault(Code::NotPermitted)));
     }
-    decide_permitted(alloc, view, command, schema_if_sent(command, schema), cache)
+    decide_permitted(
+        alloc,
+        view,
+        command,
+        schema_if_supported(command, schema),
+        cache,
+    )
 }
 
 /// The schema, or `None` if the command sends no schema, or one that isn't supported.
-fn schema_if_sent<'a>(command: &Command, schema: Option<&'a Schema>) -> Option<&'a Schema>
+fn schema_if_supported<'a>(command: &Command, schema: Option<&'a Schema>) -> Option<&'a Schema>
     ensures { option_map nodes_view (option_copied result)
-        ≡ used_schema command.now (option_map nodes_view (option_copied schema.entry)) }
+        ≡ schema_if_supported command.now (option_map nodes_view (option_copied schema.entry)) }
 {
-    if command.sends_schema() { schema } else { None }
+    if command.sends_supported_schema() {
+        schema
+    } else {
+        None
+    }
 }
 
 /// Decides a command that no mode forbids.

@@ -1,7 +1,7 @@
 //! The replies of the registry.
 
 ghost use Rattle.std.specs.Prelude.{◌≡◌, SomeIff, IfOk, string_bytes};
-ghost use Rattle.reg_core.specs.Replies.{IsStatus, success, fault};
+ghost use Rattle.reg_core.specs.Replies.{IsReplyStatus, success, fault};
 
 use crate::code::Code;
 use avro_nodes::OutOfMemory;
@@ -36,7 +36,7 @@ impl Reply {
     /// A reply with this status and body, or `None` unless the status is 200, 400, 404, 405, 409,
     /// 413, 422, 500 or 501. It allocates nothing.
     pub fn new(status: u16, body: String) -> Option<Reply>
-        ensures { SomeIff result (IsStatus status) (record { status = status; body = string_bytes body }) }
+        ensures { SomeIff result (IsReplyStatus status) (record { status = status; body = string_bytes body }) }
     {
         match status {
             200 | 400 | 404 | 405 | 409 | 413 | 422 | 500 | 501 => Some(Reply {
@@ -68,7 +68,7 @@ impl Reply {
     /// The HTTP status, one of the nine that a reply may have.
     pub fn status(&self) -> u16
         ensures value { result ≡ self.now.status }
-        ensures nine { IsStatus result }
+        ensures nine { IsReplyStatus result }
     {
         match &self.content {
             Content::Written { status, .. } => *status,

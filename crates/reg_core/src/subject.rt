@@ -50,8 +50,8 @@ pub fn is_subject(text: &str) -> bool
 }
 
 impl Subject {
-    /// The subject with this text, or `None` unless the text has 1 to 255 bytes, no code point
-    /// below U+0020 and no U+007F. It allocates nothing.
+    /// The subject with this text. `None` if the text is empty, has over 255 bytes, or contains
+    /// U+007F or a code point below U+0020. It allocates nothing.
     pub fn new(text: String) -> Option<Subject>
         ensures { SomeIff result (IsTrue (is_subject (string_bytes text))) (string_bytes text) }
     {

@@ -16,7 +16,8 @@ use Rattle.reg_routes.specs.Deliveries.{Rejection, delivery_of, allow_field}
 abbrev pub AnsweredMessage : Type 0
 AnsweredMessage = Message × ReplyView
 
--- the response to a whole message
+-- The response to a whole message with this reply. It has `Allow` if the reply is 405 and the path lacks the message's method (`allow_field`). It has
+-- `Connection: close` if the message ends the connection.
 abbrev pub response_to : Message → ReplyView → List ℕ
 response_to message reply = response_bytes reply (allow_field (delivery_of message) reply) (closes message)
 
@@ -70,7 +71,8 @@ output xs tail = responses xs ++ tail_response tail
 abbrev pub IsPrefix : List ℕ → List ℕ → Type 0
 IsPrefix front all = (rest : List ℕ) × (front ++ rest ≡ all)
 
--- a beginning of `all` was written
+-- A beginning of `all` was written, perhaps none or all of it. `old` and `new` are what the writer has before and after. If `old` is known, so is
+-- `new`. If `old` is `None`, which means unknown, this says nothing.
 abbrev pub AppendsPrefix : Option (List ℕ) → Option (List ℕ) → List ℕ → Type 0
 AppendsPrefix old new all = (part : List ℕ) × IsPrefix part all × Appends old new part
 

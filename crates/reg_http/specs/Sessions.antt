@@ -15,15 +15,15 @@ pub record ProcessesMessages (AreServed : List Exchange → Type 0) (old new : O
   pub serves : AreServed (exchanges xs)
   pub writes : Appends old new out
 
--- Nothing follows the messages, and the input ended.
+-- The input ended (`reader`), and nothing follows the messages (`rest`). No message closes the connection, and each got its response (`out`).
 abbrev pub EndsBetween : Option (List ℕ) → List AnsweredMessage → List ℕ → List ℕ → Type 0
 EndsBetween reader xs rest out = NoneCloses xs × IsAtEnd reader × Follows rest End × (out ≡ output xs End)
 
--- A part of a message follows them, and the input ended.
+-- The input ended (`reader`) inside a further message (`rest`). No message before it closes the connection, and each got its response (`out`).
 abbrev pub EndsInside : Option (List ℕ) → List AnsweredMessage → List ℕ → List ℕ → Type 0
 EndsInside reader xs rest out = NoneCloses xs × IsAtEnd reader × Follows rest Part × (out ≡ output xs Part)
 
--- A fault follows them, and got its response.
+-- A fault follows the messages, and got its response. No message closes the connection, and each got its response.
 abbrev pub EndsFaulty : List AnsweredMessage → List ℕ → List ℕ → Type 0
 EndsFaulty xs rest out = (code : Code) × NoneCloses xs × Follows rest (Faulty code) × (out ≡ output xs (Faulty code))
 

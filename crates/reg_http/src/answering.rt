@@ -7,7 +7,7 @@ ghost use Rattle.reg_service.specs.Services.{state_in};
 ghost use Rattle.reg_routes.specs.Deliveries.{allow_field, requested_by};
 ghost use Rattle.reg_http.specs.Transitions.{StoredTransition};
 ghost use Rattle.reg_http.specs.Inside.Replying.{IsReplyTo};
-ghost use Rattle.reg_http.specs.Inside.SessionSteps.{AnswersAs, FaultAs, IsWithin, NextAs, IsIncompleteAt, step_outcome};
+ghost use Rattle.reg_http.specs.Inside.SessionSteps.{AnswersAs, FaultAs, IsWithin, NextAs, IsIncompleteIfWaiting, step_outcome};
 
 use crate::buffer::ReadBuffers;
 use crate::writing::{WriteOutcome, send};
@@ -76,7 +76,8 @@ fn step_outcome(outcome: WriteOutcome, close: bool, message_size: usize) -> Step
     }
 }
 
-/// Writes the response to a fault, which ends the connection.
+/// Writes the response to a fault, which ends the connection. Returns `AtFault` if it was written in
+/// full, otherwise `NotWritten` or `OutOfMemory`.
 fn answer_fault<W: Write>(alloc: Global, code: Code, writer: &mut W) -> Stop
     ensures { FaultAs (W.contents writer.old) (W.contents writer.new) code result }
 {
@@ -133,7 +134,7 @@ pub fn answer_buffered<W: Write, S: Alter>(
     ensures responses { HasCleanDisk (state_in service.new) → StoredTransition (state_in service.old) (state_in service.new)
         (λ was now. AnswersAs (ServesDurably service.old service.new was now)
         (W.contents writer.old) (W.contents writer.new) buffers.old.bytes buffers.new.bytes result) }
-    ensures waits { IsIncompleteAt buffers.new.bytes result }
+    ensures waits { IsIncompleteIfWaiting buffers.new.bytes result }
 {
     loop {
         let held = buffers.bytes.held();

@@ -147,7 +147,8 @@ pub struct ReadBuffers {
 }
 
 impl ReadBuffers {
-    /// An empty buffer, and room for the fields of every head within the size limit.
+    /// An empty buffer with its full capacity, and room for the fields of every head within the
+    /// size limit.
     ///
     /// # Errors
     ///

@@ -9,7 +9,7 @@ ghost use Rattle.reg_messages.specs.Messages.{max_head};
 ghost use Rattle.reg_http.specs.Transitions.{StoredTransition};
 ghost use Rattle.reg_http.specs.Sessions.{Session};
 ghost use Rattle.reg_http.specs.Inside.Readings.{ReadsAs, end_of};
-ghost use Rattle.reg_http.specs.Inside.SessionSteps.{AnswersAs, IsIncompleteUntil, IsIncompleteAt};
+ghost use Rattle.reg_http.specs.Inside.SessionSteps.{AnswersAs, IsIncompleteUntil, IsIncompleteIfWaiting};
 
 use crate::answering::{Stop, answer_buffered};
 use crate::buffer::{Buffer, ReadBuffers};
@@ -83,7 +83,7 @@ fn answer_more<W: Write, S: Alter>(
     ensures responses { HasCleanDisk (state_in service.new) → StoredTransition (state_in service.old) (state_in service.new)
         (λ was now. AnswersAs (ServesDurably service.old service.new was now)
         (W.contents writer.old) (W.contents writer.new) buffers.old.bytes buffers.new.bytes result) }
-    ensures waits { IsIncompleteAt buffers.new.bytes result }
+    ensures waits { IsIncompleteIfWaiting buffers.new.bytes result }
 {
     if buffers.bytes.held().len() < needs {
         return Stop::Waiting(needs);

@@ -23,7 +23,7 @@ use Rattle.reg_jobs.specs.declared.auditing.AuditOutcome.{AuditOutcome}
 use Rattle.reg_jobs.specs.Auditing.{AuditsAs}
 use Rattle.reg_jobs.specs.Listings.{IfUnread, ListsAs, listing_of}
 use Rattle.reg_jobs.specs.Databases.{ServesStore}
-use Rattle.reg_jobs.specs.Jobs.{AuditsOver, SessionStartsFrom, HasRegistry, ListsOver, OverDatabase, RunsOver}
+use Rattle.reg_jobs.specs.Jobs.{AuditsOver, SessionStartsFrom, OpensRegistry, ListsOver, OpenedDatabaseSatisfies, RunsOver}
 
 -- the stored state when a session over the registry of what was opened begins
 record BeginsOver {S : Type 0} (g : Ghosts S) (opened : Opened S) (begun : State) : Type 0 where
@@ -31,7 +31,7 @@ record BeginsOver {S : Type 0} (g : Ghosts S) (opened : Opened S) (begun : State
   begins : SessionStartsFrom g opened was
   is_open : IsOpenOver begun was
 
-begins_over : {S : Type 0} (g : Ghosts S) (opened : Opened S) (begun : State) → HasRegistry g opened begun → BeginsOver g opened begun
+begins_over : {S : Type 0} (g : Ghosts S) (opened : Opened S) (begun : State) → OpensRegistry g opened begun → BeginsOver g opened begun
 begins_over g Nothing begun has = absurd has
 begins_over g (Texts texts) begun has = absurd has
 begins_over g Failed begun has = absurd has
@@ -42,7 +42,7 @@ begins_over g (Database old) begun has = record { was = has.stored; begins = has
 
 -- a session over the registry of what was opened
 pub RunsOver-has : {S : Type 0} (g : Ghosts S) (opened : Opened S) (store : Store S g) (back : Held S) (reader reader' writer writer' : Option (List ℕ)) (ended : Ended)
-    → (HasCleanDisk (state g back) → HasRegistry g opened (state_of store)) → ServesStore store back reader reader' writer writer' ended → RunsOver g opened (Some back) reader reader' writer writer' ended
+    → (HasCleanDisk (state g back) → OpensRegistry g opened (state_of store)) → ServesStore store back reader reader' writer writer' ended → RunsOver g opened (Some back) reader reader' writer writer' ended
 RunsOver-has {S} g opened store back reader reader' writer writer' ended has s = record {
   before = s.before;
   after = s.after;
@@ -71,14 +71,14 @@ IfUnread-fault NotWritten begun new was fault spells = tt
 IfUnread-fault OutOfMemory begun new was fault spells = tt
 
 -- a consequence of what is true of the database that was opened
-pub OverDatabase-map : {S : Type 0} (g : Ghosts S) (opened : Opened S) (P Q : State → Type 0) → ((old : State) → P old → Q old) → OverDatabase g opened P → OverDatabase g opened Q
-OverDatabase-map g Nothing P Q follows over = over
-OverDatabase-map g (Texts texts) P Q follows over = over
-OverDatabase-map g Failed P Q follows over = over
-OverDatabase-map g NoContents P Q follows over = over
-OverDatabase-map g OrphanedLog P Q follows over = over
-OverDatabase-map g (Fresh old) P Q follows over = over
-OverDatabase-map g (Database old) P Q follows over = follows (state g old) over
+pub OpenedDatabaseSatisfies-map : {S : Type 0} (g : Ghosts S) (opened : Opened S) (P Q : State → Type 0) → ((old : State) → P old → Q old) → OpenedDatabaseSatisfies g opened P → OpenedDatabaseSatisfies g opened Q
+OpenedDatabaseSatisfies-map g Nothing P Q follows over = over
+OpenedDatabaseSatisfies-map g (Texts texts) P Q follows over = over
+OpenedDatabaseSatisfies-map g Failed P Q follows over = over
+OpenedDatabaseSatisfies-map g NoContents P Q follows over = over
+OpenedDatabaseSatisfies-map g OrphanedLog P Q follows over = over
+OpenedDatabaseSatisfies-map g (Fresh old) P Q follows over = over
+OpenedDatabaseSatisfies-map g (Database old) P Q follows over = follows (state g old) over
 
 -- a listing of the registry of a database
 pub ListsOver-found : (old begun new : State) (kind : ListingKind) (writer writer' : Option (List ℕ)) (listed : ListOutcome)

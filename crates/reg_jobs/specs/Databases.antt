@@ -5,7 +5,7 @@ use Rattle.sqlite.specs.State.{State, HasCleanDisk}
 use Rattle.sqlite.specs.Tree.{Trees}
 use Rattle.sqlite_trees.specs.declared.store.Store.{Ghosts}
 use Rattle.reg_core.specs.Stored.{new_stored}
-use Rattle.reg_tables.specs.Layout.{no_schema}
+use Rattle.reg_tables.specs.Layout.{empty_schema}
 use Rattle.reg_store.specs.declared.error.StoreError.{StoreError}
 use Rattle.reg_store.specs.declared.error.StoreError.TheVariants.{Disk, NotARegistry}
 use Rattle.reg_store.specs.Failures.{IsFaultBy}
@@ -27,7 +27,8 @@ pub record ReturnsConnection {S : Type 0} (g : Ghosts S) (returned : Option (Hel
   pub given : returned ≡ Some connection
   pub holds : HasCleanDisk (state g connection) → P (state g connection)
 
--- a session of a service over the store, after which the connection is returned
+-- A service over the store served a session, and then returned its connection. Let the disk be clean then. From each stored state that the tables
+-- spelled, the session led to one that they spell. `Session` says what was read and written, `ServesDurably` what was stored.
 pub record ServesStore {S : Type 0} {g : Ghosts S} (store : Store S g) (returned : Held S) (reader reader' writer writer' : Option (List ℕ)) (ended : Ended) : Type 0 where
   pub before : Service S g
   pub after : Service S g
@@ -37,14 +38,14 @@ pub record ServesStore {S : Type 0} {g : Ghosts S} (store : Store S g) (returned
 
 -- the database was empty, and its tables now spell a new registry, without kept replies or evidence
 pub record IsCreatedIn (old new : State) : Type 0 where
-  pub empty : ¬ (old.now.schema ≢ no_schema)
+  pub empty : ¬ (old.now.schema ≢ empty_schema)
   pub spells : IsOpenOver new new_stored
 
 -- why no registry was created: the database isn't empty (`NotARegistry`), or an allocation or the disk failed. Nothing is committed, and a
 -- crash leaves nothing new unless the disk failed
 pub record FailsToCreate (old new : State) (error : StoreError) : Type 0 where
-  pub full : old.now.schema ≢ no_schema → error ≡ NotARegistry
-  pub fault : old.now.schema ≡ no_schema → IsFaultBy old new error
+  pub full : old.now.schema ≢ empty_schema → error ≡ NotARegistry
+  pub fault : old.now.schema ≡ empty_schema → IsFaultBy old new error
   pub leaves : KeepsConnection old new error
 
 -- Why no registry was opened. If the tables spell one, an allocation or the disk failed. Another layout is reported with its number, unless

@@ -29,11 +29,12 @@ FailsAs file OutOfMemory = ⊤
 abbrev pub identity_line : List NodeView → List ℕ
 identity_line nodes = identity nodes ++ 10 ∷ []
 
--- what was printed for a file
-abbrev pub PrintsAs : Option (List ℕ) → Option (List ℕ) → Option (List ℕ) → TextOutcome → Type 0
-PrintsAs file old new Whole = (nodes : List NodeView) × FileHolds file nodes × Appends old new (identity_line nodes)
-PrintsAs file old new (Nothing fault) = FailsAs file fault × Appends old new []
-PrintsAs file old new NotWritten =
+-- What `text` printed for a file: the file's bytes (`None` if it can't be read), and the writer's before and after. `Whole`: the identity text of the
+-- schema, and a line end. `Nothing`: no byte, for this fault (`FailsAs`). `NotWritten`: a beginning of that line, which may be empty or whole.
+abbrev pub PrintsTextAs : Option (List ℕ) → Option (List ℕ) → Option (List ℕ) → TextOutcome → Type 0
+PrintsTextAs file old new Whole = (nodes : List NodeView) × FileHolds file nodes × Appends old new (identity_line nodes)
+PrintsTextAs file old new (Nothing fault) = FailsAs file fault × Appends old new []
+PrintsTextAs file old new NotWritten =
     (nodes : List NodeView) × (part : List ℕ) × FileHolds file nodes × IsPrefix part (identity_line nodes) × Appends old new part
 
 -- the line that `check` prints for a verdict

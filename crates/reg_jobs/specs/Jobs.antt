@@ -5,7 +5,7 @@ use Rattle.sqlite.specs.Held.{Held, state}
 use Rattle.sqlite.specs.State.{State, HasCleanDisk}
 use Rattle.sqlite_trees.specs.declared.store.Store.{Ghosts}
 use Rattle.reg_core.specs.Stored.{Stored, new_stored}
-use Rattle.reg_tables.specs.Layout.{no_schema}
+use Rattle.reg_tables.specs.Layout.{empty_schema}
 use Rattle.reg_store.specs.declared.error.StoreError.{StoreError}
 use Rattle.reg_store.specs.declared.error.StoreError.TheVariants.{Disk, NotARegistry}
 use Rattle.reg_store.specs.Failures.{is_fault}
@@ -32,11 +32,11 @@ use Rattle.reg_jobs.specs.declared.outcome.Outcome.TheVariants.{Session as Sessi
 use Rattle.reg_jobs.specs.Auditing.{AuditsAs}
 use Rattle.reg_jobs.specs.declared.auditing.AuditOutcome.{AuditOutcome}
 use Rattle.reg_jobs.specs.Databases.{ReturnsConnection, IsCreatedIn, CreatesNone, OpensNone}
-use Rattle.reg_jobs.specs.Files.{PrintsAs, ChecksAs}
+use Rattle.reg_jobs.specs.Files.{PrintsTextAs, ChecksAs}
 use Rattle.reg_jobs.specs.Listings.{IfUnread, ListsAs, listing_of}
 use Rattle.reg_jobs.specs.Migration.{MigratesAs}
 use Rattle.reg_jobs.specs.declared.listings.ListOutcome.{ListOutcome}
-use Rattle.reg_jobs.specs.Outcomes.{result_of, status_of, PrintsFault}
+use Rattle.reg_jobs.specs.Outcomes.{result_of, status_of, ReportsResult}
 use Rattle.reg_http.specs.Sessions.{Session}
 
 -- the file that a job names; of two files the reader's; an empty name if there is none
@@ -95,25 +95,26 @@ pub record RunsInMemory (reader reader' writer writer' : Option (List ℕ)) (out
   pub session : Session (λ xs. Serves new_stored (served xs) now) reader reader' writer writer' ended
   pub outcome_is : outcome ≡ SessionEnded ended
 
--- what was opened has a registry: it was created in an empty database, or the tables of the database spelled it
-abbrev pub HasRegistry : {S : Type 0} (g : Ghosts S) → Opened S → State → Type 0
-HasRegistry g Nothing new = ⊥
-HasRegistry g (Texts texts) new = ⊥
-HasRegistry g Failed new = ⊥
-HasRegistry g NoContents new = ⊥
-HasRegistry g OrphanedLog new = ⊥
-HasRegistry g (Fresh old) new = IsCreatedIn (state g old) new
-HasRegistry g (Database old) new = OpensOver (state g old) new
+-- A store was opened over what was opened, or created in it; the last argument is the state after that. `Fresh`: the database was empty, and the
+-- connection is open over a new registry. `Database`: it is open over the registry that the tables spelled. False of anything else.
+abbrev pub OpensRegistry : {S : Type 0} (g : Ghosts S) → Opened S → State → Type 0
+OpensRegistry g Nothing new = ⊥
+OpensRegistry g (Texts texts) new = ⊥
+OpensRegistry g Failed new = ⊥
+OpensRegistry g NoContents new = ⊥
+OpensRegistry g OrphanedLog new = ⊥
+OpensRegistry g (Fresh old) new = IsCreatedIn (state g old) new
+OpensRegistry g (Database old) new = OpensOver (state g old) new
 
 -- why what was opened has no registry, and the connection that is returned
-abbrev pub LacksRegistry : {S : Type 0} (g : Ghosts S) → Opened S → Option (Held S) → StoreError → Type 0
-LacksRegistry g Nothing returned error = (returned ≡ None) × (error ≡ Disk)
-LacksRegistry g (Texts texts) returned error = (returned ≡ None) × (error ≡ Disk)
-LacksRegistry g Failed returned error = (returned ≡ None) × (error ≡ Disk)
-LacksRegistry g NoContents returned error = (returned ≡ None) × (error ≡ NotARegistry)
-LacksRegistry g OrphanedLog returned error = (returned ≡ None) × (error ≡ NotARegistry)
-LacksRegistry g (Fresh old) returned error = ReturnsConnection g returned (λ new. CreatesNone (state g old) new error)
-LacksRegistry g (Database old) returned error = ReturnsConnection g returned (λ new. OpensNone (state g old) new error)
+abbrev pub OpensNoRegistry : {S : Type 0} (g : Ghosts S) → Opened S → Option (Held S) → StoreError → Type 0
+OpensNoRegistry g Nothing returned error = (returned ≡ None) × (error ≡ Disk)
+OpensNoRegistry g (Texts texts) returned error = (returned ≡ None) × (error ≡ Disk)
+OpensNoRegistry g Failed returned error = (returned ≡ None) × (error ≡ Disk)
+OpensNoRegistry g NoContents returned error = (returned ≡ None) × (error ≡ NotARegistry)
+OpensNoRegistry g OrphanedLog returned error = (returned ≡ None) × (error ≡ NotARegistry)
+OpensNoRegistry g (Fresh old) returned error = ReturnsConnection g returned (λ new. CreatesNone (state g old) new error)
+OpensNoRegistry g (Database old) returned error = ReturnsConnection g returned (λ new. OpensNone (state g old) new error)
 
 -- the stored state when a session begins, by what was opened
 abbrev pub SessionStartsFrom : {S : Type 0} (g : Ghosts S) → Opened S → Stored → Type 0
@@ -122,7 +123,7 @@ SessionStartsFrom g (Texts texts) was = ⊥
 SessionStartsFrom g Failed was = ⊥
 SessionStartsFrom g NoContents was = ⊥
 SessionStartsFrom g OrphanedLog was = ⊥
-SessionStartsFrom g (Fresh old) was = ¬ ((state g old).now.schema ≢ no_schema) × (was ≡ new_stored)
+SessionStartsFrom g (Fresh old) was = ¬ ((state g old).now.schema ≢ empty_schema) × (was ≡ new_stored)
 SessionStartsFrom g (Database old) was = SpellsUnopened (state g old).now was
 
 -- A session of a service over what was opened; the connection was open at its start. It led from that stored state to one that the tables spell
@@ -144,7 +145,7 @@ pub record RunsOver {S : Type 0} (g : Ghosts S) (opened : Opened S) (returned : 
 pub record RunsWithoutRegistry {S : Type 0} (g : Ghosts S) (opened : Opened S) (returned : Option (Held S)) (reader reader' writer writer' : Option (List ℕ)) (error : StoreError) : Type 0 where
   pub unread : reader' ≡ reader
   pub unwritten : writer' ≡ writer
-  pub lacks : LacksRegistry g opened returned error
+  pub lacks : OpensNoRegistry g opened returned error
 
 -- the outcome of a session over what was opened
 abbrev pub RunsOn : {S : Type 0} (g : Ghosts S) → Opened S → Option (Held S) → Option (List ℕ) → Option (List ℕ) → Option (List ℕ) → Option (List ℕ) → Outcome → Type 0
@@ -162,26 +163,26 @@ abbrev pub RunsJob : {S : Type 0} (g : Ghosts S) → Opened S → Bool → Optio
 RunsJob g opened false returned reader reader' writer writer' outcome = (returned ≡ connection_in opened) × RunsInMemory reader reader' writer writer' outcome
 RunsJob g opened true returned reader reader' writer writer' outcome = RunsOn g opened returned reader reader' writer writer' outcome
 
--- a database was opened that may have a registry, and P is true of its state
-abbrev pub OverDatabase : {S : Type 0} (g : Ghosts S) → Opened S → (State → Type 0) → Type 0
-OverDatabase g Nothing P = ⊥
-OverDatabase g (Texts texts) P = ⊥
-OverDatabase g Failed P = ⊥
-OverDatabase g NoContents P = ⊥
-OverDatabase g OrphanedLog P = ⊥
-OverDatabase g (Fresh old) P = ⊥
-OverDatabase g (Database old) P = P (state g old)
+-- What was opened is a `Database`, and P is true of the state in which it was opened. It may have no registry. False of anything else, also of `Fresh`.
+abbrev pub OpenedDatabaseSatisfies : {S : Type 0} (g : Ghosts S) → Opened S → (State → Type 0) → Type 0
+OpenedDatabaseSatisfies g Nothing P = ⊥
+OpenedDatabaseSatisfies g (Texts texts) P = ⊥
+OpenedDatabaseSatisfies g Failed P = ⊥
+OpenedDatabaseSatisfies g NoContents P = ⊥
+OpenedDatabaseSatisfies g OrphanedLog P = ⊥
+OpenedDatabaseSatisfies g (Fresh old) P = ⊥
+OpenedDatabaseSatisfies g (Database old) P = P (state g old)
 
 -- Why a job that creates no registry finds none in what was opened, and the connection that is returned. The connection to an empty
 -- database is returned unchanged.
-abbrev pub LacksExistingRegistry : {S : Type 0} (g : Ghosts S) → Opened S → Option (Held S) → StoreError → Type 0
-LacksExistingRegistry g Nothing returned error = LacksRegistry g Nothing returned error
-LacksExistingRegistry g (Texts texts) returned error = LacksRegistry g (Texts texts) returned error
-LacksExistingRegistry g Failed returned error = LacksRegistry g Failed returned error
-LacksExistingRegistry g NoContents returned error = LacksRegistry g NoContents returned error
-LacksExistingRegistry g OrphanedLog returned error = LacksRegistry g OrphanedLog returned error
-LacksExistingRegistry g (Fresh old) returned error = (returned ≡ Some old) × (error ≡ NotARegistry)
-LacksExistingRegistry g (Database old) returned error = LacksRegistry g (Database old) returned error
+abbrev pub OpensNoExistingRegistry : {S : Type 0} (g : Ghosts S) → Opened S → Option (Held S) → StoreError → Type 0
+OpensNoExistingRegistry g Nothing returned error = OpensNoRegistry g Nothing returned error
+OpensNoExistingRegistry g (Texts texts) returned error = OpensNoRegistry g (Texts texts) returned error
+OpensNoExistingRegistry g Failed returned error = OpensNoRegistry g Failed returned error
+OpensNoExistingRegistry g NoContents returned error = OpensNoRegistry g NoContents returned error
+OpensNoExistingRegistry g OrphanedLog returned error = OpensNoRegistry g OrphanedLog returned error
+OpensNoExistingRegistry g (Fresh old) returned error = (returned ≡ Some old) × (error ≡ NotARegistry)
+OpensNoExistingRegistry g (Database old) returned error = OpensNoRegistry g (Database old) returned error
 
 -- A listing of the registry that a database's tables spelled. If the connection is still open, they still spell it. If the registry can't
 -- be read, the error is `Memory` or `Disk`.
@@ -195,16 +196,17 @@ pub record ListsOver (old : State) (kind : ListingKind) (output output' : Option
 -- no registry was found, and nothing was written
 pub record FindsNoRegistry {S : Type 0} (g : Ghosts S) (opened : Opened S) (returned : Option (Held S)) (writer writer' : Option (List ℕ)) (error : StoreError) : Type 0 where
   pub unwritten : writer' ≡ writer
-  pub lacks : LacksExistingRegistry g opened returned error
+  pub lacks : OpensNoExistingRegistry g opened returned error
 
--- what is true after a listing: for each outcome that it can have, what was written and which connection was returned; no other outcome occurs
+-- What is true after a listing, by its outcome. `Unopened`: no store was opened, and nothing was written. `ListEnded`: a `Database` was opened, its
+-- connection is returned, and on a clean disk `ListsOver` says what was listed. No other outcome occurs.
 abbrev pub ListsOn : {S : Type 0} (g : Ghosts S) → Opened S → ListingKind → Option (Held S) → Option (List ℕ) → Option (List ℕ) → Outcome → Type 0
 ListsOn g opened kind returned writer writer' (SessionEnded ended) = ⊥
 ListsOn g opened kind returned writer writer' (Unopened error) = FindsNoRegistry g opened returned writer writer' error
 ListsOn g opened kind returned writer writer' (NotListening port) = ⊥
 ListsOn g opened kind returned writer writer' (TextEnded printed) = ⊥
 ListsOn g opened kind returned writer writer' (CheckEnded checked) = ⊥
-ListsOn g opened kind returned writer writer' (ListEnded listed) = OverDatabase g opened (λ old. ReturnsConnection g returned (ListsOver old kind writer writer' listed))
+ListsOn g opened kind returned writer writer' (ListEnded listed) = OpenedDatabaseSatisfies g opened (λ old. ReturnsConnection g returned (ListsOver old kind writer writer' listed))
 ListsOn g opened kind returned writer writer' (MigrateEnded migrated) = ⊥
 ListsOn g opened kind returned writer writer' (AuditEnded audited) = ⊥
 
@@ -224,7 +226,7 @@ AuditsOn g opened returned writer writer' (TextEnded printed) = ⊥
 AuditsOn g opened returned writer writer' (CheckEnded checked) = ⊥
 AuditsOn g opened returned writer writer' (ListEnded listed) = ⊥
 AuditsOn g opened returned writer writer' (MigrateEnded migrated) = ⊥
-AuditsOn g opened returned writer writer' (AuditEnded audited) = OverDatabase g opened (λ old. ReturnsConnection g returned (AuditsOver old writer writer' audited))
+AuditsOn g opened returned writer writer' (AuditEnded audited) = OpenedDatabaseSatisfies g opened (λ old. ReturnsConnection g returned (AuditsOver old writer writer' audited))
 
 -- nothing was opened that could be migrated, and nothing was written
 abbrev pub MigratesNothing : Option (List ℕ) → Option (List ℕ) → StoreError → Outcome → Type 0
@@ -244,7 +246,7 @@ MigratesOn g (Database old) returned writer writer' outcome = ReturnsConnection 
 -- the outcome of `text`, and what was printed
 pub record PrintsText (file writer writer' : Option (List ℕ)) (outcome : Outcome) : Type 0 where
   pub printed : TextOutcome
-  pub prints : PrintsAs file writer writer' printed
+  pub prints : PrintsTextAs file writer writer' printed
   pub outcome_is : outcome ≡ TextEnded printed
 
 -- the outcome of `check`, and what was printed
@@ -267,5 +269,5 @@ pub record DoesJob {S E : Type 0} (g : Ghosts S) (contents : E → Option (List 
     (reader reader' writer writer' : Option (List ℕ)) (errors errors' : ErrorWriter E) (status : ℕ) : Type 0 where
   pub outcome : Outcome
   pub has_outcome : HasOutcome g job opened returned reader reader' writer writer' outcome
-  pub reports : PrintsFault contents (job_result job outcome) errors errors'
+  pub reports : ReportsResult contents (job_result job outcome) errors errors'
   pub status_is : status ≡ status_of (job_result job outcome)

@@ -76,7 +76,7 @@ abbrev pub status_of : Result ℕ (Fault × List ℕ) → ℕ
 status_of (Ok status) = status
 status_of (Err job_error) = 2
 
--- the line for a fault, with a file's name and a number's digits
+-- The line for a fault, with its line end. It shows the file's name as given here, and these digits of a layout or a port. Many lines show neither.
 abbrev pub line_with : Fault → List ℕ → List ℕ → List ℕ
 line_with FaultReadFailed file digits = codes "avroreg: read failed\n"
 line_with FaultWriteFailed file digits = codes "avroreg: write failed\n"
@@ -110,7 +110,8 @@ text_of_parts parts = flat_map (λ part. part.now) parts
 abbrev pub text_of_line : ErrorLine → List ℕ
 text_of_line line = line.front.now ++ (shown_name line.name.now ++ text_of_parts line.rest)
 
--- the line of a fault was written; without a fault nothing was written or lost
-abbrev pub PrintsFault : {E : Type 0} → (E → Option (List ℕ)) → Result ℕ (Fault × List ℕ) → ErrorWriter E → ErrorWriter E → Type 0
-PrintsFault contents (Ok status) old new = new ≡ old
-PrintsFault contents (Err job_error) old new = Puts contents old new (line_of job_error.0 job_error.1)
+-- What was written for a result. Without a fault: nothing, and nothing was lost. For a fault and the name of its file: its line, or a beginning of it
+-- if a write failed. If an earlier write had failed: nothing.
+abbrev pub ReportsResult : {E : Type 0} → (E → Option (List ℕ)) → Result ℕ (Fault × List ℕ) → ErrorWriter E → ErrorWriter E → Type 0
+ReportsResult contents (Ok status) old new = new ≡ old
+ReportsResult contents (Err job_error) old new = Puts contents old new (line_of job_error.0 job_error.1)

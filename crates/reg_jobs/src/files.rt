@@ -2,7 +2,7 @@
 
 ghost use Rattle.std.specs.Prelude.{◌≡◌, MatchResult, option_map};
 ghost use Rattle.avro_nodes.specs.Nodes.{nodes_view};
-ghost use Rattle.reg_jobs.specs.Files.{FileHolds, FailsAs, PrintsAs, ChecksAs, PrintsVerdict, verdict_line};
+ghost use Rattle.reg_jobs.specs.Files.{FileHolds, FailsAs, PrintsTextAs, ChecksAs, PrintsVerdict, verdict_line};
 
 use avro_resolve::resolves;
 use avro_schema::{Schema, SchemaError};
@@ -56,7 +56,7 @@ fn read_schema_file(alloc: Global, file: Option<&[u8]>) -> Result<Schema, FileFa
 
 /// Prints the identity text of the schema in a file, with a line end.
 pub fn print_text<W: Write>(alloc: Global, file: Option<&[u8]>, writer: &mut W) -> TextOutcome
-    ensures { PrintsAs (option_map (λ bytes. bytes.now) file.entry)
+    ensures { PrintsTextAs (option_map (λ bytes. bytes.now) file.entry)
         (W.contents writer.old) (W.contents writer.new) result }
 {
     let schema = match read_schema_file(alloc, file) {

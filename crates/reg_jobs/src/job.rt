@@ -4,7 +4,7 @@ ghost use Rattle.std.specs.Prelude.{◌≡◌, IfOk, IfErr, false, option_map};
 ghost use Rattle.sqlite.specs.State.{HasCleanDisk};
 ghost use Rattle.reg_store.specs.Opening.{OpensOver};
 ghost use Rattle.reg_store.specs.Stores.{has_failed, state_of};
-ghost use Rattle.reg_jobs.specs.Jobs.{AuditsOn, DoesJob, LacksExistingRegistry, HasRegistry, LacksRegistry, ListsOn, OverDatabase, RunsInMemory, RunsJob, RunsOn, MigratesOn, file_of, writer_schema_file_of};
+ghost use Rattle.reg_jobs.specs.Jobs.{AuditsOn, DoesJob, OpensNoExistingRegistry, OpensRegistry, OpensNoRegistry, ListsOn, OpenedDatabaseSatisfies, RunsInMemory, RunsJob, RunsOn, MigratesOn, file_of, writer_schema_file_of};
 
 use crate::auditing::audit_store;
 use crate::database::{create_in, open_in, run_on_store};
@@ -126,10 +126,10 @@ fn open_existing_store<S: Alter + Drop>(
     alloc: Global,
     opened: Opened<S>,
 ) -> Result<Store<S>, (StoreError, Option<Connection<S>>)>
-    ensures over { IfOk result (λ store. OverDatabase S.Store opened
+    ensures over { IfOk result (λ store. OpenedDatabaseSatisfies S.Store opened
         (λ old. HasCleanDisk (state_of store) → OpensOver old (state_of store))) }
     ensures unfailed { IfOk result (λ store. has_failed store ≡ false) }
-    ensures none { IfErr result (λ e. LacksExistingRegistry S.Store opened e.1 e.0) }
+    ensures none { IfErr result (λ e. OpensNoExistingRegistry S.Store opened e.1 e.0) }
 {
     match opened {
         Opened::Database(connection) => open_in(alloc, connection),
@@ -151,9 +151,9 @@ pub fn open_store<S: Alter + Drop>(
     alloc: Global,
     opened: Opened<S>,
 ) -> Result<Store<S>, (StoreError, Option<Connection<S>>)>
-    ensures has { IfOk result (λ store. HasCleanDisk (state_of store) → HasRegistry S.Store opened (state_of store)) }
+    ensures has { IfOk result (λ store. HasCleanDisk (state_of store) → OpensRegistry S.Store opened (state_of store)) }
     ensures unfailed { IfOk result (λ store. has_failed store ≡ false) }
-    ensures lacks { IfErr result (λ e. LacksRegistry S.Store opened e.1 e.0) }
+    ensures lacks { IfErr result (λ e. OpensNoRegistry S.Store opened e.1 e.0) }
 {
     match opened {
         Opened::Fresh(connection) => create_in(alloc, connection),
@@ -219,8 +219,10 @@ fn list_on<S: Alter + Drop, W: Write>(
     }
 }
 
-/// Migrates what was opened to this program's layout, and returns the connection. If no database
-/// was opened, or an empty one, nothing is written.
+/// Migrates the registry of what was opened to this program's layout, and prints a line. If `meta`
+/// names that layout already, the line says so, even if the other tables are invalid. If there is no
+/// registry, or if the migration fails, the outcome is `Unopened` and nothing is printed. Returns the
+/// opened connection, or `None`.
 fn migrate_on<S: Alter + Drop, W: Write>(
     alloc: Global,
     opened: Opened<S>,
@@ -264,9 +266,9 @@ fn audit_on<S: Alter + Drop, W: Write>(
     }
 }
 
-/// Does a job with what was opened for it. Returns the program's status, and the opened connection
-/// or `None`. The status is 0, or 1 for incompatible schemas and for evidence that isn't true, or 2
-/// after a fault, whose line goes to `errors`.
+/// Does a job with what was opened for it. Returns the program's status, and the connection if one
+/// was opened; a disk fault may have closed it. The status is 2 after a fault, whose line goes to
+/// `errors`. It is 1 for incompatible schemas and for evidence that isn't true. Otherwise it is 0.
 pub fn do_job<S: Alter + Drop, R: Read, W: Write, E: Write + Drop>(
     alloc: Global,
     job: &Job,

@@ -3,7 +3,7 @@
 ghost use Rattle.std.specs.Prelude.{◌≡◌};
 ghost use Rattle.reg_jobs.specs.Errors.{Puts};
 ghost use Rattle.reg_jobs.specs.Names.{shown_name};
-ghost use Rattle.reg_jobs.specs.Outcomes.{PrintsFault, result_of, line_of, line_with, result_view, layout_or_port_of, status_of, text_of_line, text_of_parts};
+ghost use Rattle.reg_jobs.specs.Outcomes.{ReportsResult, result_of, line_of, line_with, result_view, layout_or_port_of, status_of, text_of_line, text_of_parts};
 
 use crate::errors::ErrorWriter;
 use crate::name::put_name;
@@ -30,7 +30,7 @@ fn bare_line<'a>(front: &'a str) -> ErrorLine<'a>
     }
 }
 
-/// A line with the name of a file.
+/// A line with the name of a file, or with an empty name.
 fn file_line<'a>(front: &'a str, name: &'a str, rest: [&'a str; 3]) -> ErrorLine<'a>
     ensures { result ≡ record { front = front.entry; name = name.entry; rest = rest.entry } }
 {
@@ -49,8 +49,9 @@ fn layout_or_port_of(fault: Fault) -> u32
     }
 }
 
-/// The line for a fault, with the digits of the number that it names.
-fn line_of<'a>(fault: Fault, file: &'a str, digits: &'a str) -> ErrorLine<'a>
+/// The line for a fault. `digits` must be those of the layout or port that the fault names; they
+/// aren't compared. `put_line` escapes control characters of `file`.
+fn line_with<'a>(fault: Fault, file: &'a str, digits: &'a str) -> ErrorLine<'a>
     ensures { text_of_line result ≡ line_with fault (shown_name file.entry.now) digits.entry.now }
 {
     match fault {
@@ -105,7 +106,7 @@ pub fn put_job_error<E: Write + Drop>(errors: &mut ErrorWriter<E>, job_error: Jo
 {
     let mut digits = Buffer::new();
     let number = digits.format(layout_or_port_of(job_error.fault));
-    put_line(errors, line_of(job_error.fault, job_error.file, number));
+    put_line(errors, line_with(job_error.fault, job_error.file, number));
 }
 
 /// Writes the line for a result if it is an error, and returns the program's status.
@@ -113,7 +114,7 @@ pub fn report_result<E: Write + Drop>(
     errors: &mut ErrorWriter<E>,
     answer: Result<u8, JobError>,
 ) -> u8
-    ensures reports { PrintsFault E.contents (result_view answer.entry) errors.old errors.new }
+    ensures reports { ReportsResult E.contents (result_view answer.entry) errors.old errors.new }
     ensures status { result ≡ status_of (result_view answer.entry) }
 {
     if let Err(job_error) = answer {
@@ -124,7 +125,7 @@ pub fn report_result<E: Write + Drop>(
 
 /// Writes the line for an outcome on a file if it is an error, and returns the program's status.
 pub fn report<E: Write + Drop>(errors: &mut ErrorWriter<E>, outcome: Outcome, file: &str) -> u8
-    ensures reports { PrintsFault E.contents (result_of outcome file.now file.now) errors.old errors.new }
+    ensures reports { ReportsResult E.contents (result_of outcome file.now file.now) errors.old errors.new }
     ensures status { result ≡ status_of (result_of outcome file.now file.now) }
 {
     let answer = result_of(outcome, file, file);

@@ -67,7 +67,9 @@ fn accept_next<C: Clock, E: Write + Drop>(
     retry_accept(clock, queue)
 }
 
-/// Serves the next connection until it ends. The last one doesn't yield to connections that wait.
+/// Accepts the next connection, and serves it until it ends. If none can be accepted, it reports
+/// that once on `errors`, and retries. `is_last` says that no connection is served after this one;
+/// then it doesn't yield to connections that wait.
 fn serve_next<C: Clock, S: Alter, E: Write + Drop>(
     alloc: Global,
     clock: &C,

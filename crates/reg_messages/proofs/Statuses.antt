@@ -4,7 +4,7 @@ use Rattle.std.specs.Prelude.{◌==◌}
 use Rattle.std.specs.List.{list_any}
 use Rattle.std.proofs.lemmas.Bool.Decides.{Decides-eqb}
 use Rattle.http.specs.StatusCode.{IsStatusCode}
-use Rattle.reg_core.specs.Replies.{IsStatus, statuses}
+use Rattle.reg_core.specs.Replies.{IsReplyStatus, reply_statuses}
 
 AllCodes : List ℕ → Type 0
 AllCodes [] = Unit {0}
@@ -20,10 +20,10 @@ among n (x ∷ xs) a e = by (n == x) (Decides-eqb n x) (among n xs a.1) e
     by true d later h = subst IsStatusCode (sym (d.0 refl)) a.0
     by false d later h = later h
 
-pub IsStatusCode-from_IsStatus : (n : ℕ) → IsStatus n → IsStatusCode n
+pub IsStatusCode-from_IsReplyStatus : (n : ℕ) → IsReplyStatus n → IsStatusCode n
 unfolding AllCodes
-IsStatusCode-from_IsStatus n e =
-    among n statuses (
+IsStatusCode-from_IsReplyStatus n e =
+    among n reply_statuses (
       (omega arith, omega arith),
       (
         (omega arith, omega arith),

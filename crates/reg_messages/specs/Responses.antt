@@ -1,4 +1,4 @@
--- The bytes of a response (RFC 9112, sections 2 to 6).
+-- The bytes of a response (RFC 9112, sections 2 to 6). Each `x_line` ends with CR LF.
 use Rattle.std.specs.Prelude.{ℕ, Bool, true, false, List, [], ◌∷◌, ◌++◌, length, Option, Some, None, codes, unwrap_or}
 use Rattle.std.specs.Fmt.{decimal}
 use Rattle.http.specs.StatusCode.{reason_phrase}
@@ -13,7 +13,7 @@ line_end = 13 ∷ 10 ∷ []
 unfoldable pub reason_phrase_of : ℕ → List ℕ
 reason_phrase_of status = unwrap_or (reason_phrase status) []
 
--- the status line (RFC 9112, section 4)
+-- the status line with its CR LF: the version HTTP/1.1, the status, and its reason phrase, which may be empty (RFC 9112, section 4)
 abbrev pub status_line : ℕ → List ℕ
 status_line status = codes "HTTP/1.1 " ++ decimal status ++ codes " " ++ reason_phrase_of status ++ line_end
 

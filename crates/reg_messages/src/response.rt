@@ -22,7 +22,8 @@ fn reason_phrase_of(status: u16) -> &'static str
     }
 }
 
-/// The status line (RFC 9112, section 4).
+/// The status line with its CR LF: the version HTTP/1.1, the status, and its reason phrase, which may
+/// be empty (RFC 9112, section 4).
 fn status_line(alloc: Global, status: u16) -> Result<String, OutOfMemory>
     requires { IsStatusCode status }
     ensures { IfOk result (λ line. string_bytes line ≡ status_line status) }
@@ -31,7 +32,7 @@ fn status_line(alloc: Global, status: u16) -> Result<String, OutOfMemory>
     Ok(format!(in alloc; "HTTP/1.1 {status} {phrase}\r\n")?)
 }
 
-/// The line with the body's length in bytes.
+/// The line with the body's length in bytes, with its CR LF.
 fn content_length_line(alloc: Global, length: usize) -> Result<String, OutOfMemory>
     ensures { IfOk result (λ line. string_bytes line ≡ content_length_line length) }
 {

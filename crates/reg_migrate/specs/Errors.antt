@@ -38,7 +38,7 @@ HasMetaNumber db AlreadyNew = ShowsLayout db 2 × (HasFiveTables db.schema → N
 HasMetaNumber db (NewerLayout number) = (2 < number) × ShowsLayout db number × (HasFiveTables db.schema → NamesLayout db number)
 HasMetaNumber db _ = Unit {0}
 
--- the error for a layout above 1 with this number
+-- the error reports the layout with this number: `AlreadyNew` reports 2, `NewerLayout` its own number, and other errors none
 abbrev pub IsErrorForLayout : ℕ → MigrateError → Type 0
 IsErrorForLayout number AlreadyNew = number ≡ 2
 IsErrorForLayout number (NewerLayout told) = told ≡ number

@@ -16,7 +16,8 @@ MigratesFrom schema before db = (contents : Contents) → HoldsContents schema b
 abbrev pub HoldsMigrated : Database → Database → Type 0
 HoldsMigrated before db = (schema : Schema) → IsLayoutOne schema → MigratesFrom schema before db
 
--- the same for trees under the schema of layout 2
+-- If the tables of `before` have contents in layout 1, with or without the index, these trees have them migrated (`MigratesFrom`). The trees are read
+-- under the schema `layout_two`.
 abbrev pub TreesHoldMigrated : Database → Trees → Type 0
 TreesHoldMigrated before db = HoldsMigrated before (record { schema = layout_two; trees = db })
 

@@ -10,11 +10,11 @@ use Rattle.reg_routes.specs.declared.body.SentSchema.{SentSchema}
 unfoldable pub body_json : List ℕ → Option Data
 body_json body = if is_utf8 body then read body else None
 
--- the text of an object's string member with this name; `None` for any other value, and without such a member
+-- the text of an object's string member with this name; `None` without such a member, if it isn't a string, and if the value isn't an object
 abbrev pub string_member : List ℕ → Data → Option (List ℕ)
 string_member name value = option_and_then as_str (get name value)
 
--- the same for the value of a body; `None` also if the body isn't JSON
+-- given a name and a body: the text of the body's string member with this name; `None` if the body isn't a JSON object with such a member
 abbrev pub body_string_member : List ℕ → List ℕ → Option (List ℕ)
 body_string_member name body = option_and_then (string_member name) (body_json body)
 
@@ -45,6 +45,7 @@ is_supported value = is_avro (get (codes "schemaType") value) && has_no_referenc
 abbrev pub schema_member : Data → Option SentSchema
 schema_member value = option_map (λ text. record { text = text; supported = is_supported value }) (string_member (codes "schema") value)
 
--- the schema in a body; `None` if the body isn't JSON, and without a string member `schema`
+-- The text of the schema in a body, and whether the schema is supported (`is_supported`). The text isn't parsed. `None` if the body isn't a JSON object
+-- with a string member `schema`.
 abbrev pub body_schema : List ℕ → Option SentSchema
 body_schema body = option_and_then schema_member (body_json body)

@@ -1,23 +1,23 @@
--- The command of a request, by its operation, path, query and body. `None` if a part of the path that the command needs isn't UTF-8 after decoding,
+-- The command of a request, by its operation, path, query and body. `None` if a segment that the command needs isn't UTF-8 after decoding,
 -- or if its subject isn't valid. `None` also if the body lacks a string member that the command needs: a body that isn't JSON has none. The number
--- of a part is the number of slashes before it. (Schema Registry API reference, Subjects, Schemas, Config, Compatibility and Mode.)
+-- of a segment is the number of slashes before it. (Schema Registry API reference, Subjects, Schemas, Config, Compatibility and Mode.)
 use Rattle.std.specs.Prelude.{ℕ, Bool, List, codes, Option, Some, option_map, option_and_then}
 use Rattle.reg_core.specs.declared.command.Command.{Command}
 use Rattle.reg_core.specs.declared.command.Command.TheVariants.{SetGlobal, SetLevel, Register, DeleteVersion, DeleteSubject, Global, LevelOf, Lookup, Subjects, Versions, Version, Text, ById, VersionsOfId, Types, Check, CheckAll, SetGlobalMode, SetMode, GlobalMode, ModeOf}
 use Rattle.reg_routes.specs.declared.resource.Operation.{Operation}
 use Rattle.reg_routes.specs.declared.resource.Operation.TheVariants as op
 use Rattle.reg_routes.specs.declared.command.RequestParts.{RequestParts}
-use Rattle.reg_routes.specs.Targets.{path_text, path_subject}
+use Rattle.reg_routes.specs.Targets.{segment_text, segment_subject}
 use Rattle.reg_routes.specs.Queries.{query_flag}
 use Rattle.reg_routes.specs.Bodies.{body_string_member, body_schema}
 
--- the result of `then` for the subject in this part of the path; `None` also if the part is no valid subject
+-- the result of `then` for the subject in this segment of the path; `None` also if the decoded segment is no valid subject
 abbrev pub for_subject : ℕ → List ℕ → (List ℕ → Option Command) → Option Command
-for_subject slashes path then = option_and_then then (path_subject slashes path)
+for_subject slashes path then = option_and_then then (segment_subject slashes path)
 
--- the result of `then` for the text of this part of the path; `None` also if the part isn't UTF-8 after decoding
+-- the result of `then` for the text of this segment of the path; `None` also if the segment isn't UTF-8 after decoding
 abbrev pub for_text : ℕ → List ℕ → (List ℕ → Option Command) → Option Command
-for_text slashes path then = option_and_then then (path_text slashes path)
+for_text slashes path then = option_and_then then (segment_text slashes path)
 
 -- the result of `then` for the body's string member with this name; `None` if the body has none
 abbrev pub for_string : List ℕ → List ℕ → (List ℕ → Command) → Option Command

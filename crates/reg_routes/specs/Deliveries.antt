@@ -61,9 +61,9 @@ delivery_of message = requested message.head.method message.head.target (fields_
 abbrev pub requested_by : Request → Result Delivery Rejection
 requested_by r = requested r.method.now r.target.now (fields_in r) r.body.now
 
--- how a message is rejected: with the code and methods of `what`, or with `BackendFault` and no methods (only if an allocation fails)
+-- how a message is rejected: with the code and methods of the expected result, or with `BackendFault` and no methods (only if an allocation fails)
 abbrev pub IsRejected : Result Delivery Rejection → Code → Option (List ℕ) → Type 0
-IsRejected what code allow = ((code ≡ BackendFault) × (allow ≡ None)) ⊎ (what ≡ Err (code, allow))
+IsRejected expected code allow = ((code ≡ BackendFault) × (allow ≡ None)) ⊎ (expected ≡ Err (code, allow))
 
 -- the `Allow` field of the reply to a message: the path's methods, if the reply is 405 (RFC 9110, section 15.5.6)
 abbrev pub allow_field : Result Delivery Rejection → ReplyView → Option (List ℕ)

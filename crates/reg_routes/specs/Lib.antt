@@ -1,5 +1,5 @@
 pub mod Routes
-pub mod PathParts
+pub mod PathSegments
 pub mod Queries
 pub mod Targets
 pub mod Bodies

@@ -7,11 +7,11 @@ use Rattle.form_urlencoded.specs.Form.{raw_pairs, decode}
 abbrev pub form_text : List ℕ → List ℕ
 form_text bytes = utf8_lossy (decode bytes)
 
--- whether the first pair of this name has the value `true`
+-- Whether the first pair with this name has the value `true`. The pairs are raw, and are compared once decoded. Without such a pair: false.
 abbrev pub first_is_true : List (List ℕ × List ℕ) → List ℕ → Bool
 first_is_true [] name = false
 first_is_true (pair ∷ pairs) name = cond (bytes_eq (form_text pair.0) name) (bytes_eq (form_text pair.1) (codes "true")) (first_is_true pairs name)
 
--- whether the first parameter of this name is `true`
+-- whether the first parameter of this name is `true`; false if the query has none of this name
 abbrev pub query_flag : List ℕ → List ℕ → Bool
 query_flag query name = first_is_true (raw_pairs query) name

@@ -20,7 +20,7 @@ abbrev pub with_read : Result Scan InsertError → Resource → RowsOf (RouteOf 
 with_read (Ok scan) value rows = placed (scan.pattern, route_from scan value) rows
 with_read (Err error) value rows = rows
 
--- the routes with one more path, by its text
+-- the routes with one more path, at its place in matchit's order; a text that isn't a path adds none
 abbrev pub with_path : List ℕ → Resource → RowsOf (RouteOf Resource) → RowsOf (RouteOf Resource)
 with_path path value rows = with_read (parse_route path) value rows
 

@@ -91,7 +91,8 @@ fn is_supported(value: &Value) -> bool
     is_avro(value.get("schemaType")) && has_no_references(value.get("references"))
 }
 
-/// The string member of this name in a body, or `None` if there is none.
+/// The string member of this name in a body. `None` if the body isn't JSON, isn't an object, or has
+/// no such string member.
 ///
 /// # Errors
 ///
@@ -109,8 +110,9 @@ pub fn body_string_member(
     }
 }
 
-/// The schema in a body: the string member `schema`, or `None` if there is none. It is supported if
-/// `schemaType` is missing, null or `"AVRO"`, and `references` is missing, null or an empty list.
+/// The schema in a body: the string member `schema`, which isn't parsed. `None` if the body isn't a
+/// JSON object with such a member. The schema is supported if `schemaType` is missing, null or
+/// `"AVRO"`, and `references` is missing, null or an empty list.
 ///
 /// # Errors
 ///

@@ -18,8 +18,8 @@ pub struct RequestParts<'a> {
 }
 
 // Each private method makes the command of its name from the path, the query and the body. `None`
-// is as in `command`. The number that `path_text` and `path_subject` get counts the slashes before
-// the part. Versions, ids, levels and modes are texts here: they aren't parsed.
+// is as in `command`. `segment_text` and `segment_subject` get the number of slashes before the
+// segment. Versions, ids, levels and modes are texts here: they aren't parsed.
 impl<'a> RequestParts<'a> {
     fn set_global(&self, alloc: Global) -> Result<Option<Command>, OutOfMemory>
         ensures { IfOk result (λ command. command ≡ command_in op.SetGlobal self.now) }
@@ -33,7 +33,7 @@ impl<'a> RequestParts<'a> {
     fn set_level(&self, alloc: Global) -> Result<Option<Command>, OutOfMemory>
         ensures { IfOk result (λ command. command ≡ command_in op.SetLevel self.now) }
     {
-        let Some(subject) = self.target.path_subject(alloc, 2)? else {
+        let Some(subject) = self.target.segment_subject(alloc, 2)? else {
             return Ok(None);
         };
         let Some(level) = body_string_member(alloc, "compatibility", self.body)? else {
@@ -45,7 +45,7 @@ impl<'a> RequestParts<'a> {
     fn register(&self, alloc: Global) -> Result<Option<Command>, OutOfMemory>
         ensures { IfOk result (λ command. command ≡ command_in op.Register self.now) }
     {
-        let Some(subject) = self.target.path_subject(alloc, 2)? else {
+        let Some(subject) = self.target.segment_subject(alloc, 2)? else {
             return Ok(None);
         };
         let Some(SentSchema { text, supported }) = body_schema(alloc, self.body)? else {
@@ -61,10 +61,10 @@ impl<'a> RequestParts<'a> {
     fn delete_version(&self, alloc: Global) -> Result<Option<Command>, OutOfMemory>
         ensures { IfOk result (λ command. command ≡ command_in op.DeleteVersion self.now) }
     {
-        let Some(subject) = self.target.path_subject(alloc, 2)? else {
+        let Some(subject) = self.target.segment_subject(alloc, 2)? else {
             return Ok(None);
         };
-        let Some(version) = self.target.path_text(alloc, 4)? else {
+        let Some(version) = self.target.segment_text(alloc, 4)? else {
             return Ok(None);
         };
         let permanent = self.target.query_flag(alloc, "permanent")?;
@@ -78,7 +78,7 @@ impl<'a> RequestParts<'a> {
     fn delete_subject(&self, alloc: Global) -> Result<Option<Command>, OutOfMemory>
         ensures { IfOk result (λ command. command ≡ command_in op.DeleteSubject self.now) }
     {
-        let Some(subject) = self.target.path_subject(alloc, 2)? else {
+        let Some(subject) = self.target.segment_subject(alloc, 2)? else {
             return Ok(None);
         };
         let permanent = self.target.query_flag(alloc, "permanent")?;
@@ -88,7 +88,7 @@ impl<'a> RequestParts<'a> {
     fn level_of(&self, alloc: Global) -> Result<Option<Command>, OutOfMemory>
         ensures { IfOk result (λ command. command ≡ command_in op.LevelOf self.now) }
     {
-        let Some(subject) = self.target.path_subject(alloc, 2)? else {
+        let Some(subject) = self.target.segment_subject(alloc, 2)? else {
             return Ok(None);
         };
         let default_to_global = self.target.query_flag(alloc, "defaultToGlobal")?;
@@ -101,7 +101,7 @@ impl<'a> RequestParts<'a> {
     fn lookup(&self, alloc: Global) -> Result<Option<Command>, OutOfMemory>
         ensures { IfOk result (λ command. command ≡ command_in op.Lookup self.now) }
     {
-        let Some(subject) = self.target.path_subject(alloc, 2)? else {
+        let Some(subject) = self.target.segment_subject(alloc, 2)? else {
             return Ok(None);
         };
         let Some(SentSchema { text, supported }) = body_schema(alloc, self.body)? else {
@@ -126,7 +126,7 @@ impl<'a> RequestParts<'a> {
     fn versions(&self, alloc: Global) -> Result<Option<Command>, OutOfMemory>
         ensures { IfOk result (λ command. command ≡ command_in op.Versions self.now) }
     {
-        let Some(subject) = self.target.path_subject(alloc, 2)? else {
+        let Some(subject) = self.target.segment_subject(alloc, 2)? else {
             return Ok(None);
         };
         let deleted = self.target.query_flag(alloc, "deleted")?;
@@ -136,10 +136,10 @@ impl<'a> RequestParts<'a> {
     fn version(&self, alloc: Global) -> Result<Option<Command>, OutOfMemory>
         ensures { IfOk result (λ command. command ≡ command_in op.Version self.now) }
     {
-        let Some(subject) = self.target.path_subject(alloc, 2)? else {
+        let Some(subject) = self.target.segment_subject(alloc, 2)? else {
             return Ok(None);
         };
-        let Some(version) = self.target.path_text(alloc, 4)? else {
+        let Some(version) = self.target.segment_text(alloc, 4)? else {
             return Ok(None);
         };
         let deleted = self.target.query_flag(alloc, "deleted")?;
@@ -153,10 +153,10 @@ impl<'a> RequestParts<'a> {
     fn text(&self, alloc: Global) -> Result<Option<Command>, OutOfMemory>
         ensures { IfOk result (λ command. command ≡ command_in op.Text self.now) }
     {
-        let Some(subject) = self.target.path_subject(alloc, 2)? else {
+        let Some(subject) = self.target.segment_subject(alloc, 2)? else {
             return Ok(None);
         };
-        let Some(version) = self.target.path_text(alloc, 4)? else {
+        let Some(version) = self.target.segment_text(alloc, 4)? else {
             return Ok(None);
         };
         let deleted = self.target.query_flag(alloc, "deleted")?;
@@ -170,7 +170,7 @@ impl<'a> RequestParts<'a> {
     fn by_id(&self, alloc: Global) -> Result<Option<Command>, OutOfMemory>
         ensures { IfOk result (λ command. command ≡ command_in op.ById self.now) }
     {
-        let Some(id) = self.target.path_text(alloc, 3)? else {
+        let Some(id) = self.target.segment_text(alloc, 3)? else {
             return Ok(None);
         };
         Ok(Some(Command::ById { id }))
@@ -179,7 +179,7 @@ impl<'a> RequestParts<'a> {
     fn versions_of_id(&self, alloc: Global) -> Result<Option<Command>, OutOfMemory>
         ensures { IfOk result (λ command. command ≡ command_in op.VersionsOfId self.now) }
     {
-        let Some(id) = self.target.path_text(alloc, 3)? else {
+        let Some(id) = self.target.segment_text(alloc, 3)? else {
             return Ok(None);
         };
         let deleted = self.target.query_flag(alloc, "deleted")?;
@@ -189,10 +189,10 @@ impl<'a> RequestParts<'a> {
     fn check(&self, alloc: Global) -> Result<Option<Command>, OutOfMemory>
         ensures { IfOk result (λ command. command ≡ command_in op.Check self.now) }
     {
-        let Some(subject) = self.target.path_subject(alloc, 3)? else {
+        let Some(subject) = self.target.segment_subject(alloc, 3)? else {
             return Ok(None);
         };
-        let Some(version) = self.target.path_text(alloc, 5)? else {
+        let Some(version) = self.target.segment_text(alloc, 5)? else {
             return Ok(None);
         };
         let Some(SentSchema { text, supported }) = body_schema(alloc, self.body)? else {
@@ -209,7 +209,7 @@ impl<'a> RequestParts<'a> {
     fn check_all(&self, alloc: Global) -> Result<Option<Command>, OutOfMemory>
         ensures { IfOk result (λ command. command ≡ command_in op.CheckAll self.now) }
     {
-        let Some(subject) = self.target.path_subject(alloc, 3)? else {
+        let Some(subject) = self.target.segment_subject(alloc, 3)? else {
             return Ok(None);
         };
         let Some(SentSchema { text, supported }) = body_schema(alloc, self.body)? else {
@@ -234,7 +234,7 @@ impl<'a> RequestParts<'a> {
     fn set_mode(&self, alloc: Global) -> Result<Option<Command>, OutOfMemory>
         ensures { IfOk result (λ command. command ≡ command_in op.SetMode self.now) }
     {
-        let Some(subject) = self.target.path_subject(alloc, 2)? else {
+        let Some(subject) = self.target.segment_subject(alloc, 2)? else {
             return Ok(None);
         };
         let Some(mode) = body_string_member(alloc, "mode", self.body)? else {
@@ -246,7 +246,7 @@ impl<'a> RequestParts<'a> {
     fn mode_of(&self, alloc: Global) -> Result<Option<Command>, OutOfMemory>
         ensures { IfOk result (λ command. command ≡ command_in op.ModeOf self.now) }
     {
-        let Some(subject) = self.target.path_subject(alloc, 2)? else {
+        let Some(subject) = self.target.segment_subject(alloc, 2)? else {
             return Ok(None);
         };
         let default_to_global = self.target.query_flag(alloc, "defaultToGlobal")?;
@@ -256,8 +256,8 @@ impl<'a> RequestParts<'a> {
         }))
     }
 
-    /// The command of this operation. `None` if a part of the path that the command needs isn't
-    /// UTF-8 after decoding, or if its subject isn't valid. `None` also if the body lacks a string
+    /// The command of this operation. `None` if a segment that the command needs isn't UTF-8 after
+    /// decoding, or if its subject isn't valid. `None` also if the body lacks a string
     /// member that the command needs: a body that isn't JSON has none.
     ///
     /// # Errors

@@ -94,10 +94,12 @@ fn delivery_for<'a>(
 /// - `NotFound`: the path has no resource.
 /// - `MethodNotAllowed`: the resource doesn't have the method. Its methods are returned for an
 ///   `Allow` field.
-/// - `MalformedRequest`: a part of the path or the body is invalid, or a write has an invalid retry
-///   key or more than one.
+/// - `MalformedRequest`: a segment that the command needs isn't UTF-8 after decoding, or its subject
+///   isn't valid. Or the body lacks a string member that the command needs. Or a write has an
+///   invalid retry key or more than one.
 ///
-/// `BackendFault` if an allocation fails.
+/// `BackendFault` if an allocation fails. Versions, ids, levels, modes and schemas aren't validated
+/// here.
 pub fn command_of<'a>(
     alloc: Global,
     routes: &Routes,

@@ -6,7 +6,7 @@
 mod body;
 mod command;
 mod delivery;
-mod path_parts;
+mod path_segments;
 mod query;
 mod resource;
 mod routes;

@@ -2,9 +2,9 @@
 
 ghost use Rattle.std.specs.Prelude.{◌≡◌, IfOk};
 ghost use Rattle.reg_routes.specs.Queries.{query_flag};
-ghost use Rattle.reg_routes.specs.Targets.{path_of, query_of, path_subject, path_text, decoded_part};
+ghost use Rattle.reg_routes.specs.Targets.{path_of, query_of, segment_subject, segment_text, decoded_segment};
 
-use crate::path_parts::part_at;
+use crate::path_segments::segment_at;
 use crate::query::query_flag;
 use crate::split_at_byte::split_at_byte;
 use percent_encoding::percent_decode;
@@ -18,12 +18,12 @@ pub struct Target<'a> {
     pub query: &'a [u8],
 }
 
-/// The percent-decoded text of a part, or `None` if that isn't UTF-8.
-fn decoded_part(alloc: Global, part: &[u8]) -> Result<Option<Text>, OutOfMemory>
-    ensures { IfOk result (λ text. text ≡ decoded_part part.now) }
+/// The percent-decoded text of a segment, or `None` if that isn't UTF-8.
+fn decoded_segment(alloc: Global, segment: &[u8]) -> Result<Option<Text>, OutOfMemory>
+    ensures { IfOk result (λ text. text ≡ decoded_segment segment.now) }
 {
     let mut bytes = Vec::new(alloc);
-    percent_decode(part).append_to(&mut bytes)?;
+    percent_decode(segment).append_to(&mut bytes)?;
     match String::from_utf8(bytes) {
         Ok(text) => Ok(Some(Text::from(text))),
         Err(_) => Ok(None),
@@ -40,26 +40,31 @@ impl<'a> Target<'a> {
         Target { path, query }
     }
 
-    /// The percent-decoded part of the path after `slashes` slashes, or `None` if that isn't UTF-8.
+    /// The percent-decoded segment of the path after `slashes` slashes, which is empty if the path has
+    /// fewer. `None` if the decoded bytes aren't UTF-8.
     ///
     /// # Errors
     ///
     /// `OutOfMemory` if an allocation fails.
-    pub fn path_text(&self, alloc: Global, slashes: u32) -> Result<Option<Text>, OutOfMemory>
-        ensures { IfOk result (λ text. text ≡ path_text slashes self.now.path.now) }
+    pub fn segment_text(&self, alloc: Global, slashes: u32) -> Result<Option<Text>, OutOfMemory>
+        ensures { IfOk result (λ text. text ≡ segment_text slashes self.now.path.now) }
     {
-        decoded_part(alloc, part_at(self.path, slashes))
+        decoded_segment(alloc, segment_at(self.path, slashes))
     }
 
-    /// The same part as a subject, or `None` if it isn't a valid one.
+    /// The same segment as a subject, or `None` if it isn't a valid one.
     ///
     /// # Errors
     ///
     /// `OutOfMemory` if an allocation fails.
-    pub fn path_subject(&self, alloc: Global, slashes: u32) -> Result<Option<Subject>, OutOfMemory>
-        ensures { IfOk result (λ subject. subject ≡ path_subject slashes self.now.path.now) }
+    pub fn segment_subject(
+        &self,
+        alloc: Global,
+        slashes: u32,
+    ) -> Result<Option<Subject>, OutOfMemory>
+        ensures { IfOk result (λ subject. subject ≡ segment_subject slashes self.now.path.now) }
     {
-        match self.path_text(alloc, slashes)? {
+        match self.segment_text(alloc, slashes)? {
             Some(text) => Ok(Subject::new(text.into_string())),
             None => Ok(None),
         }

@@ -28,14 +28,17 @@ is_name known name = list_any (bytes_eq name) known
 abbrev pub has_only_known_names : List (List ℕ) → List MetaPair → Bool
 has_only_known_names known rows = list_all (λ row. is_name known row.0) rows
 
-abbrev pub has_value : List ℕ → Option (List ℕ) → Bool
-has_value text None = false
-has_value text (Some value) = bytes_eq value text
+-- there is a value, and it is this text
+abbrev pub value_equals : List ℕ → Option (List ℕ) → Bool
+value_equals text None = false
+value_equals text (Some value) = bytes_eq value text
 
+-- there is a value, and it is the name of a level
 abbrev pub has_level : Option (List ℕ) → Bool
 has_level None = false
 has_level (Some value) = is_some (level_of value)
 
+-- there is a value, and it is the name of a mode
 abbrev pub has_mode : Option (List ℕ) → Bool
 has_mode None = false
 has_mode (Some value) = is_some (mode_of value)
@@ -46,11 +49,11 @@ number_in text = parse_number 999999999 text
 
 -- the layout number of the rows; `None` unless they have the format `avroreg` and a valid number
 abbrev pub layout_of : List MetaPair → Option ℕ
-layout_of rows = if has_value (codes "avroreg") (value_of (codes "format") rows) then option_and_then number_in (value_of (codes "layout") rows) else None
+layout_of rows = if value_equals (codes "avroreg") (value_of (codes "format") rows) then option_and_then number_in (value_of (codes "layout") rows) else None
 
 -- the format `avroreg`, this layout number, and a global level
 abbrev pub has_common : List ℕ → List MetaPair → Bool
-has_common number rows = has_value (codes "avroreg") (value_of (codes "format") rows) && has_value number (value_of (codes "layout") rows) && has_level (value_of (codes "global") rows)
+has_common number rows = value_equals (codes "avroreg") (value_of (codes "format") rows) && value_equals number (value_of (codes "layout") rows) && has_level (value_of (codes "global") rows)
 
 -- a `meta` table of layout 1: the format `avroreg`, layout number 1, a global level, and no other name
 abbrev pub is_layout_one_meta : List MetaPair → Bool

@@ -14,4 +14,4 @@ pub use positions::are_contiguous;
 pub use reg_core::OutOfMemory;
 pub use rows::{fits_kept, fits_levels, fits_modes, fits_versions, is_level_name};
 pub use tables::{Tables, spells};
-pub use texts::{are_ids, are_texts, is_identity};
+pub use texts::{are_consecutive_ids, are_texts, is_identity};

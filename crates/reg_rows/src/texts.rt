@@ -39,7 +39,7 @@ fn are_identities(alloc: Global, rows: &[(u32, String)]) -> Result<bool, OutOfMe
 }
 
 /// Whether the ids are 1, 2, .. in this order, and at most 2,147,483,647.
-pub fn are_ids(ids: &[u32]) -> bool
+pub fn are_consecutive_ids(ids: &[u32]) -> bool
     ensures { IsTrue result ↔ (AreConsecutive 1 ids.now × (length ids.now ≤ max_number)) }
 {
     ids.len() <= MAX_NUMBER as usize && are_consecutive(ids)
@@ -78,7 +78,7 @@ fn ids_of(alloc: Global, rows: &[(u32, String)]) -> Result<Vec<u32>, AllocError>
 pub fn are_texts(alloc: Global, rows: &[(u32, String)]) -> Result<bool, OutOfMemory>
     ensures { IfOk result (λ yes. IsTrue yes ↔ AreTexts rows.now) }
 {
-    if !are_ids(&ids_of(alloc, rows)?) {
+    if !are_consecutive_ids(&ids_of(alloc, rows)?) {
         return Ok(false);
     }
     are_identities(alloc, rows)

@@ -10,7 +10,7 @@ use Rattle.reg_core.specs.Replies.{ReplyView}
 use Rattle.reg_core.specs.declared.delivery.Delivery.{Delivery}
 use Rattle.reg_core.specs.KeptReplies.{Kept, KeptEntry}
 use Rattle.reg_core.specs.Stored.{Stored}
-use Rattle.reg_service.specs.Deliveries.{Exchange, key_of, has_key, exchange_entry, kept_after, is_first, is_new, IsDue, Answers, RepeatsAgree, NoOtherAnswers}
+use Rattle.reg_service.specs.Deliveries.{Exchange, key_of, has_key, exchange_entry, kept_after, is_first, is_new_key, IsDue, Answers, RepeatsAgree, NoOtherAnswers}
 use Rattle.reg_service.proofs.JoinedExchanges.{kept_after-append, is_none-kept_after}
 
 -- two texts are equal, or they aren't
@@ -62,8 +62,8 @@ known : (k : Kept) (before : List Exchange) (d : Delivery) → is_write d.comman
     → (key : List ℕ) × (entry : KeptEntry) × (key_of d ≡ Some key) × (kept_after k before key ≡ Some entry)
 known k before d write later = by (key_of d) refl
   where
-    new : (o : Option (List ℕ)) → key_of d ≡ o → option_map_or (is_new k before) o true ≡ false
-    new o e = (λ i. sym write i && option_map_or (is_new k before) (sym e i) true) ∙ later
+    new : (o : Option (List ℕ)) → key_of d ≡ o → option_map_or (is_new_key k before) o true ≡ false
+    new o e = (λ i. sym write i && option_map_or (is_new_key k before) (sym e i) true) ∙ later
 
     at : (key : List ℕ) (o : Option KeptEntry) → key_of d ≡ Some key → kept_after k before key ≡ o
         → (key : List ℕ) × (entry : KeptEntry) × (key_of d ≡ Some key) × (kept_after k before key ≡ Some entry)

@@ -12,7 +12,7 @@ use Rattle.reg_core.specs.declared.delivery.Delivery.{Delivery}
 use Rattle.reg_core.specs.KeptReplies.{Kept}
 use Rattle.reg_core.specs.Evidence.{EvidenceMap}
 use Rattle.reg_core.specs.Stored.{Stored}
-use Rattle.reg_service.specs.Deliveries.{Exchange, key_of, has_key, is_new, is_first, firsts_after, firsts, exchange_entry, kept_after, reply_after, IsDue, Answers, IsEvidenceAfterAll, LeadsTo, Serves}
+use Rattle.reg_service.specs.Deliveries.{Exchange, key_of, has_key, is_new_key, is_first, firsts_after, firsts, exchange_entry, kept_after, reply_after, IsDue, Answers, IsEvidenceAfterAll, LeadsTo, Serves}
 
 option_or_assoc : {A : Type 0} (a b c : Option A) → option_or (option_or a b) c ≡ option_or a (option_or b c)
 option_or_assoc (Some a) b c = refl
@@ -61,14 +61,14 @@ not-or true false c = refl
 not-or false b c = refl
 
 -- a key is new exactly if nothing is kept under it at that time
-pub is_none-kept_after : (k : Kept) (xs : List Exchange) (key : List ℕ) → is_none (kept_after k xs key) ≡ is_new k xs key
+pub is_none-kept_after : (k : Kept) (xs : List Exchange) (key : List ℕ) → is_none (kept_after k xs key) ≡ is_new_key k xs key
 is_none-kept_after k xs key =
     let p = λ (x : Exchange). has_key key x.0 in
     is_none-or (k key) (option_map exchange_entry (find p xs)) ∙ ap (λ b. is_none (k key) && b) (is_none-find exchange_entry p xs)
 
 -- a key is new after both lists if it is new to the second after the first
-is_new-append : (k : Kept) (xs ys : List Exchange) (key : List ℕ) → is_new k (xs ++ ys) key ≡ is_new (kept_after k xs) ys key
-is_new-append k xs ys key =
+is_new_key-append : (k : Kept) (xs ys : List Exchange) (key : List ℕ) → is_new_key k (xs ++ ys) key ≡ is_new_key (kept_after k xs) ys key
+is_new_key-append k xs ys key =
     let p = λ (x : Exchange). has_key key x.0 in
     ap (λ b. is_none (k key) && not b) (list_any-append p xs ys)
     ∙ (not-or (is_none (k key)) (list_any p xs) (list_any p ys)
@@ -78,9 +78,9 @@ is_new-append k xs ys key =
 pub is_first-append : (k : Kept) (xs ys : List Exchange) (d : Delivery) → is_first k (xs ++ ys) d ≡ is_first (kept_after k xs) ys d
 is_first-append k xs ys d = ap (λ b. is_write d.command && b) (by (key_of d))
   where
-    by : (o : Option (List ℕ)) → option_map_or (is_new k (xs ++ ys)) o true ≡ option_map_or (is_new (kept_after k xs) ys) o true
+    by : (o : Option (List ℕ)) → option_map_or (is_new_key k (xs ++ ys)) o true ≡ option_map_or (is_new_key (kept_after k xs) ys) o true
     by None = refl
-    by (Some key) = is_new-append k xs ys key
+    by (Some key) = is_new_key-append k xs ys key
 
 -- earlier exchanges can be counted as kept replies
 firsts-shift : (k : Kept) (front before xs : List Exchange) → firsts_after k (front ++ before) xs ≡ firsts_after (kept_after k front) before xs

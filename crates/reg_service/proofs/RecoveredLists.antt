@@ -16,7 +16,7 @@ use Rattle.reg_store.specs.Spells.{RecoversTo, IsOpenOver, SpellsWhileOpen}
 use Rattle.reg_store.specs.Stores.{has_failed, AddsNoCrashState}
 use Rattle.reg_service.specs.declared.service.Service.{Service}
 use Rattle.reg_service.specs.Deliveries.{Exchange, is_first, reply_after, served, LeadsTo, Serves}
-use Rattle.reg_service.specs.Services.{store_in, state_in, FailsAt, PreservesService, ServesOver, ServesTo, SplitAt}
+use Rattle.reg_service.specs.Services.{store_in, state_in, FailsDuring, PreservesService, ServesOver, ServesTo, SplitAt}
 use Rattle.reg_service.specs.Crashes.{RecoversExchanges, RecoversSpelled, RecoversInFlight, RecoversAcknowledged, ServesDurably}
 use Rattle.reg_service.specs.Inside.Crashing.{RecoversOne}
 use Rattle.reg_service.proofs.CrashLemmas.{leaves_later, leaves_none}
@@ -102,11 +102,11 @@ module _ {S : Type 0} {g : Ghosts S} where
 
   -- the store failed at the next exchange, or had failed before
   pub fails_next : (old mid new : Service S g) (xs : List Exchange) (d : Delivery) (reply : ReplyView) → PreservesService old mid (served xs ≡ []) → PreservesService mid new (reply ≡ fault BackendFault)
-      → (IsTrue (has_failed (store_in new)) → reply ≡ fault BackendFault) → (IsTrue (has_failed (store_in mid)) → IsTrue (has_failed (store_in old)) ⊎ FailsAt old mid xs)
-      → IsTrue (has_failed (store_in new)) → IsTrue (has_failed (store_in old)) ⊎ FailsAt old new (xs ++ (d, reply) ∷ [])
+      → (IsTrue (has_failed (store_in new)) → reply ≡ fault BackendFault) → (IsTrue (has_failed (store_in mid)) → IsTrue (has_failed (store_in old)) ⊎ FailsDuring old mid xs)
+      → IsTrue (has_failed (store_in new)) → IsTrue (has_failed (store_in old)) ⊎ FailsDuring old new (xs ++ (d, reply) ∷ [])
   fails_next old mid new xs d reply passed one fails before failed = by (cases_Bool (has_failed (store_in mid)))
     where
-      by : (has_failed (store_in mid) ≡ true) ⊎ (has_failed (store_in mid) ≡ false) → IsTrue (has_failed (store_in old)) ⊎ FailsAt old new (xs ++ (d, reply) ∷ [])
+      by : (has_failed (store_in mid) ≡ true) ⊎ (has_failed (store_in mid) ≡ false) → IsTrue (has_failed (store_in old)) ⊎ FailsDuring old new (xs ++ (d, reply) ∷ [])
       by (inl was) = elim (before was) [
         | inl first ↦ inl first
         | inr it ↦ inr (record { at = split_still old mid new xs ((d, reply) ∷ []) (served_fault d reply (fails failed)) (keeps_one mid new d reply one) it.at; not_failed = it.not_failed; fails = it.fails })

@@ -11,7 +11,7 @@ use Rattle.reg_core.specs.KeptReplies.{KeptEntry}
 use Rattle.reg_core.specs.Stored.{Stored}
 use Rattle.reg_store.specs.Spells.{IsOpenOver}
 use Rattle.reg_service.specs.declared.service.Service.{Service}
-use Rattle.reg_service.specs.Deliveries.{Exchange, key_of, is_first, is_new, kept_after, reply_after, served, IsDue, Answers, Serves}
+use Rattle.reg_service.specs.Deliveries.{Exchange, key_of, is_first, is_new_key, kept_after, reply_after, served, IsDue, Answers, Serves}
 use Rattle.reg_service.specs.Services.{state_in}
 use Rattle.reg_service.specs.Crashes.{RecoversExchanges, RecoversAcknowledged, ServesDurably}
 use Rattle.reg_service.specs.Restarts.{IsInProgress, RestartsFrom}
@@ -22,9 +22,9 @@ use Rattle.reg_service.proofs.JoinedExchanges.{is_none-kept_after, split, serves
 -- nothing is kept under the key of a first delivery
 fresh : (was : Stored) (before : List Exchange) (d : Delivery) (key : List ℕ) (entry : KeptEntry) → is_first was.replies before d ≡ true → key_of d ≡ Some key → kept_after was.replies before key ≡ Some entry → ⊥
 fresh was before d key entry first some has =
-    let used : is_new was.replies before key ≡ false = sym (is_none-kept_after was.replies before key) ∙ ap is_none has in
-    let stuck : is_write d.command && option_map_or (is_new was.replies before) (key_of d) true ≡ false =
-    ap (λ o. is_write d.command && option_map_or (is_new was.replies before) o true) some ∙ (ap (λ b. is_write d.command && b) used ∙ and_false (is_write d.command)) in
+    let used : is_new_key was.replies before key ≡ false = sym (is_none-kept_after was.replies before key) ∙ ap is_none has in
+    let stuck : is_write d.command && option_map_or (is_new_key was.replies before) (key_of d) true ≡ false =
+    ap (λ o. is_write d.command && option_map_or (is_new_key was.replies before) o true) some ∙ (ap (λ b. is_write d.command && b) used ∙ and_false (is_write d.command)) in
     true≢false (sym first ∙ stuck)
   where
     and_false : (b : Bool) → b && false ≡ false

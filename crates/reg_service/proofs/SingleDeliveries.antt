@@ -16,7 +16,7 @@ use Rattle.reg_core.specs.declared.delivery.Delivery.{Delivery}
 use Rattle.reg_core.specs.KeptReplies.{Kept, KeptEntry, kept_with}
 use Rattle.reg_core.specs.Stored.{Stored}
 use Rattle.reg_core.proofs.UnchangedRegistries.{step-read}
-use Rattle.reg_service.specs.Deliveries.{Exchange, key_of, has_key, is_new, is_first, firsts, exchange_entry, kept_after, IsDue, Answers, IsEvidenceAfterAll, LeadsTo, Serves, served, is_backend_fault}
+use Rattle.reg_service.specs.Deliveries.{Exchange, key_of, has_key, is_new_key, is_first, firsts, exchange_entry, kept_after, IsDue, Answers, IsEvidenceAfterAll, LeadsTo, Serves, served, is_backend_fault}
 use Rattle.reg_service.specs.Inside.Steps.{StepsTo}
 use Rattle.reg_service.proofs.JoinedExchanges.{option_or-none, kept_after-nil, serves_none}
 
@@ -33,7 +33,7 @@ key_of-write d key e = by (is_write d.command) e
 
 -- a delivery without a key is a first delivery exactly if it is a write
 pub is_first-keyless : (k : Kept) (before : List Exchange) (d : Delivery) → key_of d ≡ None → is_first k before d ≡ is_write d.command
-is_first-keyless k before d e = ap (λ o. is_write d.command && option_map_or (is_new k before) o true) e ∙ by (is_write d.command)
+is_first-keyless k before d e = ap (λ o. is_write d.command && option_map_or (is_new_key k before) o true) e ∙ by (is_write d.command)
   where
     by : (w : Bool) → w && true ≡ w
     by true = refl
@@ -42,7 +42,7 @@ is_first-keyless k before d e = ap (λ o. is_write d.command && option_map_or (i
 -- a delivery with a key is one exactly if nothing is kept under the key
 pub is_first-keyed : (k : Kept) (d : Delivery) (key : List ℕ) → key_of d ≡ Some key → is_first k [] d ≡ is_none (k key)
 is_first-keyed k d key e =
-    (λ i. key_of-write d key e i && option_map_or (is_new k []) (e i) true) ∙ by (is_none (k key))
+    (λ i. key_of-write d key e i && option_map_or (is_new_key k []) (e i) true) ∙ by (is_none (k key))
   where
     by : (b : Bool) → b && true ≡ b
     by true = refl

@@ -13,7 +13,7 @@ use Rattle.reg_core.specs.declared.decision.View.{View}
 use Rattle.reg_core.specs.KeptReplies.{Kept}
 use Rattle.reg_core.specs.Evidence.{HasOnlyVersions}
 use Rattle.reg_core.specs.Stored.{Stored}
-use Rattle.reg_core.specs.Views.{ChangesFit, IsDecisionInput, IsDecisionFor, used_schema, evidence_after_changes}
+use Rattle.reg_core.specs.Views.{ChangesFit, IsDecisionInput, IsDecisionFor, schema_if_supported, evidence_after_changes}
 use Rattle.reg_store.specs.declared.keep.Keep.{Keep}
 use Rattle.reg_store.specs.Changes.{HoldsAfterChanges, stored_after_changes, stored_after_apply, with_reply}
 use Rattle.reg_store.specs.Stores.{StillSpells}
@@ -45,7 +45,7 @@ fails_as (Err e) f h = f h
 
 -- on its inputs, a decision is the abstract machine's for the stored state
 pub decided_for : (was : Stored) (command : Command) (schema : Option (List NodeView)) (view : View) (d : Decision) → IsDecisionFor command schema view d
-    → IsDecisionInput was.registry command (used_schema command schema) view → HasOnlyVersions was.registry was.evidence → IsDecisionOfStep was command d
+    → IsDecisionInput was.registry command (schema_if_supported command schema) view → HasOnlyVersions was.registry was.evidence → IsDecisionOfStep was command d
 decided_for was command schema view d decides ground owners = record {
   reply = decides.reply was.registry ground;
   steps = record {

@@ -20,8 +20,9 @@ pub record RecoversExchanges (was : Stored) (xs : List Exchange) (db : Trees) : 
   pub stays_true : HasTrueEvidence was → HasTrueEvidence now
   pub leaves : RecoversTo db now
 
--- This project's choice: the connection closed, and one first delivery and every later one got 50001. Each database that a crash may leave has all
--- acknowledged exchanges, or these and that delivery with the abstract machine's reply.
+-- This project's choice: between `old` and `new`, the connection was open in the service `reached`, and is closed in the later `left` (`SplitAt`). One
+-- first delivery (`is_first`) got 50001, and so did all deliveries after it. An earlier write with its key that got 50001 doesn't count. Each
+-- database that a crash may leave has exactly the acknowledged exchanges, or exactly these and that delivery with the abstract machine's reply.
 pub record RecoversInFlight {S : Type 0} {g : Ghosts S} (old new : Service S g) (was : Stored) (xs : List Exchange) : Type 0 where
   pub at : SplitAt old new xs
   -- the connection was open before, and is closed after

@@ -27,12 +27,12 @@ abbrev pub has_key : List ℕ → Delivery → Bool
 has_key key d = option_map_or (bytes_eq key) (key_of d) false
 
 -- Whether no reply is kept under the key, and no earlier write has it.
-abbrev pub is_new : Kept → List Exchange → List ℕ → Bool
-is_new k before key = is_none (k key) && not (list_any (λ x. has_key key x.0) before)
+abbrev pub is_new_key : Kept → List Exchange → List ℕ → Bool
+is_new_key k before key = is_none (k key) && not (list_any (λ x. has_key key x.0) before)
 
 -- Whether a delivery is a first delivery after the kept replies k and the exchanges `before`: a write with a new key or none.
 abbrev pub is_first : Kept → List Exchange → Delivery → Bool
-is_first k before d = is_write d.command && option_map_or (is_new k before) (key_of d) true
+is_first k before d = is_write d.command && option_map_or (is_new_key k before) (key_of d) true
 
 -- The commands of the first deliveries in the second list, which comes after `before`, in order.
 abbrev pub firsts_after : Kept → List Exchange → List Exchange → List Command

@@ -67,9 +67,10 @@ pub record SplitAt {S : Type 0} {g : Ghosts S} (old new : Service S g) (xs : Lis
   pub here : PreservesService reached left (served (exchange ∷ []) ≡ [])
   pub later : PreservesService left new (served after ≡ [])
 
--- this project's choice: the list splits, and `reached` hasn't failed and `left` has. It doesn't say that the store failed at that
--- exchange; the clause `each` of `Service::run` says more
-pub record FailsAt {S : Type 0} {g : Ghosts S} (old new : Service S g) (xs : List Exchange) : Type 0 where
+-- This project's choice: the list splits at an exchange, and each reply from it on is 50001 (`SplitAt`). On the way from `old` to `new`, the store
+-- hasn't failed in the service `reached`, and has failed in the later service `left`. These needn't be the services before and after that exchange:
+-- the clause `each` of `Service::run` names those.
+pub record FailsDuring {S : Type 0} {g : Ghosts S} (old new : Service S g) (xs : List Exchange) : Type 0 where
   pub at : SplitAt old new xs
   pub not_failed : has_failed (store_in at.reached) ≡ false
   pub fails : IsTrue (has_failed (store_in at.left))

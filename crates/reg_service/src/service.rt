@@ -10,7 +10,7 @@ ghost use Rattle.reg_service.specs.Deliveries.{served, RepeatsAgree, NoOtherAnsw
 ghost use Rattle.reg_service.specs.Admissions.{AllAdmitted};
 ghost use Rattle.reg_service.specs.Crashes.{RecoversAcknowledged, RecoversSpelled, reply_or_fault};
 ghost use Rattle.reg_service.specs.Processing.{Processes, ProcessesEach};
-ghost use Rattle.reg_service.specs.Services.{store_in, state_in, ServesOver, AreBackendFaults, FailsAt, PreservesService};
+ghost use Rattle.reg_service.specs.Services.{store_in, state_in, ServesOver, AreBackendFaults, FailsDuring, PreservesService};
 ghost use Rattle.reg_service.specs.Inside.Crashing.{RecoversOne};
 ghost use Rattle.reg_service.specs.Inside.Steps.{IsDecisionOfStep, ExecutesCommand};
 
@@ -79,9 +79,10 @@ impl<S: Alter> Service<S> {
         }
     }
 
-    /// Processes each delivery in order, as `answer` does. A crash preserves every acknowledged
-    /// delivery. It may also preserve one delivery that got 50001. In that case all deliveries
-    /// after it got 50001, too.
+    /// Processes each delivery in order, as `answer` does. A delivery is acknowledged if its reply
+    /// isn't 50001. The disk is clean if, up to the end of this call, it returned what was written
+    /// to it. On a clean disk, a crash preserves every acknowledged delivery. It may also preserve
+    /// one first delivery that got 50001. In that case all deliveries after it got 50001, too.
     ///
     /// # Errors
     ///
@@ -101,22 +102,23 @@ impl<S: Alter> Service<S> {
         // If the store failed during this call, every reply from some delivery on is 50001. The
         // clause `each` says more.
         ensures fails { IfOk result (λ replies. IsTrue (has_failed (store_in self.new))
-            → IsTrue (has_failed (store_in self.old)) ⊎ FailsAt self.old self.new (zip list.now replies.items)) }
+            → IsTrue (has_failed (store_in self.old)) ⊎ FailsDuring self.old self.new (zip list.now replies.items)) }
 
-        // Apart from replies 50001, each reply is the abstract machine's, or the reply kept for its
-        // key, or 42290 for a key with another command. Each first delivery was applied once. Each
-        // added version has the evidence that its decision named. If all evidence was true, it
-        // still is.
+        // On a clean disk, this is true of the deliveries whose reply isn't 50001. Each reply is
+        // the abstract machine's, or the reply kept for its key, or 42290 for a key with another
+        // command. If the connection is open after the call, the tables spell the result: each
+        // first delivery was applied once. Each added version has the evidence that its decision
+        // named. If all evidence was true, it still is.
         ensures exactly_once { HasCleanDisk (state_in self.new) → IfOk result (λ replies.
             ServesOver (state_in self.old) (state_in self.new) (served (zip list.now replies.items))) }
 
-        // Two writes with the same key and the same command got the same reply, apart from replies
-        // 50001.
+        // On a clean disk, two writes with the same key and the same command got the same reply,
+        // apart from replies 50001.
         ensures repeats { HasCleanDisk (state_in self.new) → IfOk result (λ replies.
             (was : Stored) → SpellsWhileOpen (state_in self.old) was
             → RepeatsAgree (served (zip list.now replies.items))) }
 
-        // No other replies are due to the deliveries whose reply isn't 50001.
+        // On a clean disk, no other replies are due to the deliveries whose reply isn't 50001.
         ensures no_other_replies { HasCleanDisk (state_in self.new) → IfOk result (λ replies.
             (was : Stored) → SpellsWhileOpen (state_in self.old) was
             → NoOtherAnswers was (served (zip list.now replies.items))) }
@@ -124,13 +126,15 @@ impl<S: Alter> Service<S> {
         // An error changes nothing.
         ensures err { OnErr result (self.new ≡ self.old) }
 
-        // Each added version was admitted by its subject's level at that time.
+        // On a clean disk, if the connection was open: each version that an acknowledged delivery
+        // added was admitted by its subject's level at that time.
         ensures admitted { HasCleanDisk (state_in self.new) → IfOk result (λ replies.
             (was : Stored) → IsOpenOver (state_in self.old) was
             → AllAdmitted was (served (zip list.now replies.items))) }
 
-        // After a crash, the tables have every acknowledged delivery, and perhaps one that got
-        // 50001. A delivery's version, reply and evidence survive together.
+        // On a clean disk, if the connection was open: after a crash, the tables have every
+        // acknowledged delivery. They may also have one first delivery that got 50001, but no
+        // other. A delivery's version, reply and evidence survive together.
         ensures crash { HasCleanDisk (state_in self.new) → IfOk result (λ replies.
             (was : Stored) → IsOpenOver (state_in self.old) was
             → RecoversAcknowledged self.old self.new was (zip list.now replies.items)) }

@@ -32,7 +32,7 @@ use Rattle.reg_store.specs.Stores.{KeepsCrashStates, RecoversLastCommit}
 use Rattle.reg_store.specs.Spells.{stored_version, IsSpelled, SpellsLayoutOne, SpellsIn, Spells, RecoversToIn, RecoversTo, IsOpenOver, SpellsWhileOpen}
 use Rattle.reg_store.specs.declared.layout.Layout.{Layout}
 use Rattle.reg_store.specs.declared.layout.Layout.TheVariants.{One, Two}
-use Rattle.reg_store.specs.Inside.Applying.{SpellsNew, IsNew, RecoversToNew}
+use Rattle.reg_store.specs.Inside.Applying.{SpellsNew, IsOpenOverNew, RecoversToNew}
 use Rattle.reg_store.proofs.Evidence.{no_evidence}
 
 pub keeps_if_failed : (a b : State) (e : Error) → FailsToCommit a b e → KeepsCommit a b
@@ -61,8 +61,8 @@ none_at : (id : ℕ) → schema_at [] id ≡ None
 none_at zero = refl
 none_at (suc n) = refl
 
-no_schema : (id : ℕ) (nodes : List NodeView) → schema_at [] id ≡ Some nodes → ⊥
-no_schema id nodes there = let none = sym (none_at id) ∙ there in absurd (cc)
+none_at_any_id : (id : ℕ) (nodes : List NodeView) → schema_at [] id ≡ Some nodes → ⊥
+none_at_any_id id nodes there = let none = sym (none_at id) ∙ there in absurd (cc)
 
 -- tables without rows, except in `meta`, spell a new registry
 new_is_spelled : (meta : TextMap (List ℕ)) → IsSpelled (record no_contents { meta = meta }) new_registry nothing_kept
@@ -70,11 +70,11 @@ new_is_spelled meta = record {
   registry = record {
     schemas = All-nil IsSchema;
     few = lit≤ tt;
-    apart = λ i j one other here there same. absurd (no_schema i one here);
+    apart = λ i j one other here there same. absurd (none_at_any_id i one here);
     rows = λ key version there. absurd (let none = sym (get-empty row_cmp key) ∙ there in cc);
   };
   texts = λ id. get-empty nat_cmp id ∙ sym (ap (option_map identity) (none_at id));
-  utf8 = λ id nodes there. absurd (no_schema id nodes there);
+  utf8 = λ id nodes there. absurd (none_at_any_id id nodes there);
   versions = λ key. get-empty version_cmp key ∙ sym (ap (option_map stored_version) (get-empty row_cmp key));
   registered = λ key version there. absurd (let none = sym (get-empty row_cmp key) ∙ there in cc);
   levels = λ subject. get-empty text_cmp subject;
@@ -107,9 +107,9 @@ spells_new_one now h = record {
   spelled = record { base = new_is_spelled new_contents_one.meta; meta = refl; modes = record { global = refl; own = λ subject. refl }; evidence = refl };
 }
 
-pub is_new : (layout : Layout) (s : State) → IsTrue s.is_open → s.committed ≡ s.now → SpellsNew layout s.now → IsNew layout s
-is_new One s is_open settled spells = record { is_open = is_open; settled = settled; spells = spells }
-is_new Two s is_open settled spells = record { is_open = is_open; settled = settled; spells = spells }
+pub is_open_over_new : (layout : Layout) (s : State) → IsTrue s.is_open → s.committed ≡ s.now → SpellsNew layout s.now → IsOpenOverNew layout s
+is_open_over_new One s is_open settled spells = record { is_open = is_open; settled = settled; spells = spells }
+is_open_over_new Two s is_open settled spells = record { is_open = is_open; settled = settled; spells = spells }
 
 pub leaves_new : (layout : Layout) (db : Trees) (now : Database) → db ≡ now.trees → SpellsNew layout now → RecoversToNew layout db
 leaves_new One db now is spells = left_if_spelled db now new_stored is spells

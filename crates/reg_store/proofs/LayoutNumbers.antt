@@ -10,7 +10,7 @@ use Rattle.std.proofs.lemmas.Bool.{and_parts}
 use Rattle.std.proofs.lemmas.Bool.Decides.{nat_tests}
 use Rattle.std.proofs.lemmas.Str.Parse.{digits_value-take-le}
 use Rattle.reg_core.specs.Numbers.{is_number}
-use Rattle.reg_rows.specs.Meta.{MetaPair, value_of, has_value, number_in, layout_of}
+use Rattle.reg_rows.specs.Meta.{MetaPair, value_of, value_equals, number_in, layout_of}
 
 digit_above : (c : ℕ) → not (c == 48) ≡ true → is_ascii_digit c ≡ true → 0 < digit_value c
 digit_above c other digit = let is = digit_value_digit c (in_range c digit) in let more = above c other (in_range c digit) in omega (arith, is, more)
@@ -40,7 +40,7 @@ number_above text number h = go (is_number text) (nat_le (digits_value 10 text) 
     go false b is h = absurd (cc)
 
 pub above_zero : (pairs : List MetaPair) (number : ℕ) → layout_of pairs ≡ Some number → 0 < number
-above_zero pairs number h = go (has_value (codes "avroreg") (value_of (codes "format") pairs)) (value_of (codes "layout") pairs) h
+above_zero pairs number h = go (value_equals (codes "avroreg") (value_of (codes "format") pairs)) (value_of (codes "layout") pairs) h
   where
     go : (format : Bool) (o : Option (List ℕ)) → (if format then option_and_then number_in o else None) ≡ Some number → 0 < number
     go true None h = absurd (cc)

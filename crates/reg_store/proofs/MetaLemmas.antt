@@ -26,7 +26,7 @@ use Rattle.reg_tables.proofs.ListingLemmas.{find_had, stored, listed_if_shown}
 use Rattle.reg_tables.proofs.UniqueKeys.{rowids_of}
 use Rattle.reg_tables.proofs.Tables.{openable_has_eight, five, eight_has_five}
 use Rattle.reg_tables.proofs.Statements.{laid_out, one_has_five}
-use Rattle.reg_rows.specs.Meta.{value_of, layout_one_names, layout_two_names, has_value, has_level, has_mode, has_common, has_only_known_names, number_in, layout_of}
+use Rattle.reg_rows.specs.Meta.{value_of, layout_one_names, layout_two_names, value_equals, has_level, has_mode, has_common, has_only_known_names, number_in, layout_of}
 use Rattle.reg_store.specs.declared.error.StoreError.{StoreError}
 use Rattle.reg_store.specs.declared.error.StoreError.TheVariants.{Memory, Disk, NotARegistry, OldLayout, NewerLayout}
 use Rattle.reg_store.specs.declared.layout.Layout.{Layout}
@@ -43,8 +43,8 @@ use Rattle.reg_store.proofs.CheckLemmas.{framed, some_known, some_can_be_read}
 
 layout_named : (number : ℕ) (text : List ℕ) (lines : List RawMeta) → number_in text ≡ Some number → has_common text (pairs_of lines) ≡ true → layout_of (pairs_of lines) ≡ Some number
 layout_named number text lines is common =
-    let format = has_value (codes "avroreg") (value_of (codes "format") (pairs_of lines)) in
-    let layout = has_value text (value_of (codes "layout") (pairs_of lines)) in
+    let format = value_equals (codes "avroreg") (value_of (codes "format") (pairs_of lines)) in
+    let layout = value_equals text (value_of (codes "layout") (pairs_of lines)) in
     let one = (and_parts format layout (and_parts (format && layout) (has_level (value_of (codes "global") (pairs_of lines))) common).0).0 in
     ap (λ b. if b then option_and_then number_in (value_of (codes "layout") (pairs_of lines)) else None) one ∙ ap (option_and_then number_in) (layout_is lines text common) ∙ is
 
@@ -89,7 +89,7 @@ module _ (lines : List RawMeta) (rows : List Row) (lists : Lists pair_form rows 
 
   pub names_if_in : (number : ℕ) → layout_of (pairs_of lines) ≡ Some number → RowsNameLayout rows number
   names_if_in number h =
-      let both = named_in (has_value (codes "avroreg") (value_of (codes "format") (pairs_of lines))) (option_and_then number_in (value_of (codes "layout") (pairs_of lines))) number h in
+      let both = named_in (value_equals (codes "avroreg") (value_of (codes "format") (pairs_of lines))) (option_and_then number_in (value_of (codes "layout") (pairs_of lines))) number h in
       let it = text_of (value_of (codes "layout") (pairs_of lines)) number both.1 in
       record { format = said (codes "format") (codes "avroreg") (value_is (codes "avroreg") _ both.0); text = it.0; layout = said (codes "layout") it.0 it.1; is = it.2 }
 
@@ -106,7 +106,7 @@ module _ (lines : List RawMeta) (db : Database) (lists : ListsMeta db lines) whe
 
     pub in_if_names : (number : ℕ) → NamesLayout db number → layout_of (pairs_of lines) ≡ Some number
     in_if_names number n =
-        ap (λ o. if has_value (codes "avroreg") o then option_and_then number_in (value_of (codes "layout") (pairs_of lines)) else None) (found (codes "format") (codes "avroreg") n.format)
+        ap (λ o. if value_equals (codes "avroreg") o then option_and_then number_in (value_of (codes "layout") (pairs_of lines)) else None) (found (codes "format") (codes "avroreg") n.format)
         ∙ ap (λ b. if b then option_and_then number_in (value_of (codes "layout") (pairs_of lines)) else None) (same_bytes (codes "avroreg"))
         ∙ ap (option_and_then number_in) (found (codes "layout") n.text n.layout) ∙ n.is
 

@@ -19,7 +19,7 @@ use Rattle.reg_tables.proofs.MapLemmas.{tied_key, other_key, same_or_not, get-in
 use Rattle.reg_tables.proofs.KeyedTables.{text_order}
 use Rattle.reg_tables.proofs.ListingLemmas.{found_first, find_had}
 use Rattle.reg_rows.specs.Spelling.{meta_pair}
-use Rattle.reg_rows.specs.Meta.{MetaPair, value_of, layout_one_names, layout_two_names, is_name, has_only_known_names, has_value, has_level, has_mode, has_common, is_layout_one_meta, is_layout_two_meta}
+use Rattle.reg_rows.specs.Meta.{MetaPair, value_of, layout_one_names, layout_two_names, is_name, has_only_known_names, value_equals, has_level, has_mode, has_common, is_layout_one_meta, is_layout_two_meta}
 use Rattle.reg_store.specs.Spells.{layout_two_meta}
 use Rattle.reg_store.specs.Opening.{meta_columns}
 use Rattle.reg_store.proofs.Bridge.{find_passes, spelt}
@@ -32,7 +32,7 @@ use Rattle.reg_store.proofs.ReadBack.{level_of-level_text, mode_of-mode_text}
 pub mode_spelt : (text : List ℕ) (mode : Mode) → mode_of text ≡ Some mode → text ≡ mode_text mode
 mode_spelt text mode h = (bytes_eq-Decides text (mode_text mode)).0 (find_passes (λ m. bytes_eq text (mode_text m)) modes mode h)
 
-pub value_is : (text : List ℕ) (o : Option (List ℕ)) → has_value text o ≡ true → o ≡ Some text
+pub value_is : (text : List ℕ) (o : Option (List ℕ)) → value_equals text o ≡ true → o ≡ Some text
 value_is text None h = absurd (cc)
 value_is text (Some v) h = ap Some ((bytes_eq-Decides v text).0 h)
 
@@ -187,10 +187,10 @@ module _ (lines : List RawMeta) where
 
   module _ (number : List ℕ) (common : has_common number pairs_in ≡ true) where
     abbrev format : Bool
-    format = has_value (codes "avroreg") (value_of (codes "format") pairs_in)
+    format = value_equals (codes "avroreg") (value_of (codes "format") pairs_in)
 
     abbrev layout : Bool
-    layout = has_value number (value_of (codes "layout") pairs_in)
+    layout = value_equals number (value_of (codes "layout") pairs_in)
 
     abbrev global : Bool
     global = has_level (value_of (codes "global") pairs_in)
@@ -216,7 +216,7 @@ module _ (lines : List RawMeta) where
   common_fits : (number : List ℕ) (level : Level) → get meta_in (codes "format") ≡ Some (codes "avroreg") → get meta_in (codes "layout") ≡ Some number → get meta_in (codes "global") ≡ Some (level_text level) → has_common number pairs_in ≡ true
   common_fits number level format layout global =
       and_from _ _
-      (and_from _ _ (ap (has_value (codes "avroreg")) (meta_found (codes "format") ∙ format) ∙ same_bytes (codes "avroreg")) (ap (has_value number) (meta_found (codes "layout") ∙ layout) ∙ same_bytes number))
+      (and_from _ _ (ap (value_equals (codes "avroreg")) (meta_found (codes "format") ∙ format) ∙ same_bytes (codes "avroreg")) (ap (value_equals number) (meta_found (codes "layout") ∙ layout) ∙ same_bytes number))
       (ap has_level (meta_found (codes "global") ∙ global) ∙ ap is_some (level_of-level_text level))
 
   -- valid rows of layout 1 spell a level

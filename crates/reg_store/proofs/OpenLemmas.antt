@@ -8,7 +8,7 @@ use Rattle.sqlite.specs.State.{State, HasCleanDisk, Survives, KeepsCommit}
 use Rattle.sqlite.proofs.StateLemmas.{survives_then}
 use Rattle.sqlite_trees.specs.declared.store.Store.{Ghosts}
 use Rattle.reg_core.specs.Stored.{Stored}
-use Rattle.reg_tables.specs.Layout.{HasFiveTables, IsLayoutOne, no_schema, layout_two_unindexed, layout_two_indexed_last, IsOpenable}
+use Rattle.reg_tables.specs.Layout.{HasFiveTables, IsLayoutOne, empty_schema, layout_two_unindexed, layout_two_indexed_last, IsOpenable}
 use Rattle.reg_tables.proofs.Statements.{one_has_five}
 use Rattle.reg_tables.specs.Contents.{Contents, HoldsContents}
 use Rattle.reg_tables.specs.Reads.{OnlyReads}
@@ -136,7 +136,7 @@ leaves_unlimited g conn begun is new e leaves =
     }
 
 -- `create` changes no database with tables
-pub unmade_beside : {S : Type 0} (g : Ghosts S) (conn begun : Held S) → begun ≡ record conn { step_limit = None } → {RecoversToNew : Trees → Type 0} → (state g begun).now.schema ≢ no_schema
+pub unmade_beside : {S : Type 0} (g : Ghosts S) (conn begun : Held S) → begun ≡ record conn { step_limit = None } → {RecoversToNew : Trees → Type 0} → (state g begun).now.schema ≢ empty_schema
     → (IsTrue (state g begun).is_open → (state g begun).now ≡ (state g begun).committed) → RecoversLastCommit (state g begun) → IsCreateFailure RecoversToNew (state g conn) (state g begun) NotARegistry
 unmade_beside g conn begun is others settled commit = record {
   fault = λ clean none. absurd (others (ap (λ (h : Held _). h.schema) is ∙ none));

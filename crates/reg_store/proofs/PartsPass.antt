@@ -16,7 +16,7 @@ use Rattle.reg_core.specs.Registry.{RowKey}
 use Rattle.reg_tables.specs.declared.evidence.RawEvidence.{RawEvidence}
 use Rattle.reg_tables.specs.declared.evidence.RawAgainst.{RawAgainst}
 use Rattle.reg_tables.specs.Layout.{table_at}
-use Rattle.reg_tables.specs.Contents.{version_cmp, position_cells, evidence_form, against_form, TableName, Against, Contents, HoldsContents}
+use Rattle.reg_tables.specs.Contents.{version_cmp, position_key_cells, evidence_form, against_form, TableName, Against, Contents, HoldsContents}
 use Rattle.reg_tables.specs.TableMaps.{ShowsMap}
 use Rattle.reg_tables.specs.Listings.{parts_of, entry_parts, evidence_entry, against_entry, against_rows, is_of, ListsEvidence, ListsAgainst}
 use Rattle.reg_tables.proofs.KeyedTables.{distinct_texts, version_order, distinct_versions}
@@ -59,7 +59,7 @@ has_among (first ∷ versions) version row (inr later) is = go (is_of first row)
 
 -- each row has a position
 abbrev HavePositions : List Row → Type 0
-HavePositions rows = (row : Row) → Has rows row → (position : PositionKey) × (against_form.key_of row ≡ position_cells position)
+HavePositions rows = (row : Row) → Has rows row → (position : PositionKey) × (against_form.key_of row ≡ position_key_cells position)
 
 module _ (db : Database) (keyed : HavePositions (against_rows db)) where
   parted : (versions : List RowKey) → IsDistinct (eq_by_cmp version_cmp) versions → IsPermutation (filter (among versions) (against_rows db)) (rows_of db versions)

@@ -20,7 +20,7 @@ use Rattle.sqlite_value.proofs.OrderLemmas.{value_cmp_total}
 use Rattle.reg_core.specs.Registry.{RowKey}
 use Rattle.reg_tables.specs.declared.evidence.RawAgainst.{RawAgainst}
 use Rattle.reg_tables.specs.TableMaps.{HaveDifferentRowids}
-use Rattle.reg_tables.specs.Contents.{version_cmp, against_form, position_cells}
+use Rattle.reg_tables.specs.Contents.{version_cmp, against_form, position_key_cells}
 use Rattle.reg_tables.specs.Listings.{RowParts, parts_of, entry_parts, Lists, against_entry, against_rows, is_of, ListsAgainst, ListsAgainstOf}
 use Rattle.reg_tables.proofs.KeyedTables.{version_order}
 use Rattle.reg_tables.proofs.ListMembers.{has_mapped, maps_had, has_permuted}
@@ -66,14 +66,14 @@ all_rows_are (x ∷ xs) ys up among few =
 -- ---- rows and lines
 
 abbrev pub HasPosition : List Row → PositionKey → Type 0
-HasPosition rows position = (row : Row) × Has rows row × (against_form.key_of row ≡ position_cells position)
+HasPosition rows position = (row : Row) × Has rows row × (against_form.key_of row ≡ position_key_cells position)
 
 -- the positions of a version in these rows are the numbers from 1 to a count
 pub record Counted (rows : List Row) (version : RowKey) : Type 0 where
   pub count : ℕ
   pub positions : (position : ℕ) → HasPosition rows (version, position) ↔ ((0 < position) × (position ≤ count))
 
-pub key_is : (row : Row) (line : RawAgainst) → parts_of against_form row ≡ entry_parts against_form (against_entry line) → against_form.key_of row ≡ position_cells (position_at line)
+pub key_is : (row : Row) (line : RawAgainst) → parts_of against_form row ≡ entry_parts against_form (against_entry line) → against_form.key_of row ≡ position_key_cells (position_at line)
 key_is row line same = ap (λ (p : RowParts). p.1) same
 
 module _ (rows : List Row) (lines : List RawAgainst) (lists : Lists against_form rows (map against_entry lines)) where
@@ -97,7 +97,7 @@ module _ (rows : List Row) (lines : List RawAgainst) (lists : Lists against_form
     λ h.
         (let l = has_mapped position_at lines position (has_contained (map position_at lines) position h) in
         let r = line_row l.0 l.1 in
-        (r.0, r.1, key_is r.0 l.0 r.2 ∙ ap position_cells (sym l.2))),
+        (r.0, r.1, key_is r.0 l.0 r.2 ∙ ap position_key_cells (sym l.2))),
     λ h.
         (let l = line_of h.0 h.1 in
         let same : position_at l.0 ≡ position = distinct_positions (position_at l.0) position (sym (key_is h.0 l.0 l.2) ∙ h.2) in
@@ -128,13 +128,13 @@ module _ (rows : List Row) (lines : List RawAgainst) (lists : Lists against_form
 
 -- ---- the rows of a version
 
-version_cells_are : (row : Row) (position : PositionKey) → against_form.key_of row ≡ position_cells position → column row 1 ∷ column row 2 ∷ [] ≡ column (position_cells position) 0 ∷ column (position_cells position) 1 ∷ []
+version_cells_are : (row : Row) (position : PositionKey) → against_form.key_of row ≡ position_key_cells position → column row 1 ∷ column row 2 ∷ [] ≡ column (position_key_cells position) 0 ∷ column (position_key_cells position) 1 ∷ []
 version_cells_are row position is = ap (λ (r : Row). column r 0 ∷ column r 1 ∷ []) is
 
-pub of_itself : (row : Row) (position : PositionKey) → against_form.key_of row ≡ position_cells position → is_of position.0 row ≡ true
+pub of_itself : (row : Row) (position : PositionKey) → against_form.key_of row ≡ position_key_cells position → is_of position.0 row ≡ true
 of_itself row position is = is_of_told position.0 row position.0 (version_cells_are row position is) ∙ tied_key version_cmp version_order position.0 position.0 refl
 
-pub of_one : (row : Row) (position : PositionKey) (version : RowKey) → against_form.key_of row ≡ position_cells position → is_of version row ≡ true → position.0 ≡ version
+pub of_one : (row : Row) (position : PositionKey) (version : RowKey) → against_form.key_of row ≡ position_key_cells position → is_of version row ≡ true → position.0 ≡ version
 of_one row position version is passes = same_key version_cmp version_order position.0 version (sym (is_of_told version row position.0 (version_cells_are row position is)) ∙ passes)
 
 module _ (rows : List Row) (version : RowKey) where

@@ -14,7 +14,7 @@ use Rattle.reg_store.specs.Spells.{Spells, RecoversTo, SpellsWhileOpen}
 abbrev pub keep_entry : Keep → KeptEntry
 keep_entry keep = record { command = keep.command.now; reply = keep.reply.now }
 
--- this project's choice: the kept replies, with the new one if any
+-- this project's choice: the kept replies, with the new one, if any, under its key; it replaces a reply that the key had
 abbrev pub with_reply : Option Keep → Kept → Kept
 with_reply None k = k
 with_reply (Some keep) k = kept_with k keep.key.now (keep_entry keep)

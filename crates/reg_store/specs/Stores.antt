@@ -1,6 +1,6 @@
 -- A store's connection, and what each call keeps of it.
 use Rattle.std.specs.Prelude.{◌≡◌, ◌⊎◌, ◌↔◌, ◌≤◌, Bool, false, IsTrue, Result, Err, OnOk, MatchResult}
-use Rattle.reg_tables.specs.Layout.{no_schema}
+use Rattle.reg_tables.specs.Layout.{empty_schema}
 use Rattle.reg_tables.specs.Reads.{OnlyReads}
 use Rattle.sqlite_disk.specs.Disk.{MoreFaults}
 use Rattle.sqlite.specs.Held.{Held, state}
@@ -58,7 +58,7 @@ pub record KeepsConnection (old new : State) (e : StoreError) : Type 0 where
 -- This project's choice: why `create` fails, and what it leaves, if the disk has returned what was written (`HasCleanDisk`). In an empty database,
 -- memory or a disk fault is the cause. A crash leaves what it could leave before, or the new registry.
 pub record IsCreateFailure (RecoversToNew : Trees → Type 0) (old new : State) (e : StoreError) : Type 0 where
-  pub fault : HasCleanDisk new → old.now.schema ≡ no_schema → IsFaultBy old new e
+  pub fault : HasCleanDisk new → old.now.schema ≡ empty_schema → IsFaultBy old new e
   pub leaves : KeepsConnection old new e
   pub crash : HasCleanDisk new → (db : Trees) → new.may_leave db → old.may_leave db ⊎ RecoversToNew db
 

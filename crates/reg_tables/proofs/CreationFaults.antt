@@ -9,7 +9,7 @@ use Rattle.sqlite_catalog.specs.declared.error.Refusal.{Refusal}
 use Rattle.sqlite_catalog.specs.declared.error.Refusal.TheVariants.{Violates}
 use Rattle.sqlite_trees.specs.Sound.{same_name as same_word, begins, is_free_name, fits_kind}
 use Rattle.sqlite_tied.specs.Compute.{everything}
-use Rattle.reg_tables.specs.Layout.{no_schema, partial_layout_one, texts, versions, levels, kept, meta, modes, evidence, against, partial_layout_two}
+use Rattle.reg_tables.specs.Layout.{empty_schema, partial_layout_one, texts, versions, levels, kept, meta, modes, evidence, against, partial_layout_two}
 use Rattle.reg_tables.specs.FailedCalls.{IsFault}
 use Rattle.reg_tables.specs.Inside.Statements.{IsOneStatement}
 use Rattle.reg_tables.proofs.Statements.{MakesTable, make_texts, make_versions, make_levels, make_kept, make_meta, make_modes, make_evidence, make_against}
@@ -30,7 +30,7 @@ pub record CanBeMade (sql : List ℕ) (schema : Schema) (table : Table) : Type 0
   pub fits : is_fit (Text (codes "table")) (Text table.name) (Text table.name) (Text sql) ≡ true
   pub short : 2 * length table.name + length sql + 200 < 10 ^ 9
 
-pub texts_can_be : CanBeMade make_texts no_schema texts
+pub texts_can_be : CanBeMade make_texts empty_schema texts
 unfolding understood everything same_name same_word begins is_free_name fits_kind value_cmp lib.Utf8.encode lib.Ieee.is_nan lib.Ieee.lt
 texts_can_be = record {
   whole = (lit≤ tt, refl);

@@ -12,7 +12,7 @@ use Rattle.reg_tables.proofs.Rooms.{room_after}
 use Rattle.reg_tables.proofs.ListMembers.{has_mapped, maps_had}
 use Rattle.reg_tables.specs.Contents.{version_cmp, number_cells, version_key_cells, flag_cell, text_cmp, text_cells}
 use Rattle.reg_tables.specs.Inside.KeyedLaws.{HasNoForeignKeyAction, HasNoUpdateAction, ReplacesMap, IsKeyOrder}
-use Rattle.reg_tables.specs.Inside.Statements.{plain_query, IsCommand, IsSelect, TableQuery, body_of, IsQuery, by_key, by_id, by_version}
+use Rattle.reg_tables.specs.Inside.Statements.{plain_query, IsCommand, IsSelect, TableQuery, body_of, IsQuery, by_first_column, by_id, by_version}
 use Rattle.reg_tables.proofs.Queries.{passes, passing, one_passing, found_count, answer_has, has_answer}
 use Rattle.reg_tables.proofs.MapLemmas.{same_key, tied_key}
 use Rattle.reg_tables.proofs.RowLemmas.{FindsRowids, shows_inserted, shows_removed, shows_altered}
@@ -42,9 +42,9 @@ pub distinct_texts : (a b : List ℕ) → text_cells a ≡ text_cells b → a �
 distinct_texts a b h = cc
 
 -- a row passes if it has the key
-pub by_key_test : (row : Row) (k q : List ℕ) → column row 1 ∷ [] ≡ text_cells q → passes by_key (Text k ∷ []) row ≡ is_eq (text_cmp q k)
+pub by_first_column_test : (row : Row) (k q : List ℕ) → column row 1 ∷ [] ≡ text_cells q → passes by_first_column (Text k ∷ []) row ≡ is_eq (text_cmp q k)
 unfolding binary
-by_key_test row k q is = let its : column row 1 ≡ Text q = cc in rw (its, value_cmp-Text q k) (truth (is_eq (text_cmp q k)))
+by_first_column_test row k q is = let its : column row 1 ≡ Text q = cc in rw (its, value_cmp-Text q k) (truth (is_eq (text_cmp q k)))
   where
     truth : (b : Bool) → (is_true (from_truth (Some b)) && true) ≡ b
     truth true = refl

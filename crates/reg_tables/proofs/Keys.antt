@@ -4,13 +4,13 @@ use Rattle.reg_tables.proofs.Kit.{is_eq, nat_cmp, ordering_then, IsAntisymmetric
 use Rattle.sqlite.specs.Order.{column}
 use Rattle.sqlite_sql.specs.Ops.{binary}
 use Rattle.sqlite_value.specs.Keys.{first_key}
-use Rattle.reg_tables.specs.Contents.{text_cmp, version_cmp, PositionKey, position_cmp, position_cells, VersionEntryView, KeptReplyView, text_cells, number_cells, version_key_cells, flag_cell, version_cells, kept_cells, against_form, TableName, Texts, Versions, Levels, Kept, Meta, Modes, Evidence, Against, KeyOf, ValueOf, cmp_of, form_of}
+use Rattle.reg_tables.specs.Contents.{text_cmp, version_cmp, PositionKey, position_cmp, position_key_cells, VersionEntryView, KeptReplyView, text_cells, number_cells, version_key_cells, flag_cell, version_cells, kept_cells, against_form, TableName, Texts, Versions, Levels, Kept, Meta, Modes, Evidence, Against, KeyOf, ValueOf, cmp_of, form_of}
 use Rattle.reg_tables.specs.Inside.Statements.{by_position}
 use Rattle.reg_tables.specs.Inside.Keyed.{tests_of}
 use Rattle.reg_tables.specs.Inside.KeyedLaws.{IsKeyOrder}
 use Rattle.reg_tables.proofs.MapLemmas.{same_key, tied_key}
 use Rattle.reg_tables.proofs.Queries.{passes}
-use Rattle.reg_tables.proofs.KeyedTables.{text_order, distinct_texts, by_key_test, number_order, distinct_numbers, by_id_test, version_order, distinct_versions, by_version_test, same_pos}
+use Rattle.reg_tables.proofs.KeyedTables.{text_order, distinct_texts, by_first_column_test, number_order, distinct_numbers, by_id_test, version_order, distinct_versions, by_version_test, same_pos}
 
 -- ---- positions
 
@@ -25,7 +25,7 @@ same_positions a b h = go (version_cmp a.0 b.0) refl h
 pub position_order : IsKeyOrder position_cmp
 position_order = record { total = then_total (on_total (λ (key : PositionKey). key.0) version_order.total) (on_total (λ (key : PositionKey). key.1) nat_cmp_total); antisymmetric = same_positions }
 
-pub distinct_positions : (a b : PositionKey) → position_cells a ≡ position_cells b → a ≡ b
+pub distinct_positions : (a b : PositionKey) → position_key_cells a ≡ position_key_cells b → a ≡ b
 distinct_positions a b h =
     let subject : a.0.0 ≡ b.0.0 = cc in
     let number : a.0.1 ≡ b.0.1 = cc in
@@ -33,7 +33,7 @@ distinct_positions a b h =
     λ i. ((subject i, number i), position i)
 
 -- a row passes if it has the subject, the number and the position
-by_position_test : (row : Row) (k q : PositionKey) → against_form.key_of row ≡ position_cells q → passes by_position (position_cells k) row ≡ is_eq (position_cmp q k)
+by_position_test : (row : Row) (k q : PositionKey) → against_form.key_of row ≡ position_key_cells q → passes by_position (position_key_cells k) row ≡ is_eq (position_cmp q k)
 unfolding binary
 by_position_test row k q is =
     let subject : column row 1 ≡ Text q.0.0 = cc in
@@ -78,7 +78,7 @@ distinct_kept_rows a b h =
 
 texts_tied : (a b : Row) (q k : List ℕ) → column a 1 ∷ [] ≡ text_cells q → column b 1 ∷ [] ≡ text_cells k → agree (record { digits = 0 }) (1 ∷ []) a (1 ∷ []) b ≡ is_eq (text_cmp q k)
 unfolding first_key
-texts_tied a b q k of_a of_b = let its : column b 1 ≡ Text k = cc in rw its (by_key_test a k q of_a)
+texts_tied a b q k of_a of_b = let its : column b 1 ≡ Text k = cc in rw its (by_first_column_test a k q of_a)
 
 ids_tied : (a b : Row) (q k : ℕ) → column a 0 ∷ [] ≡ number_cells q → column b 0 ∷ [] ≡ number_cells k → agree (record { digits = 0 }) (0 ∷ []) a (0 ∷ []) b ≡ is_eq (nat_cmp q k)
 unfolding first_key
@@ -91,7 +91,7 @@ versions_tied a b q k of_a of_b =
     let number : column b 2 ≡ Int (pos k.1) = cc in
     rw (subject, number) (by_version_test a k q of_a)
 
-positions_tied : (a b : Row) (q k : PositionKey) → against_form.key_of a ≡ position_cells q → against_form.key_of b ≡ position_cells k → agree (record { digits = 0 }) (1 ∷ 2 ∷ 3 ∷ []) a (1 ∷ 2 ∷ 3 ∷ []) b ≡ is_eq (position_cmp q k)
+positions_tied : (a b : Row) (q k : PositionKey) → against_form.key_of a ≡ position_key_cells q → against_form.key_of b ≡ position_key_cells k → agree (record { digits = 0 }) (1 ∷ 2 ∷ 3 ∷ []) a (1 ∷ 2 ∷ 3 ∷ []) b ≡ is_eq (position_cmp q k)
 unfolding first_key
 positions_tied a b q k of_a of_b =
     let subject : column b 1 ≡ Text k.0.0 = cc in
@@ -123,10 +123,10 @@ pub record HasKey (name : TableName) : Type 0 where
 pub key_laws : (name : TableName) → HasKey name
 key_laws Texts = record { order = number_order; distinct = distinct_numbers; distinct_values = distinct_texts; test = λ row k q is. by_id_test row k q is; tied = λ a b q k x y. ids_tied a b q k x y }
 key_laws Versions = record { order = version_order; distinct = distinct_versions; distinct_values = distinct_version_rows; test = λ row k q is. by_version_test row k q is; tied = λ a b q k x y. versions_tied a b q k x y }
-key_laws Levels = record { order = text_order; distinct = distinct_texts; distinct_values = distinct_texts; test = λ row k q is. by_key_test row k q is; tied = λ a b q k x y. texts_tied a b q k x y }
-key_laws Kept = record { order = text_order; distinct = distinct_texts; distinct_values = distinct_kept_rows; test = λ row k q is. by_key_test row k q is; tied = λ a b q k x y. texts_tied a b q k x y }
-key_laws Meta = record { order = text_order; distinct = distinct_texts; distinct_values = distinct_texts; test = λ row k q is. by_key_test row k q is; tied = λ a b q k x y. texts_tied a b q k x y }
-key_laws Modes = record { order = text_order; distinct = distinct_texts; distinct_values = distinct_texts; test = λ row k q is. by_key_test row k q is; tied = λ a b q k x y. texts_tied a b q k x y }
+key_laws Levels = record { order = text_order; distinct = distinct_texts; distinct_values = distinct_texts; test = λ row k q is. by_first_column_test row k q is; tied = λ a b q k x y. texts_tied a b q k x y }
+key_laws Kept = record { order = text_order; distinct = distinct_texts; distinct_values = distinct_kept_rows; test = λ row k q is. by_first_column_test row k q is; tied = λ a b q k x y. texts_tied a b q k x y }
+key_laws Meta = record { order = text_order; distinct = distinct_texts; distinct_values = distinct_texts; test = λ row k q is. by_first_column_test row k q is; tied = λ a b q k x y. texts_tied a b q k x y }
+key_laws Modes = record { order = text_order; distinct = distinct_texts; distinct_values = distinct_texts; test = λ row k q is. by_first_column_test row k q is; tied = λ a b q k x y. texts_tied a b q k x y }
 key_laws Evidence = record { order = version_order; distinct = distinct_versions; distinct_values = distinct_texts; test = λ row k q is. by_version_test row k q is; tied = λ a b q k x y. versions_tied a b q k x y }
 key_laws Against = record { order = position_order; distinct = distinct_positions; distinct_values = distinct_numbers; test = λ row k q is. by_position_test row k q is; tied = λ a b q k x y. positions_tied a b q k x y }
 

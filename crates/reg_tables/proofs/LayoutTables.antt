@@ -7,7 +7,7 @@ use Rattle.sqlite_value.specs.Keys.{joined, first_key}
 use Rattle.reg_tables.specs.declared.kept.KeptReply.{KeptReply}
 use Rattle.reg_tables.specs.declared.versions.VersionEntry.{VersionEntry}
 use Rattle.reg_tables.specs.Layout.{five_tables_then, layout_one, meta, added_tables, IsIndexedLayoutTwo, TakesMeta}
-use Rattle.reg_tables.specs.Contents.{text_cells, number_cells, version_key_cells, position_cells, VersionEntryView, version_cells, KeptReplyView, kept_cells, against_form, PositionKey, TableName, Versions, Levels, Kept, Meta, Modes, Evidence, Against}
+use Rattle.reg_tables.specs.Contents.{text_cells, number_cells, version_key_cells, position_key_cells, VersionEntryView, version_cells, KeptReplyView, kept_cells, against_form, PositionKey, TableName, Versions, Levels, Kept, Meta, Modes, Evidence, Against}
 use Rattle.reg_tables.specs.KeptReplyViews.{kept_reply_view}
 use Rattle.reg_tables.specs.Entries.{version_entry_view}
 use Rattle.reg_tables.specs.Inside.KeyedLaws.{IsKeyed, InsertKeepsReferences, KeepsOthers, IsTableAt, HasNoForeignKeyAction}
@@ -32,7 +32,7 @@ text_there place texts text row id there is its =
     let same : agree plain (0 ∷ []) text (place ∷ []) row ≡ true = rw its (by_id_test text id id is ∙ tied_key nat_cmp number_order id id refl) in
     or_right _ _ (some_from (λ parent. agree plain (0 ∷ []) parent (place ∷ []) row) texts text there same)
 
-pub place_version : (row : Row) (key : PositionKey) → against_form.key_of row ≡ position_cells key → column row 1 ∷ column row 2 ∷ [] ≡ version_key_cells key.0
+pub place_version : (row : Row) (key : PositionKey) → against_form.key_of row ≡ position_key_cells key → column row 1 ∷ column row 2 ∷ [] ≡ version_key_cells key.0
 place_version row key is =
     let subject : column row 1 ≡ Text key.0.0 = cc in
     let number : column row 2 ≡ Int (pos key.0.1) = cc in

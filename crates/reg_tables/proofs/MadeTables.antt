@@ -1,7 +1,7 @@
 -- The database after CREATE TABLE.
 use Rattle.std.proofs.Common.{◌≡◌, ℕ, List, [], slice_get, None, false, Ok, refl, sym, ap, subst, ◌∙◌}
 use Rattle.reg_tables.proofs.Kit.{Trees, Table, Schema, created, next_tree, KeepsRows, CreateTable, Tally, lacks_sequence, Database, IsDatabase, State, Executes, Writes, runs_as}
-use Rattle.reg_tables.specs.Layout.{no_schema}
+use Rattle.reg_tables.specs.Layout.{empty_schema}
 use Rattle.reg_tables.specs.Contents.{TableName, Texts, Versions, Levels, Kept, Meta, Modes, Evidence, Against, ordinal_of, form_of, map_of, Contents, ShowsIn, ShowsAll, HoldsContents}
 use Rattle.reg_tables.specs.Changes.{no_contents}
 use Rattle.reg_tables.proofs.Statements.{MakesTable}
@@ -51,7 +51,7 @@ pub makes : (sql : List ℕ) (before : Schema) (table : Table) (after : Schema) 
 makes sql before table after m old new count contents holds ran = holds_more sql before table after m old new count contents holds.shows holds.declared ran
 
 -- a database without tables has empty contents
-pub holds_nothing : (trees : Trees) (name : TableName) → ShowsIn (form_of name) trees (slice_get no_schema.tables (ordinal_of name)) (map_of name no_contents)
+pub holds_nothing : (trees : Trees) (name : TableName) → ShowsIn (form_of name) trees (slice_get empty_schema.tables (ordinal_of name)) (map_of name no_contents)
 holds_nothing trees Texts = refl
 holds_nothing trees Versions = refl
 holds_nothing trees Levels = refl

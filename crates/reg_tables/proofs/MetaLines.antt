@@ -1,20 +1,15 @@
 -- What the rows of `meta` say about the contents.
-use Rattle.std.proofs.Common.{◌≡◌, inl, inr, ℕ, List, [], ◌∷◌, map, Bool, true, false, Option, option_map, refl, sym, ap, ◌∙◌}
+use Rattle.std.proofs.Common.{◌≡◌, inl, inr, ℕ, List, [], ◌∷◌, map, Bool, true, false, refl, sym, ap, ◌∙◌}
 use Rattle.reg_tables.proofs.Kit.{bytes_eq, string_bytes, is_eq, get, get-from_entries, false_from_ne_true, bytes_eq-Decides, Schema, Database}
-use Rattle.std.specs.List.{find}
 use Rattle.std.specs.FinMap.Entries.{find as find_key}
 use Rattle.reg_tables.specs.declared.meta.RawMeta.{RawMeta}
 use Rattle.reg_tables.specs.Layout.{meta, HasFiveTables}
 use Rattle.reg_tables.specs.Contents.{text_cmp, pair_form, Contents, HoldsContents}
-use Rattle.reg_tables.specs.Listings.{without_rowid, meta_entry, ListsMeta}
+use Rattle.reg_tables.specs.Listings.{without_rowid, meta_entry, meta_value, ListsMeta}
 use Rattle.reg_tables.proofs.MapLemmas.{tied_key, other_key, same_or_not}
 use Rattle.reg_tables.proofs.KeyedTables.{text_order, distinct_texts}
 use Rattle.reg_tables.proofs.Tables.{five}
 use Rattle.reg_tables.proofs.ListingLemmas.{listed_if_shown}
-
--- the value of the first row with this name
-abbrev pub meta_value : List ℕ → List RawMeta → Option (List ℕ)
-meta_value name lines = option_map (λ (line : RawMeta). string_bytes line.value) (find (λ (line : RawMeta). bytes_eq (string_bytes line.name) name) lines)
 
 value_found : (name : List ℕ) (lines : List RawMeta) → meta_value name lines ≡ find_key text_cmp name (map without_rowid (map meta_entry lines))
 value_found name [] = refl

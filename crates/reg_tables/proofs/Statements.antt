@@ -4,8 +4,8 @@ use Rattle.reg_tables.proofs.Kit.{Null, Int, Text, Key, Term, lit, col, op2, Bin
 use Rattle.reg_tables.specs.Contents.{flag_cell, Contents, HoldsContents}
 use Rattle.sqlite.specs.Listing.{understood}
 use Rattle.sqlite_tied.specs.Compute.{everything}
-use Rattle.reg_tables.specs.Layout.{no_schema, partial_layout_one, five_tables_then, layout_one, layout_one_unindexed, HasFiveTables, IsLayoutOne, texts, versions, levels, kept, meta, modes, evidence, against, partial_layout_two}
-use Rattle.reg_tables.specs.Inside.Statements.{by_key, by_version, IsCommand, TableQuery, IsQuery, Takes, no_limit, plain_query}
+use Rattle.reg_tables.specs.Layout.{empty_schema, partial_layout_one, five_tables_then, layout_one, layout_one_unindexed, HasFiveTables, IsLayoutOne, texts, versions, levels, kept, meta, modes, evidence, against, partial_layout_two}
+use Rattle.reg_tables.specs.Inside.Statements.{by_first_column, by_version, IsCommand, TableQuery, IsQuery, Takes, no_limit, plain_query}
 
 -- ---- CREATE TABLE
 
@@ -20,7 +20,7 @@ pub record MakesTable (sql : List ℕ) (schema : Schema) (table : Table) (after 
 abbrev pub make_texts : List ℕ
 make_texts = codes "CREATE TABLE texts (id INTEGER PRIMARY KEY, text TEXT NOT NULL UNIQUE) STRICT"
 
-pub makes_texts : MakesTable make_texts no_schema texts (partial_layout_one 1)
+pub makes_texts : MakesTable make_texts empty_schema texts (partial_layout_one 1)
 unfolding understood everything
 makes_texts = record { command = record { is = refl; plain = (refl, refl) }; text = refl; defined = refl; is = refl; whole = refl }
 
@@ -175,7 +175,7 @@ abbrev pub versions_query : List ℕ → List Term → List (Term × Key) → Te
 versions_query sql tests order limit = record { sql = sql; tree = 2; tests = tests; shown = col 1 1 ∷ col 1 2 ∷ col 1 3 ∷ col 1 4 ∷ []; names = codes "subject" ∷ codes "version" ∷ codes "id" ∷ codes "deleted" ∷ []; order = order; limit = limit }
 
 abbrev pub find_versions : TableQuery
-find_versions = numbers_query (codes "SELECT version, id, deleted FROM versions WHERE subject = ?1 ORDER BY subject, version") by_key in_order no_limit
+find_versions = numbers_query (codes "SELECT version, id, deleted FROM versions WHERE subject = ?1 ORDER BY subject, version") by_first_column in_order no_limit
 
 pub asks_versions : (subject : List ℕ) → IsAsked find_versions (Text subject ∷ [])
 unfolding understood everything
@@ -186,7 +186,7 @@ abbrev pub from_greatest : List (Term × Key)
 from_greatest = (col 1 1, record { collation = Binary; descending = true }) ∷ (col 1 2, record { collation = Binary; descending = true }) ∷ []
 
 abbrev pub find_last_version : TableQuery
-find_last_version = numbers_query (codes "SELECT version, id, deleted FROM versions WHERE subject = ?1 ORDER BY subject DESC, version DESC LIMIT 1") by_key from_greatest first_row
+find_last_version = numbers_query (codes "SELECT version, id, deleted FROM versions WHERE subject = ?1 ORDER BY subject DESC, version DESC LIMIT 1") by_first_column from_greatest first_row
 
 pub asks_last_version : (subject : List ℕ) → IsAsked find_last_version (Text subject ∷ [])
 unfolding understood everything

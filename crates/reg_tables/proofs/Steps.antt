@@ -1,7 +1,7 @@
 -- Sequences of calls inside a transaction, and CREATE TABLE.
 use Rattle.std.proofs.Common.{◌≡◌, ◌≤◌, ◌⊎◌, inl, ℕ, List, [], Ok, Err, Result, IsTrue, true, ◌∙◌, arith}
 use Rattle.reg_tables.proofs.Kit.{OnOk, IfErr, IsErrAnd, Table, Schema, State, HasCleanDisk, Survives, ExecutesInside, Database, Error, Transaction, Ghosts}
-use Rattle.reg_tables.specs.Layout.{no_schema}
+use Rattle.reg_tables.specs.Layout.{empty_schema}
 use Rattle.reg_tables.specs.Contents.{Contents, HoldsContents}
 use Rattle.reg_tables.specs.Changes.{no_contents}
 use Rattle.reg_tables.specs.Frames.{state_in, RunsInTransaction}
@@ -119,12 +119,12 @@ module _ {S X : Type 0} {g : Ghosts S} {a b : Transaction S} {r : Result X Error
   }
 
 -- in a database without tables
-module _ {S X : Type 0} {g : Ghosts S} {a b : Transaction S} {r : Result X Error} {sql : List ℕ} {table : Table} {after : Schema} (m : MakesTable sql no_schema table after) (can : CanBeMade sql no_schema table) (frame : RunsInTransaction g a b r)
+module _ {S X : Type 0} {g : Ghosts S} {a b : Transaction S} {r : Result X Error} {sql : List ℕ} {table : Table} {after : Schema} (m : MakesTable sql empty_schema table after) (can : CanBeMade sql empty_schema table) (frame : RunsInTransaction g a b r)
     (runs : HasCleanDisk (state_in g b) → OnOk r ((count : ℕ) × ExecutesInside 0 sql [] (state_in g a) (state_in g b) (Ok count)))
     (failed : HasCleanDisk (state_in g b) → IfErr r (λ e. OrTooLate (state_in g a) e (ExecutesInside 0 sql [] (state_in g a) (state_in g b) (Err e)))) where
   pub makes_first : Transforms IsWriteFault g a b r IsEmpty (λ _ db. HoldsContents after db no_contents)
   makes_first = record {
     frame = frame;
-    made = λ clean. on_ok r (λ ran about none. holds_more sql no_schema table after m (state_in g a) (state_in g b) ran.0 no_contents (holds_nothing (state_in g a).now.trees) none ran.1.0) (runs clean);
-    fault = λ clean. if_err r (λ e why about none. as_write_fault (state_in g a) (state_in g b) e (make_fails sql no_schema table after m can (state_in g a) (state_in g b) none e) why) (failed clean);
+    made = λ clean. on_ok r (λ ran about none. holds_more sql empty_schema table after m (state_in g a) (state_in g b) ran.0 no_contents (holds_nothing (state_in g a).now.trees) none ran.1.0) (runs clean);
+    fault = λ clean. if_err r (λ e why about none. as_write_fault (state_in g a) (state_in g b) e (make_fails sql empty_schema table after m can (state_in g a) (state_in g b) none e) why) (failed clean);
   }

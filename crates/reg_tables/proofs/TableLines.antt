@@ -6,7 +6,7 @@ use Rattle.sqlite.specs.Order.{column}
 use Rattle.reg_tables.specs.declared.autocommit.AutocommitConnection.{AutocommitConnection}
 use Rattle.reg_tables.specs.Frames.{after_begin, ReadsInAutocommit}
 use Rattle.reg_tables.specs.Lookups.{ReadsTable}
-use Rattle.reg_tables.specs.Layout.{HasFiveTables, no_schema, HasEightTables}
+use Rattle.reg_tables.specs.Layout.{HasFiveTables, empty_schema, HasEightTables}
 use Rattle.reg_tables.specs.Reads.{HoldsReadable, CanBeRead, HasReadableMeta, BeginsWithFiveTables, HoldsReadableIn}
 use Rattle.reg_tables.specs.FailedCalls.{IsFault, IsUnreadable}
 use Rattle.reg_tables.specs.TableMaps.{RowForm, IsEntry, ShowsMap}
@@ -184,7 +184,7 @@ readable_mode db there row has = by_entry pair_form (db.trees (tree_of Modes db.
     record { rowid = id_in (rowid row); key = key; value = value; is = pair_is row key value rowid_is is; key_utf8 = can.0; value_utf8 = can.1 })
 
 pub shows_modes : ShowsTable HasEightTables HoldsEight pair_form IsReadablePair modes_sql (tree_of Modes)
-shows_modes = record { shown = (modes_query no_schema).shown; names = (modes_query no_schema).names; is = modes_is; takes = modes_takes; whole = λ row. refl; known = of_eight; readable = readable_mode }
+shows_modes = record { shown = (modes_query empty_schema).shown; names = (modes_query empty_schema).names; is = modes_is; takes = modes_takes; whole = λ row. refl; known = of_eight; readable = readable_mode }
 
 -- ---- evidence
 
@@ -215,7 +215,7 @@ readable_evidence db there row has =
     record { rowid = id_in (rowid row); subject = key.0; number = key.1; level = level; is = evidence_row row key level rowid_is is; utf8 = can.0; low = can.1; level_utf8 = can.2 })
 
 pub shows_evidence : ShowsTable HasEightTables HoldsEight evidence_form IsReadableEvidence evidence_sql (tree_of Evidence)
-shows_evidence = record { shown = (evidence_query no_schema).shown; names = (evidence_query no_schema).names; is = evidence_is; takes = evidence_takes; whole = λ row. refl; known = of_eight; readable = readable_evidence }
+shows_evidence = record { shown = (evidence_query empty_schema).shown; names = (evidence_query empty_schema).names; is = evidence_is; takes = evidence_takes; whole = λ row. refl; known = of_eight; readable = readable_evidence }
 
 -- ---- against
 

@@ -7,8 +7,8 @@ use Rattle.reg_tables.specs.TableMaps.{IsEntry, ShowsMap}
 use Rattle.reg_tables.specs.Contents.{version_cmp, VersionEntryView, version_cells, version_key_cells, version_form, text_cmp, Contents, AreReadable, HoldsContents}
 use Rattle.reg_tables.specs.Entries.{SubjectVersionView, subject_version_view, subject_version_cells, subject_versions, IsReadableSubjectVersion}
 use Rattle.reg_tables.specs.declared.listed.SubjectVersion.{SubjectVersion}
-use Rattle.reg_tables.specs.Inside.Statements.{no_limit, ordered_query, TableQuery, body_of, IsQuery, by_key}
-use Rattle.reg_tables.proofs.KeyedTables.{int_order, text_order, version_order, by_key_test, with_nothing, answered}
+use Rattle.reg_tables.specs.Inside.Statements.{no_limit, ordered_query, TableQuery, body_of, IsQuery, by_first_column}
+use Rattle.reg_tables.proofs.KeyedTables.{int_order, text_order, version_order, by_first_column_test, with_nothing, answered}
 use Rattle.reg_tables.proofs.ListMembers.{has_mapped}
 use Rattle.reg_tables.proofs.MapLemmas.{same_key, tied_key}
 use Rattle.reg_tables.proofs.Keys.{distinct_version_rows}
@@ -89,8 +89,8 @@ distinct_numbered a b h =
 abbrev pub entry_cells : Entry → Row
 entry_cells e = subject_version_cells (e.0.1, e.1)
 
-pub by_subject : (subject : List ℕ) (row : Row) (e : Entry) → IsEntry version_form row e.0 e.1 → passes by_key (Text subject ∷ []) row ≡ bytes_eq e.0.0 subject
-by_subject subject row e is = by_key_test row subject e.0.0 (let k = is.0 in cc) ∙ same_text e.0.0 subject
+pub by_subject : (subject : List ℕ) (row : Row) (e : Entry) → IsEntry version_form row e.0 e.1 → passes by_first_column (Text subject ∷ []) row ≡ bytes_eq e.0.0 subject
+by_subject subject row e is = by_first_column_test row subject e.0.0 (let k = is.0 in cc) ∙ same_text e.0.0 subject
 
 pub entry_shown : (row : Row) (e : Entry) → IsEntry version_form row e.0 e.1 → column row 2 ∷ column row 3 ∷ column row 4 ∷ [] ≡ entry_cells e
 entry_shown row e is =

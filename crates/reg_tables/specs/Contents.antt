@@ -78,8 +78,8 @@ version_cells version = Int (pos version.id) ∷ flag_cell version.deleted ∷ [
 abbrev pub kept_cells : KeptReplyView → Row
 kept_cells reply = Text reply.command ∷ Int (pos reply.status) ∷ Text reply.body ∷ []
 
-abbrev pub position_cells : PositionKey → Row
-position_cells key = Text key.0.0 ∷ Int (pos key.0.1) ∷ Int (pos key.1) ∷ []
+abbrev pub position_key_cells : PositionKey → Row
+position_key_cells key = Text key.0.0 ∷ Int (pos key.0.1) ∷ Int (pos key.1) ∷ []
 
 -- a row of `texts` after its rowid; the column `id` is an alias of the rowid, and is stored as NULL
 abbrev pub text_row_cells : List ℕ → Row
@@ -120,7 +120,7 @@ abbrev pub against_form : RowForm PositionKey ℕ
 against_form = record {
   key_of = λ row. column row 1 ∷ column row 2 ∷ column row 3 ∷ [];
   value_of = λ row. column row 4 ∷ [];
-  key_cells = position_cells;
+  key_cells = position_key_cells;
   value_cells = number_cells;
 }
 

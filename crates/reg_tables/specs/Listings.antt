@@ -1,5 +1,5 @@
 -- Lists that have each row of a table once, in any order.
-use Rattle.std.specs.Prelude.{◌≡◌, ℕ, ℤ, pos, min, Bool, not, ◌&&◌, List, map, filter, length, string_bytes, IsPermutation}
+use Rattle.std.specs.Prelude.{◌≡◌, ℕ, ℤ, pos, min, Bool, not, ◌&&◌, List, map, filter, find, length, bytes_eq, string_bytes, Option, option_map, IsPermutation}
 use Rattle.std.specs.declared.cmp.Ordering.{Ordering}
 use Rattle.std.specs.Ordering.{is_eq, is_lt, is_gt, int_cmp, eq_by_cmp}
 use Rattle.std.specs.List.{IsDistinct}
@@ -60,6 +60,10 @@ kept_entry line = (line.rowid, string_bytes line.key, kept_reply_view line.reply
 
 abbrev pub meta_entry : RawMeta → ℤ × List ℕ × List ℕ
 meta_entry line = (line.rowid, string_bytes line.name, string_bytes line.value)
+
+-- the value of the first row of `meta` with this name; `None` without such a row
+abbrev pub meta_value : List ℕ → List RawMeta → Option (List ℕ)
+meta_value name lines = option_map (λ (line : RawMeta). string_bytes line.value) (find (λ (line : RawMeta). bytes_eq (string_bytes line.name) name) lines)
 
 abbrev pub ListsTexts : Database → List RawText → Type 0
 ListsTexts db lines = Lists text_form (db.trees texts.tree) (map text_entry lines)

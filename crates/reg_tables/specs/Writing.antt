@@ -6,13 +6,13 @@ use Rattle.sqlite.specs.Effect.{Database}
 use Rattle.sqlite.specs.declared.error.Error.{Error}
 use Rattle.sqlite.specs.declared.transaction.Transaction.{Transaction}
 use Rattle.sqlite_trees.specs.declared.store.Store.{Ghosts}
-use Rattle.reg_tables.specs.Layout.{no_schema, IsIndexedLayoutTwo}
+use Rattle.reg_tables.specs.Layout.{empty_schema, IsIndexedLayoutTwo}
 use Rattle.reg_tables.specs.Contents.{Contents, HoldsContents}
 use Rattle.reg_tables.specs.Frames.{state_in, RunsInTransaction}
 
 -- ---- in layout 2 with its index
 
--- `P` is true of the contents that the tables have in layout 2 with its index, if any
+-- If the tables have contents in layout 2 with its index, `P` is true of them. Otherwise this says nothing.
 abbrev pub ForHeldContents : State → (Contents → Type 0) → Type 0
 ForHeldContents s P = (schema : Schema) → IsIndexedLayoutTwo schema → (contents : Contents) → HoldsContents schema s.now contents → P contents
 
@@ -40,7 +40,7 @@ pub record Transforms {S X I : Type 0} (IsFailure : State → State → Error �
 
 -- the database has no table, index or view
 abbrev pub IsEmpty : Unit {0} → Database → Type 0
-IsEmpty _ db = db.schema ≡ no_schema
+IsEmpty _ db = db.schema ≡ empty_schema
 
 -- the database has this schema and these contents
 abbrev pub Holding : Schema → Contents → Database → Type 0

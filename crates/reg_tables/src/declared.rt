@@ -2,7 +2,7 @@
 
 ghost use Rattle.std.specs.Prelude.{◌≡◌, ◌↔◌, IsTrue};
 ghost use Rattle.sqlite.specs.Held.{state};
-ghost use Rattle.reg_tables.specs.Layout.{layout_one, layout_one_unindexed, no_schema, layout_two_unindexed, IsIndexedLayoutTwo};
+ghost use Rattle.reg_tables.specs.Layout.{layout_one, layout_one_unindexed, empty_schema, layout_two_unindexed, IsIndexedLayoutTwo};
 ghost use Rattle.reg_tables.specs.Inside.Forms.{schema_of};
 
 use crate::declared::listed_forms::are_declared;
@@ -53,13 +53,13 @@ pub fn is_unindexed_two<S: Alter>(conn: &Connection<S>) -> bool
 
 /// Whether the database has no table, index or view.
 pub fn is_empty_database<S: Alter>(conn: &Connection<S>) -> bool
-    ensures { IsTrue result ↔ ((state S.Store conn.now).now.schema ≡ no_schema) }
+    ensures { IsTrue result ↔ ((state S.Store conn.now).now.schema ≡ empty_schema) }
 {
     is_empty(conn.schema())
 }
 
 fn is_empty(schema: &Schema) -> bool
-    ensures { IsTrue result ↔ (schema.now ≡ no_schema) }
+    ensures { IsTrue result ↔ (schema.now ≡ empty_schema) }
 {
     schema.tables.as_slice().is_empty()
         && schema.indexes.as_slice().is_empty()

@@ -69,7 +69,8 @@ impl SchemaCache {
         SchemaCache { lru_entries: None }
     }
 
-    /// Returns the number of cached schemas, and the total length of their texts in bytes.
+    /// Returns the number of cached schemas, and the total length in bytes of the texts that they were
+    /// cached with. Their identity texts don't count.
     pub fn len_and_bytes(&self) -> (usize, usize)
         ensures schemas { result.0 ≡ length self.now }
         ensures bytes { result.1 ≡ text_bytes self.now }

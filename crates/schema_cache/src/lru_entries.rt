@@ -93,9 +93,10 @@ impl LruEntries {
         Some(entry)
     }
 
-    /// Whether there is room for another entry with a text of this many bytes.
-    pub fn has_room(&self, more: usize) -> bool {
-        self.cache.len() < MAX_ENTRIES && self.bytes.saturating_add(more) <= MAX_TOTAL_BYTES
+    /// Whether another entry with a text of this many bytes can be added without exceeding
+    /// `MAX_ENTRIES` or `MAX_TOTAL_BYTES`. An entry that it would replace still counts.
+    pub fn has_room(&self, text_len: usize) -> bool {
+        self.cache.len() < MAX_ENTRIES && self.bytes.saturating_add(text_len) <= MAX_TOTAL_BYTES
     }
 
     /// Evicts the least recently used entry.
@@ -108,12 +109,12 @@ impl LruEntries {
 
     /// Evicts the least recently used entries until there is room for another text of this many
     /// bytes.
-    fn make_room(&mut self, more: usize)
-        requires { more ≤ max_total_bytes }
-        ensures text_bytes { text_bytes self.new + more ≤ max_total_bytes }
+    fn make_room(&mut self, text_len: usize)
+        requires { text_len ≤ max_total_bytes }
+        ensures text_bytes { text_bytes self.new + text_len ≤ max_total_bytes }
         ensures few { length self.new < max_entries }
     {
-        while self.cache.len() >= MAX_ENTRIES || self.bytes > MAX_TOTAL_BYTES - more {
+        while self.cache.len() >= MAX_ENTRIES || self.bytes > MAX_TOTAL_BYTES - text_len {
             self.evict();
         }
     }
@@ -125,11 +126,11 @@ impl LruEntries {
         ensures ok { OnOk result (lookup (nat_eq id) self.new ≡ Some entry) }
         ensures err { IfErr result (λ back. back ≡ entry) }
     {
-        let more = entry.text().len();
-        self.make_room(more);
+        let text_len = entry.text().len();
+        self.make_room(text_len);
         match self.cache.push(id, entry) {
             Ok(replaced) => {
-                self.bytes = self.bytes + more - freed_bytes(replaced);
+                self.bytes = self.bytes + text_len - freed_bytes(replaced);
                 Ok(())
             }
             Err(failed) => Err(failed.value.1),

@@ -46,8 +46,8 @@ pub record HasUnions (nodes : List NodeView) (lists : List (Vec ℕ Global)) : T
   pub named : (i : ℕ) (a : NodeView) → slice_get nodes i ≡ Some a → IsUnionListed lists i a
   pub meant : (i place : ℕ) → IsListedAt lists i place → (a : NodeView) → slice_get nodes i ≡ Some a → HasBranch a place
 
--- the list has the places of all unions; other places aren't excluded
-pub record AreUnions (nodes : List NodeView) (unions : List ℕ) : Type 0 where
+-- the list has the places of all unions, and perhaps other places of these nodes
+pub record HasAllUnions (nodes : List NodeView) (unions : List ℕ) : Type 0 where
   pub within : All (λ i. i < length nodes) unions
   pub all : (i : ℕ) (branches : List ℕ) → slice_get nodes i ≡ Some (union branches) → Contains unions i
 
@@ -82,7 +82,8 @@ alias_labels (Some rank_map) ranks = []
 abbrev pub ranks_of : Option (Bor RankMap) → Option (List (Option ℕ))
 ranks_of rank_map = option_map (λ m. m.now.ranks.items) rank_map
 
--- the referrer refers to the type of its field by each label of the field
+-- The list of this place, which is that of the field's type, has the links of the referrer's field at this index, and perhaps others. One link is by
+-- the field's own name, if this has a label (`own_label`). A reader's field (without a rank map) also has one by each alias.
 pub record IsFieldLinked (rank_map : Option (List (Option ℕ))) (links : Links) (referrer index place : ℕ) (ranks : FieldRanks) : Type 0 where
   pub own : (label : ℕ) → own_label rank_map ranks.name ≡ Some label → LinkedBy (HasLabel label ByName) links.lists.items referrer place
   pub aliases : All (λ label. LinkedBy (IsAlias links.aliased.items referrer index label) links.lists.items referrer place) (alias_labels rank_map ranks.aliases.items)
@@ -112,20 +113,21 @@ pub record IsNodeLinked (names : List (List ℕ)) (rank_map : Option (List (Opti
 abbrev pub IsPlaceLinked : List (List ℕ) → Option (List (Option ℕ)) → Links → ℕ → NodeView → Type 0
 IsPlaceLinked names rank_map links referrer a = (ranks : List FieldRanks) × IsNodeLinked names rank_map links referrer a ranks
 
--- The field at this index gives its record a link of this kind. By name: if the link's label is that of the field's own name. By alias: if
--- the kind has the number of the field. By element: never.
-abbrev pub GivenBy : Option (List (Option ℕ)) → List Aliased → ℕ → FieldRanks → Link → LinkKind → Type 0
-GivenBy rank_map numbered index ranks x ByElement = ⊥
-GivenBy rank_map numbered index ranks x ByName = own_label rank_map ranks.name ≡ Some x.label
-GivenBy rank_map numbered index ranks x (ByAlias number) = slice_get numbered number ≡ Some (record { place = x.referrer; index = index })
+-- The field at this index gives its record, the link's referrer, this link. The kind is the link's, and decides the rule. By name: if the link's label
+-- is that of the field's own name. By alias: if the kind has the number of this field among the aliased ones; the label isn't restricted. By
+-- element: never.
+abbrev pub IsLinkOfField : Option (List (Option ℕ)) → List Aliased → ℕ → FieldRanks → Link → LinkKind → Type 0
+IsLinkOfField rank_map aliased index ranks x ByElement = ⊥
+IsLinkOfField rank_map aliased index ranks x ByName = own_label rank_map ranks.name ≡ Some x.label
+IsLinkOfField rank_map aliased index ranks x (ByAlias number) = slice_get aliased number ≡ Some (record { place = x.referrer; index = index })
 
 -- one of these fields has its type at the place, and gives such a link
-abbrev pub IsOfField : Option (List (Option ℕ)) → List Aliased → List FieldView → List FieldRanks → Link → ℕ → Type 0
-IsOfField rank_map numbered fields ranks x place = (index : ℕ) × (f : FieldView) × (y : FieldRanks) × (slice_get fields index ≡ Some f) × (slice_get ranks index ≡ Some y) × (f.place ≡ place) × GivenBy rank_map numbered index y x x.kind
+abbrev pub IsLinkOfFields : Option (List (Option ℕ)) → List Aliased → List FieldView → List FieldRanks → Link → ℕ → Type 0
+IsLinkOfFields rank_map aliased fields ranks x place = (index : ℕ) × (f : FieldView) × (y : FieldRanks) × (slice_get fields index ≡ Some f) × (slice_get ranks index ≡ Some y) × (f.place ≡ place) × IsLinkOfField rank_map aliased index y x x.kind
 
 -- the node has such a link to the place: by its items or values, or by a field
-abbrev pub IsOfNode : List (List ℕ) → Option (List (Option ℕ)) → List Aliased → NodeView → Link → ℕ → Type 0
-IsOfNode names rank_map numbered a x place = ((x.kind ≡ ByElement) × (element_place a ≡ Some place)) ⊎ ((ranks : List FieldRanks) × AreFieldsRanked names (fields_of a) ranks × IsOfField rank_map numbered (fields_of a) ranks x place)
+abbrev pub IsLinkOfNode : List (List ℕ) → Option (List (Option ℕ)) → List Aliased → NodeView → Link → ℕ → Type 0
+IsLinkOfNode names rank_map aliased a x place = ((x.kind ≡ ByElement) × (element_place a ≡ Some place)) ⊎ ((ranks : List FieldRanks) × AreFieldsRanked names (fields_of a) ranks × IsLinkOfFields rank_map aliased (fields_of a) ranks x place)
 
 -- only such links were added to the lists of such places, each numbered field keeps its number, and the lists of unions are unchanged
 pub record OnlyAddsLinks (Such : Link → ℕ → Type 0) (old new : Links) : Type 0 where
@@ -137,13 +139,13 @@ pub record OnlyAddsLinks (Such : Link → ℕ → Type 0) (old new : Links) : Ty
 abbrev pub AreSorted : List (Vec Link Global) → Type 0
 AreSorted lists = (place : ℕ) → IsNonDecreasingBy (λ (x : Link). x.label) (list_at lists place)
 
--- The list of each place has a link for each reference to it, by each label. Its links are only of such references (IsOfNode); the label of a link
+-- The list of each place has a link for each reference to it, by each label. Its links are only of such references (IsLinkOfNode); the label of a link
 -- by element or alias isn't restricted.
 pub record HasLinks (names : List (List ℕ)) (rank_map : Option (List (Option ℕ))) (nodes : List NodeView) (links : Links) : Type 0 where
   pub within : (x : Link) (place : ℕ) → IsListedAt links.lists.items x place → x.referrer < length nodes
   pub sorted : AreSorted links.lists.items
   pub named : (i : ℕ) (a : NodeView) → slice_get nodes i ≡ Some a → IsPlaceLinked names rank_map links i a
-  pub meant : (x : Link) (place : ℕ) → IsListedAt links.lists.items x place → (a : NodeView) → slice_get nodes x.referrer ≡ Some a → IsOfNode names rank_map links.aliased.items a x place
+  pub meant : (x : Link) (place : ℕ) → IsListedAt links.lists.items x place → (a : NodeView) → slice_get nodes x.referrer ≡ Some a → IsLinkOfNode names rank_map links.aliased.items a x place
 
 -- the unions and the links of a schema
 pub record HasReferrers (names : List (List ℕ)) (rank_map : Option (List (Option ℕ))) (nodes : List NodeView) (side_links : Links) : Type 0 where
@@ -164,8 +166,10 @@ CanMatchKinds sources writer_place referrer ByName ByName = Unit {0}
 CanMatchKinds sources writer_place referrer ByName (ByAlias number) = entry_at sources referrer number ≡ writer_place + 1
 CanMatchKinds sources writer_place referrer _ _ = ⊥
 
--- The kinds of a writer's link to this place and of a reader's link match. If they are links of two schemas (AreReferrers) and their labels are
--- equal too, the pair of their referrers depends on the pair of the places to which they refer.
+-- The kinds of a writer's link to this place and of a reader's link match: both are by element, or both by name. A writer's link by name also matches
+-- a reader's by alias, if the source of the reader's field in the writer's record has its type at this place. `sources` has the source entries of
+-- the reader's aliased fields, for each of the writer's places. If the links are of two schemas (AreReferrers) and have the same label, the pair of
+-- their referrers depends on the pair of the places to which they refer.
 abbrev pub LinkKindsMatch : List (Vec ℕ Global) → ℕ → Link → Link → Type 0
 LinkKindsMatch sources writer_place writer_link reader_link = CanMatchKinds sources writer_place writer_link.referrer writer_link.kind reader_link.kind
 

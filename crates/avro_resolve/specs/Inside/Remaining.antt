@@ -37,7 +37,7 @@ pub record IsRemainder (w r : List NodeView) (t : Table) : Type 0 where
   pub readers : t.readers ≡ length r
   pub eliminated : List Pair
   pub refutes : RefutesAfter w r [] eliminated
-  pub differ : AreDistinct eliminated
+  pub distinct : AreDistinct eliminated
   pub exact : (i j : ℕ) → i < length w → j < length r → remains t i j ≡ without eliminated i j
   pub count : length eliminated + count_remaining t ≡ length w * length r
 

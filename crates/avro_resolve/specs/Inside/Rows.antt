@@ -10,7 +10,7 @@ use Rattle.avro_resolve.specs.Asking.{source_place}
 use Rattle.avro_resolve.specs.Inside.Agreeing.{fields_of}
 use Rattle.avro_resolve.specs.Inside.FieldSlots.{AreFieldsInSlots}
 use Rattle.avro_resolve.specs.Inside.Schemas.{columns, names_of, rows, IsValidSchemaPair}
-use Rattle.avro_resolve.specs.Inside.Sources.{Describes, IsSourceEntry, IsReaderField}
+use Rattle.avro_resolve.specs.Inside.Sources.{Describes, IsSourceEntry, DescribesAliasedField}
 
 -- the fields of the place
 abbrev pub row_fields : WriterPlace → List FieldView
@@ -23,7 +23,7 @@ pub record IsWriterPlace (schemas : SchemaPair) (row : WriterPlace) : Type 0 whe
   pub places : All (λ g. g.place < length schemas.writer.schema.now) row.fields.fields.now
   pub in_slots : AreFieldsInSlots schemas row.fields row.slots.now
   pub entries : AllZip (IsSourceEntry (columns schemas) (row_fields row)) row.aliased_fields.aliased.now row.entries.now
-  pub wanted : AllZip (IsReaderField schemas.reader) row.aliased_fields.aliased.now row.aliased_fields.wanted.now
+  pub wanted : AllZip (DescribesAliasedField schemas.reader) row.aliased_fields.aliased.now row.aliased_fields.wanted.now
 
 -- the pair of the writer's place and the reader's place j is one of the table's, for these two schemas
 pub record TableCoversPair (schemas : SchemaPair) (row : WriterPlace) (table : Table) (j : ℕ) : Type 0 where

@@ -37,4 +37,4 @@ pub record IsValidSchemaPair (schemas : SchemaPair) : Type 0 where
   pub writer : IsValidIndexedSchema schemas.writer
   pub reader : IsValidIndexedSchema schemas.reader
   pub rank_map : AreMapped (names_of schemas.writer) (names_of schemas.reader) schemas.rank_map.ranks.items
-  pub known : IsKnown schemas.rank_map.ranks.items schemas.rank_map.known.items
+  pub known : IsKnown schemas.rank_map.ranks.items schemas.rank_map.writer_has.items

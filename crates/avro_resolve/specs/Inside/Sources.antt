@@ -31,7 +31,7 @@ abbrev pub Describes : List (List ℕ) → ReaderField → FieldView → Type 0
 Describes names wanted f = (wanted.place ≡ f.place) × (IsTrue wanted.has_default ↔ IsSome f.value) × IsFieldRanked names f wanted.names.now
 
 -- The description is `None`, or that of some field. If the schema has the aliased field, it is that field's.
-pub record IsReaderField (indexed : IndexedSchema) (aliased : Aliased) (wanted : Option ReaderField) : Type 0 where
+pub record DescribesAliasedField (indexed : IndexedSchema) (aliased : Aliased) (wanted : Option ReaderField) : Type 0 where
   pub some : IfSome wanted (λ w. (f : FieldView) × Describes (names_of indexed) w f)
   pub known : (f : FieldView) → field_at (nodes_of indexed) aliased ≡ Some f → IsSomeAnd wanted (λ w. Describes (names_of indexed) w f)
 

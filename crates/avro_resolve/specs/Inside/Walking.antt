@@ -20,14 +20,16 @@ pub record Represents (m : ℕ) (s : PairSet) (ps : List Pair) : Type 0 where
   pub within : (i j : ℕ) → IsTrue (member ps i j) → j < m
   pub exact : (i j : ℕ) → j < m → has s i j ≡ member ps i j
 
--- The invariant of these assumed and failed pairs and the number of visits: the pairs are reachable, each occurs once, no pair is both assumed and
--- failed, the failed pairs refute in order, and the number of visits is bounded.
+-- The invariant of the recursion, over its assumed pairs, its failed pairs in the order in which they failed, and its number of visits. All these pairs
+-- are reachable. Each occurs once, and none is both assumed and failed. Each failed pair lacks support even from the set of all pairs but the ones
+-- that failed before it. There are at least as many visits as assumed and failed pairs. There is at most one visit for each assumed pair, and for
+-- each failed pair as many as a list of all reachable pairs has (`ContainsAsked`).
 pub record WalkInvariant (w r : List NodeView) (assumed failed : List Pair) (visits : ℕ) : Type 0 where
   pub assumed_reachable : (i j : ℕ) → IsTrue (member assumed i j) → IsReachable w r i j
   pub failed_reachable : (i j : ℕ) → IsTrue (member failed i j) → IsReachable w r i j
-  pub assumed_differ : AreDistinct assumed
-  pub failed_differ : AreDistinct failed
-  pub apart : (i j : ℕ) → IsTrue (member assumed i j) → IsTrue (member failed i j) → ⊥
+  pub assumed_distinct : AreDistinct assumed
+  pub failed_distinct : AreDistinct failed
+  pub disjoint : (i j : ℕ) → IsTrue (member assumed i j) → IsTrue (member failed i j) → ⊥
   pub refutes : RefutesAfter w r [] failed
   pub at_least : length assumed + length failed ≤ visits
   pub at_most : (ps : List Pair) → ContainsAsked w r ps → visits ≤ length ps * length failed + length assumed

@@ -60,7 +60,9 @@ symbols_in ms = do
   symbols ← texts_in (allowed is_simple) items
   if all_distinct bytes_eq symbols then Some symbols else None
 
--- the enum that these members declare, if they are valid, with the next place
+-- The enum that an object's members other than `type` declare, as the node at the next place. The first argument is the enclosing namespace. `None` if
+-- `name` or `symbols` is missing, a member is invalid, or the full name is taken or ends with the name of a primitive type. `None` also if an
+-- attribute nests too deep, or the schema has the maximum number of nodes.
 unfoldable pub enum_at : List ℕ → Members → Known → ℕ → Option (Part ℕ)
 enum_at space ms known first = do
   place ← next_place first
@@ -70,7 +72,8 @@ enum_at space ms known first = do
   extra ← bounded (without_all (codes "symbols" ∷ codes "default" ∷ []) (without_all name_keys ms))
   Some (record { it = place; nodes = enumeration named symbols fallback extra ∷ []; known = defined known named.name place })
 
--- the fixed type that these members declare, if they are valid, with the next place
+-- The `fixed` that an object's members other than `type` declare, as the node at the next place. `None` as for `enum_at`, with `size` in place of
+-- `symbols`.
 unfoldable pub fixed_at : List ℕ → Members → Known → ℕ → Option (Part ℕ)
 fixed_at space ms known first = do
   place ← next_place first

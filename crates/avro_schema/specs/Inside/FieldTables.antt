@@ -21,15 +21,16 @@ is_required required i = list_any (λ j. j == i) required
 
 -- the field at the index is required, or it has a default and the table finds it by name
 abbrev pub IsCovered : List ℕ → (List ℕ → Option ℕ) → ℕ → FieldView → Type 0
-IsCovered required named i f = (is_required required i ≡ true) ⊎ ((is_some f.value ≡ true) × (named f.name ≡ Some i))
+IsCovered required index_of i f = (is_required required i ≡ true) ⊎ ((is_some f.value ≡ true) × (index_of f.name ≡ Some i))
 
--- the table covers each of the first n fields
-unfoldable pub CoversFirst : ℕ → List ℕ → (List ℕ → Option ℕ) → List FieldView → Type 0
-CoversFirst n required named fields = (i : ℕ) (f : FieldView) → i < n → slice_get fields i ≡ Some f → IsCovered required named i f
+-- A table, given as its required indices and its function from names to indices, covers each of the first n fields. The field's index is required,
+-- or the field has a default, and the function maps its name to its index.
+unfoldable pub CoversFirstFields : ℕ → List ℕ → (List ℕ → Option ℕ) → List FieldView → Type 0
+CoversFirstFields n required index_of fields = (i : ℕ) (f : FieldView) → i < n → slice_get fields i ≡ Some f → IsCovered required index_of i f
 
 -- the table covers all fields
 abbrev pub IsFieldTable : FieldTable → List FieldView → Type 0
-IsFieldTable t fields = CoversFirst (length fields) t.required.items (index_by_name t) fields
+IsFieldTable t fields = CoversFirstFields (length fields) t.required.items (index_by_name t) fields
 
 -- if the node is a record, the table is that of its fields
 unfoldable pub IsFieldTableOf : FieldTable → NodeView → Type 0

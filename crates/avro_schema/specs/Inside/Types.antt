@@ -73,6 +73,7 @@ union_at one ds known first = do
 
 -- ---- records
 
+-- the field with these attributes, this place of its type, and these other attributes
 abbrev pub field_at : FieldAttributesView → ℕ → Members → FieldView
 field_at label place extra = record { name = label.name; place = place; aliases = label.aliases; order = label.order; value = label.value; extra = extra }
 

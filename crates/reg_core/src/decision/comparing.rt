@@ -8,7 +8,7 @@ ghost use Rattle.schema_cache.specs.Answers.{found_schema};
 ghost use Rattle.reg_core.specs.Compatibility.{Compatible};
 ghost use Rattle.reg_core.specs.Inside.Comparisons.{is_admitted_in_view, view_schema};
 
-use crate::compatibility::{is_compatible, named};
+use crate::compatibility::{is_compatible, named_versions};
 use crate::decision::View;
 use crate::level::Level;
 use crate::row::Row;
@@ -108,7 +108,7 @@ pub fn is_admitted_in_view(
     ensures { IfOk result (λ yes. yes
         ≡ is_admitted_in_view view.now level (map (λ row. row.now) rows.now) (nodes_view new.now)) }
 {
-    let versions = named(level, rows);
+    let versions = named_versions(level, rows);
     let eviction_policy = eviction_policy(view, versions);
     for row in versions {
         let Some(earlier) = earlier_schema(alloc, view, row, &mut cache, eviction_policy)? else {

@@ -25,8 +25,10 @@ use crate::subject::Subject;
 use avro_nodes::OutOfMemory;
 use std::alloc::Global;
 
-/// Soft-deletes the chosen version of the subject, which must be live. With `permanent`, removes it
-/// instead; then it must be soft-deleted. Replies with its number. A refusal changes nothing.
+/// Decides the deletion of a version. It soft-deletes the chosen version, which must be live; `latest`
+/// is the last live one. With `permanent`, it removes the chosen version, which must be soft-deleted;
+/// `latest` is the last of all. The reply is the version's number. A refusal, also of an invalid
+/// `version`, changes nothing.
 pub fn delete_version(
     alloc: Global,
     view: &View,

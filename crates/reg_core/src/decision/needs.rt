@@ -11,7 +11,7 @@ ghost use Rattle.reg_core.specs.Views.{level_of_view, found_as_list, rows_to_rea
 
 use crate::code::Code;
 use crate::command::Command;
-use crate::compatibility::{latest, named};
+use crate::compatibility::{latest, named_versions};
 use crate::decision::View;
 use crate::decision::reading::lookup_row;
 use crate::decision::registering::{id_among, level_in_force};
@@ -73,7 +73,7 @@ fn ids_for_register(alloc: Global, view: &View) -> Result<Vec<u32>, OutOfMemory>
     if id_among(view.known, &live).is_some() {
         return Ok(Vec::new(alloc));
     }
-    ids_of(alloc, named(level_in_force(view), &live))
+    ids_of(alloc, named_versions(level_in_force(view), &live))
 }
 
 /// The ids that CheckAll compares with.
@@ -82,7 +82,7 @@ fn ids_for_check_all(alloc: Global, view: &View) -> Result<Vec<u32>, OutOfMemory
         ≡ map (λ row. row.1.id) (named_versions (level_of_view view.now) (live_rows view.now.rows.items))) }
 {
     let live = visible_rows(alloc, false, &view.rows)?;
-    ids_of(alloc, named(level_in_force(view), &live))
+    ids_of(alloc, named_versions(level_in_force(view), &live))
 }
 
 /// The id that Check compares with; none if no version is found, or the level compares with none.
@@ -92,7 +92,7 @@ fn ids_for_check(alloc: Global, view: &View, version: &str) -> Result<Vec<u32>, 
 {
     let live = visible_rows(alloc, false, &view.rows)?;
     match found_row(parse_choice(version), &live) {
-        Ok(row) => ids_of(alloc, named(level_in_force(view), &[row])),
+        Ok(row) => ids_of(alloc, named_versions(level_in_force(view), &[row])),
         Err(_) => Ok(Vec::new(alloc)),
     }
 }

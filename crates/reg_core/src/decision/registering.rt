@@ -13,7 +13,7 @@ ghost use Rattle.reg_core.specs.Rows.{next_number};
 ghost use Rattle.reg_core.specs.Views.{ChangesFit, IsDecisionInput, after_changes, level_of_view};
 
 use crate::code::Code;
-use crate::compatibility::named;
+use crate::compatibility::named_versions;
 use crate::decision::comparing::is_admitted_in_view;
 use crate::decision::needs::ids_of;
 use crate::decision::rows::{found_row, visible_rows};
@@ -156,7 +156,9 @@ pub fn id_among(known: Option<u32>, rows: &[&Row]) -> Option<u32>
     }
 }
 
-/// The subject's next version, or `None` if its number or its schema's id would exceed the limit.
+/// The subject's next version, which is live; `None` if its number or its id would exceed
+/// `MAX_NUMBER`. The number follows the greatest of the view's versions, soft-deleted ones included,
+/// or is 1. The id is the sent schema's, or the next one if the schema is new.
 fn next_row(view: &View, subject: &Subject) -> Result<Option<Row>, OutOfMemory>
     ensures { IfOk result (λ row. row ≡ (if has_numbers_by_view view.now then Some (row_by_view view.now subject.now) else None)) }
 {
@@ -188,7 +190,7 @@ fn evidence_after(alloc: Global, view: &View, live: &[&Row]) -> Result<Evidence,
     ensures { IfOk result (λ evidence. evidence ≡ evidence_by_view view.now (map (λ row. row.now) live.now)) }
 {
     let level = level_in_force(view);
-    let against = ids_of(alloc, named(level, live))?;
+    let against = ids_of(alloc, named_versions(level, live))?;
     Ok(Evidence::new(level, against))
 }
 

@@ -23,13 +23,17 @@ pub record IsIncompleteUntil (bytes : List ℕ) (needs : ℕ) : Type 0 where
   pub fits : needs ≤ max_head + max_body
   pub part : (more : List ℕ) → length (bytes ++ more) < needs → (bytes ++ more ≡ []) ⊎ Follows (bytes ++ more) Part
 
--- The facts at each stop: `rest` follows the messages xs, and `buffered` is in the buffer. `out` was written: the responses to xs and, if a fault
--- follows them, its response. It may be cut short at `NotWritten` and `OutOfMemory`. If the session waits for more bytes, `rest` equals `buffered`.
+-- The facts at each stop. `rest` follows the processed messages xs, `buffered` is in the buffer, and `out` was written.
 abbrev pub StopsAs : List AnsweredMessage → List ℕ → List ℕ → List ℕ → Stop → Type 0
+-- no message ends the connection, and each got its response; the rest is in the buffer, and is incomplete until it has `needs` bytes
 StopsAs xs rest buffered out (Waiting needs) = NoneCloses xs × (rest ≡ buffered) × IsIncompleteUntil rest needs × (out ≡ responses xs)
+-- only the last message ends the connection, and each got its response; any bytes may follow
 StopsAs xs rest buffered out AtClose = LastCloses xs × (out ≡ responses xs)
+-- no message ends the connection, a fault follows the messages, and each got its response
 StopsAs xs rest buffered out AtFault = (code : Code) × NoneCloses xs × Follows rest (Faulty code) × (out ≡ responses xs ++ fault_response code)
+-- the last response, or that to a fault which follows, was cut short
 StopsAs xs rest buffered out NotWritten = IsCutShort xs rest out
+-- no message ends the connection, and each got its response; or the output is cut short as for `NotWritten`
 StopsAs xs rest buffered out OutOfMemory = (NoneCloses xs × (out ≡ responses xs)) ⊎ IsCutShort xs rest out
 
 -- The messages at the front of the bytes were processed, up to a stop. `old` and `new` are what the writer had before and after; `buffered` are
@@ -52,17 +56,18 @@ abbrev pub NextAs : (List Exchange → Type 0) → Option (List ℕ) → Option 
 NextAs AreServed old new bytes (AnsweredStep size) = AnswersOne AreServed old new bytes size
 NextAs AreServed old new bytes (Stopped stop) = AnswersAs AreServed old new bytes bytes stop
 
--- if the stop is `Waiting needs`, the bytes are incomplete until there are `needs` of them; at any other stop this says nothing
-abbrev pub IsIncompleteAt : List ℕ → Stop → Type 0
-IsIncompleteAt bytes (Waiting needs) = IsIncompleteUntil bytes needs
-IsIncompleteAt bytes other = Unit {0}
+-- if the stop is `Waiting needs`, the bytes are incomplete until there are `needs` of them (`IsIncompleteUntil`); at any other stop this says nothing
+abbrev pub IsIncompleteIfWaiting : List ℕ → Stop → Type 0
+IsIncompleteIfWaiting bytes (Waiting needs) = IsIncompleteUntil bytes needs
+IsIncompleteIfWaiting bytes other = Unit {0}
 
 -- the processed message has at least one byte, and at most all of the bytes; or processing stopped, and if it waits, too few bytes are there
 abbrev pub IsWithin : List ℕ → StepOutcome → Type 0
 IsWithin bytes (AnsweredStep size) = (0 < size) × (size ≤ length bytes)
-IsWithin bytes (Stopped stop) = IsIncompleteAt bytes stop
+IsWithin bytes (Stopped stop) = IsIncompleteIfWaiting bytes stop
 
--- the outcome of processing a message of `message_size` bytes, by the outcome of writing its response, and whether the message ends the connection
+-- The outcome of processing a message of `message_size` bytes, by the outcome of writing its response, and whether the message ends the connection.
+-- If the response wasn't written in full, processing stops, whether or not the message ends the connection.
 abbrev pub step_outcome : WriteOutcome → Bool → ℕ → StepOutcome
 step_outcome Whole true message_size = Stopped AtClose
 step_outcome Whole false message_size = AnsweredStep message_size

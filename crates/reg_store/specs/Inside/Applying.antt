@@ -95,14 +95,17 @@ HoldsWithIndex before db = (held : Contents) → HoldsContents layout_two_uninde
 
 -- ---- a new registry, in either layout
 
+-- the tables of this layout spell a new registry
 abbrev pub SpellsNew : Layout → Database → Type 0
 SpellsNew One db = SpellsLayoutOne db new_stored
 SpellsNew Two db = Spells db new_stored
 
-abbrev pub IsNew : Layout → State → Type 0
-IsNew One s = IsOpenOverLayoutOne s new_stored
-IsNew Two s = IsOpenOver s new_stored
+-- the connection is open and shows its last commit, which spells a new registry in this layout
+abbrev pub IsOpenOverNew : Layout → State → Type 0
+IsOpenOverNew One s = IsOpenOverLayoutOne s new_stored
+IsOpenOverNew Two s = IsOpenOver s new_stored
 
+-- the trees that a crash left are the tables of a new registry in this layout
 abbrev pub RecoversToNew : Layout → Trees → Type 0
 RecoversToNew One db = RecoversToLayoutOne db new_stored
 RecoversToNew Two db = RecoversTo db new_stored

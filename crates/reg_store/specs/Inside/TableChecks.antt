@@ -86,6 +86,7 @@ pub record TextsPass (db : Database) : Type 0 where
   pub lists : ListsTexts db lines
   pub fit : AreTexts (map text_columns lines)
 
+-- `versions` passes: each row can be read, no rowid occurs twice, and each row has a valid subject and a valid number
 abbrev pub VersionsPass : Database → Type 0
 VersionsPass = Passes ListsVersions (λ line. line.rowid) version_fits
 

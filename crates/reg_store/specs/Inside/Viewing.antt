@@ -1,5 +1,5 @@
 -- The parts of a view.
-use Rattle.std.specs.Prelude.{◌≡◌, ◌≢◌, ◌⊎◌, ◌<◌, ◌≤◌, ◌&&◌, ◌||◌, ℕ, Bool, true, false, not, bytes_eq, IsTrue, List, All, find, length, String, string_bytes, Option, None, Some, option_map, option_and_then}
+use Rattle.std.specs.Prelude.{◌≡◌, ◌≢◌, ◌⊎◌, ◌<◌, ◌≤◌, ◌&&◌, ◌||◌, ℕ, Bool, true, false, not, bytes_eq, IsTrue, List, All, length, String, string_bytes, Option, None, Some, option_map, option_and_then}
 use Rattle.std.specs.List.{Contains}
 use Rattle.std.specs.BTreeMap as tree
 use Rattle.std.specs.BTreeMap.{BTreeMap}
@@ -10,19 +10,12 @@ use Rattle.reg_core.specs.declared.decision.View.{View}
 use Rattle.reg_core.specs.Subjects.{is_subject}
 use Rattle.reg_core.specs.Registry.{Registry, Row, Version, Schemas}
 use Rattle.reg_core.specs.Rows.{known_id, text_at}
-use Rattle.reg_core.specs.Machine.{subject_of, sends_schema, command_schema}
+use Rattle.reg_core.specs.Machine.{subject_of, sends_supported_schema, command_schema}
 use Rattle.reg_core.specs.Needs.{SufficeFor, row_needs, rows_needed, needs_levels, needs_modes, needs_count}
 use Rattle.reg_core.specs.Views.{level_of_view}
-use Rattle.reg_tables.specs.declared.meta.RawMeta.{RawMeta}
 use Rattle.reg_tables.specs.declared.listed.ListedVersion.{ListedVersion}
 use Rattle.reg_tables.specs.Contents.{VersionEntryView}
 use Rattle.reg_tables.specs.Entries.{SubjectVersionView, ListedVersionView, versions_limit}
-
--- ---- settings
-
--- the value of the first row of `meta` with this name
-abbrev pub meta_value : List ℕ → List RawMeta → Option (List ℕ)
-meta_value name lines = option_map (λ (line : RawMeta). string_bytes line.value) (find (λ (line : RawMeta). bytes_eq (string_bytes line.name) name) lines)
 
 -- ---- rows
 
@@ -92,5 +85,5 @@ pub record IsViewButTexts (view : View) (g : Registry) (command : Command) : Typ
   pub rows : SufficeFor (level_of_view view) view.known (row_needs command) view.rows.items (rows_needed g (subject_of command) (row_needs command))
   pub levels : IsTrue (needs_levels command) → (view.own ≡ option_and_then g.own (subject_of command)) × (view.global ≡ g.global)
   pub modes : IsTrue (needs_modes command) → (view.own_mode ≡ option_and_then g.own_modes (subject_of command)) × (view.global_mode ≡ g.global_mode)
-  pub known : IsTrue (sends_schema command) → view.known ≡ known_id g.schemas (command_schema command)
+  pub known : IsTrue (sends_supported_schema command) → view.known ≡ known_id g.schemas (command_schema command)
   pub count : IsTrue (needs_count command) → view.count ≡ length g.schemas

@@ -16,7 +16,7 @@ use crate::error::StoreError;
 use crate::store::Store;
 use crate::store::levels::parse_level;
 use crate::store::next_rows::next_version;
-use crate::store::texts::text_under;
+use crate::store::texts::text_with_id;
 use avro_schema::Schema;
 use reg_core::{Level, Row, is_compatible_with, schema_of};
 use reg_tables::{against_at, evidence_level_of};
@@ -97,7 +97,7 @@ fn is_true_under<S: Alter>(
         → HasSchema was row.now.1.id nodes → HasEvidence was row.now.0 one
         → IsTrue yes ↔ All (IsCompatibleWith was.registry.schemas level nodes) one.against) }
 {
-    match schema_under(alloc, db, row.id())? {
+    match schema_with_id(alloc, db, row.id())? {
         None => Ok(false),
         Some(new) => is_compatible_with_all(alloc, db, cache, row, level, &new),
     }
@@ -140,14 +140,14 @@ fn is_compatible_with_id<S: Alter>(
     ensures { Reads db.old db.new result (λ was yes.
         IsTrue yes ↔ IsCompatibleWith was.registry.schemas level (nodes_view new.now) id) }
 {
-    match text_under(db, id)? {
+    match text_with_id(db, id)? {
         None => Ok(false),
         Some(text) => Ok(is_compatible_with(alloc, level, id, text.as_str(), new, cache)?),
     }
 }
 
 /// The schema of the id, or `None`.
-fn schema_under<S: Alter>(
+fn schema_with_id<S: Alter>(
     alloc: Global,
     db: &mut Conn<S>,
     id: u32,
@@ -155,7 +155,7 @@ fn schema_under<S: Alter>(
     ensures { Reads db.old db.new result (λ was found.
         option_map nodes_view found ≡ schema_at was.registry.schemas id) }
 {
-    match text_under(db, id)? {
+    match text_with_id(db, id)? {
         None => Ok(None),
         Some(text) => Ok(schema_of(alloc, text.as_str())?),
     }

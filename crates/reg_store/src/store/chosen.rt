@@ -47,7 +47,8 @@ pub(crate) fn chosen_rows<S: Alter>(
     }
 }
 
-/// The version of the subject with the number, if it is shown; otherwise the last shown version.
+/// The version of the subject with the number, if it is shown; otherwise the last shown version. The
+/// list is empty if none is shown.
 fn numbered_rows<S: Alter>(
     alloc: Global,
     db: &mut Conn<S>,

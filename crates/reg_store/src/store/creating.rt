@@ -5,13 +5,13 @@ ghost use Rattle.sqlite.specs.Tree.{Trees};
 ghost use Rattle.sqlite.specs.Held.{state};
 ghost use Rattle.sqlite.specs.State.{HasCleanDisk, Survives, KeepsCommit};
 ghost use Rattle.reg_core.specs.Stored.{new_stored};
-ghost use Rattle.reg_tables.specs.Layout.{no_schema};
+ghost use Rattle.reg_tables.specs.Layout.{empty_schema};
 ghost use Rattle.reg_tables.specs.FailedCalls.{IsWriteFault};
 ghost use Rattle.reg_tables.specs.Writing.{Transforms, IsEmpty};
 ghost use Rattle.reg_store.specs.Spells.{RecoversToLayoutOne, IsOpenOverLayoutOne, RecoversTo, IsOpenOver};
 ghost use Rattle.reg_store.specs.Failures.{failure_of, IsFaultBy};
 ghost use Rattle.reg_store.specs.Stores.{connection_of, state_of, has_failed, KeepsCrashStates, IsCreateFailure};
-ghost use Rattle.reg_store.specs.Inside.Applying.{SpellsNew, IsNew, RecoversToNew};
+ghost use Rattle.reg_store.specs.Inside.Applying.{SpellsNew, IsOpenOverNew, RecoversToNew};
 ghost use Rattle.reg_store.specs.Inside.Reads.{shown};
 
 use crate::conn::Conn;
@@ -41,7 +41,7 @@ impl<S: Alter> Store<S> {
         ensures done { IfOk result (λ store. HasCleanDisk (state_of store)
             → IsOpenOver (state_of store) new_stored) }
         ensures unfailed { IfOk result (λ store. has_failed store ≡ false) }
-        ensures full { (state S.Store connection).now.schema ≢ no_schema
+        ensures full { (state S.Store connection).now.schema ≢ empty_schema
             → IsErrAnd result (λ e. e.0 ≡ StoreError.NotARegistry) }
         ensures idle { IfErr result (λ e. e.1.in_transaction ≡ false) }
         ensures unlimited { IfErr result (λ e. e.1.step_limit ≡ None) }
@@ -119,7 +119,7 @@ pub fn create_first<S: Alter>(
     ensures unlimited { result.1.step_limit ≡ None }
     ensures done { HasCleanDisk (state S.Store result.1)
         → OnOk result.0 (IsOpenOverLayoutOne (state S.Store result.1) new_stored) }
-    ensures full { (state S.Store connection).now.schema ≢ no_schema
+    ensures full { (state S.Store connection).now.schema ≢ empty_schema
         → IsErrAnd result.0 (λ e. e ≡ StoreError.NotARegistry) }
 
     ensures fails { IfErr result.0 (IsCreateFailure (λ db. RecoversToLayoutOne db new_stored)
@@ -149,16 +149,16 @@ pub fn create_first<S: Alter>(
 
 /// Creates the tables of a new registry in one transaction.
 fn create_in<S: Alter>(db: &mut Conn<S>, layout: Layout) -> Result<(), Error>
-    ensures done { HasCleanDisk (shown db.new) → OnOk result ((shown db.old).now.schema ≡ no_schema
-        → IsNew layout (shown db.new)) }
+    ensures done { HasCleanDisk (shown db.new) → OnOk result ((shown db.old).now.schema ≡ empty_schema
+        → IsOpenOverNew layout (shown db.new)) }
     ensures fault { HasCleanDisk (shown db.new) → IfErr result (λ e.
-        (shown db.old).now.schema ≡ no_schema
+        (shown db.old).now.schema ≡ empty_schema
         → IsFaultBy (shown db.old) (shown db.new) (failure_of e)) }
     ensures nothing { HasCleanDisk (shown db.new) → OnErr result (KeepsCommit (shown db.old) (shown db.new)) }
     ensures before { HasCleanDisk (shown db.new) → IfErr result (λ e. IsTrue (shown db.old).is_open
         → KeepsCrashStates (shown db.old) (shown db.new) (failure_of e)) }
     ensures survives { Survives (shown db.old) (shown db.new) (λ left.
-        (shown db.old).now.schema ≡ no_schema → RecoversToNew layout left) }
+        (shown db.old).now.schema ≡ empty_schema → RecoversToNew layout left) }
 {
     let mut tx = db.idle.conn.transaction();
     create_tables(&mut tx, layout)?;

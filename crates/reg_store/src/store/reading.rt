@@ -12,7 +12,7 @@ ghost use Rattle.reg_store.specs.Inside.Reads.{Reads};
 use crate::conn::Conn;
 use crate::error::StoreError;
 use crate::store::Store;
-use crate::store::texts::text_under;
+use crate::store::texts::text_with_id;
 use reg_core::{Key, Reply};
 use reg_tables::{KeptReply, kept_reply};
 use sqlite::Alter;
@@ -49,7 +49,7 @@ impl<S: Alter> Store<S> {
         if self.failed {
             return Err(StoreError::Disk);
         }
-        let text = text_under(&mut self.db, id);
+        let text = text_with_id(&mut self.db, id);
         self.failed = matches!(text, Err(StoreError::Disk));
         text
     }

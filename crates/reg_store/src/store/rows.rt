@@ -14,7 +14,7 @@ use crate::conn::Conn;
 use crate::error::StoreError;
 use crate::store::chosen::{chosen_rows, one_row_of};
 use crate::store::sufficient_rows::{
-    compared_rows, looked_up_rows, rows_to_delete, rows_to_register,
+    compared_rows, deletion_rows, looked_up_rows, registration_rows,
 };
 use reg_core::{Level, OutOfMemory, Row, RowsNeeded, Subject, SubjectRows};
 use reg_tables::{ListedVersion, SubjectVersion, all_versions, versions_of, versions_of_id};
@@ -65,11 +65,11 @@ fn purpose_rows<S: Alter>(
             chosen_rows(alloc, db, subject, choice, deleted)
         }
         SubjectRows::ToDelete { choice, permanent } => {
-            rows_to_delete(alloc, db, subject, choice, permanent)
+            deletion_rows(alloc, db, subject, choice, permanent)
         }
         SubjectRows::ToLookUp { deleted } => looked_up_rows(alloc, db, subject, deleted, known),
         SubjectRows::ToCompare => compared_rows(alloc, db, subject, level),
-        SubjectRows::ToRegister => rows_to_register(alloc, db, subject, level, known),
+        SubjectRows::ToRegister => registration_rows(alloc, db, subject, level, known),
     }
 }
 

@@ -12,7 +12,7 @@ ghost use Rattle.reg_store.specs.Inside.Reads.{Reads, CommitsNothing, shown};
 use crate::conn::Conn;
 use crate::error::StoreError;
 use crate::store::lines::{push_line, schema_line};
-use crate::store::texts::{count, text_under};
+use crate::store::texts::{count, text_with_id};
 use sqlite::Alter;
 use std::alloc::Global;
 
@@ -57,7 +57,7 @@ fn listed_schema<S: Alter>(
         option_map (schema_line id) (text_at was.registry.schemas id) ≡ Some (fields_of line))
         (IsFaultBy (shown db.old) (shown db.new)) }
 {
-    match text_under(db, id)? {
+    match text_with_id(db, id)? {
         None => Err(StoreError::NotARegistry),
         Some(text) => Ok(schema_line(alloc, id, text)?),
     }

@@ -3,7 +3,7 @@
 ghost use Rattle.std.specs.Prelude.{◌≡◌, ◌⊎◌, None, Some, IfOk, OnErr, IsTrue, codes, option_and_then, option_copied};
 ghost use Rattle.reg_core.specs.Levels.{level_of};
 ghost use Rattle.reg_core.specs.Modes.{mode_of};
-ghost use Rattle.reg_store.specs.Inside.Viewing.{meta_value};
+ghost use Rattle.reg_tables.specs.Listings.{meta_value};
 ghost use Rattle.reg_store.specs.Inside.Reads.{Reads};
 
 use crate::conn::Conn;
@@ -92,7 +92,8 @@ fn globals<S: Alter>(alloc: Global, db: &mut Conn<S>) -> Result<(Level, Mode), S
     globals_in(lines.as_slice())
 }
 
-/// The global level and the global mode that the rows of `meta` spell.
+/// The global level and the global mode that the rows of `meta` spell. `NotARegistry` if a row is
+/// missing or isn't valid.
 fn globals_in(lines: &[RawMeta]) -> Result<(Level, Mode), StoreError>
     ensures ok { IfOk result (λ globals.
         (option_and_then level_of (meta_value (codes "global") lines.now) ≡ Some globals.0)

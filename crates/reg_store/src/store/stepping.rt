@@ -13,7 +13,7 @@ use crate::store::cursor::Cursor;
 use crate::store::lines::{schema_line, version_line};
 use crate::store::next_rows::{next_subject, next_version};
 use crate::store::subject_lines::listed_subject;
-use crate::store::texts::text_under;
+use crate::store::texts::text_with_id;
 use reg_core::Row;
 use sqlite::Alter;
 use std::alloc::Global;
@@ -28,12 +28,12 @@ impl<S: Alter> Store<S> {
         ensures reads { Reads self.old.db self.new.db result (λ was found.
             (kind : Listing) (count : ℕ) → IsCursorAt kind was.registry count cursor → IsNextLine kind was.registry count found) }
     {
-        line_at(self.alloc, &mut self.db, cursor)
+        next_line(self.alloc, &mut self.db, cursor)
     }
 }
 
 /// The next line after the cursor, or `None`, and the cursor after it.
-fn line_at<S: Alter>(
+fn next_line<S: Alter>(
     alloc: Global,
     db: &mut Conn<S>,
     cursor: Cursor,
@@ -42,14 +42,15 @@ fn line_at<S: Alter>(
         (kind : Listing) (count : ℕ) → IsCursorAt kind was.registry count cursor → IsNextLine kind was.registry count found) }
 {
     match cursor {
-        Cursor::Subject(last) => subject_at(alloc, db, last),
-        Cursor::Version(last) => version_at(alloc, db, last),
-        Cursor::Schema(id) => schema_at(alloc, db, id),
+        Cursor::Subject(last) => next_subject_line(alloc, db, last),
+        Cursor::Version(last) => next_version_line(alloc, db, last),
+        Cursor::Schema(id) => next_schema_line(alloc, db, id),
     }
 }
 
-/// The line of the next subject, or `None`, and the cursor after it.
-fn subject_at<S: Alter>(
+/// The fields of the line of the next subject after that of `last` (the first one for `None`), and
+/// the cursor after it. If none follows, `None` and the same cursor.
+fn next_subject_line<S: Alter>(
     alloc: Global,
     db: &mut Conn<S>,
     last: Option<Row>,
@@ -66,8 +67,9 @@ fn subject_at<S: Alter>(
     }
 }
 
-/// The line of the next version, or `None`, and the cursor after it.
-fn version_at<S: Alter>(
+/// The fields of the line of the next version after `last` (the first one for `None`), by subject and
+/// number, soft-deleted or not, and the cursor after it. If none follows, `None` and the same cursor.
+fn next_version_line<S: Alter>(
     alloc: Global,
     db: &mut Conn<S>,
     last: Option<Row>,
@@ -84,8 +86,9 @@ fn version_at<S: Alter>(
     }
 }
 
-/// The line of the schema with the next id, or `None`, and the cursor after it.
-fn schema_at<S: Alter>(
+/// The fields of the line of the schema with the next id, and the cursor after it. If there is none,
+/// `None` and the same cursor.
+fn next_schema_line<S: Alter>(
     alloc: Global,
     db: &mut Conn<S>,
     id: u32,
@@ -95,7 +98,7 @@ fn schema_at<S: Alter>(
 {
     // `u32::MAX` is no id, so nothing is found after it.
     let next = id.saturating_add(1);
-    match text_under(db, next)? {
+    match text_with_id(db, next)? {
         None => Ok((None, Cursor::Schema(id))),
         Some(text) => {
             let line = schema_line(alloc, next, text)?;

@@ -21,9 +21,9 @@ use reg_core::{Level, Row, Subject, VersionChoice};
 use sqlite::Alter;
 use std::alloc::Global;
 
-/// The version to delete, if any; otherwise one that shows why there is none, if the subject has
-/// versions. Without a valid choice, no version is needed.
-pub(crate) fn rows_to_delete<S: Alter>(
+/// The versions that suffice to decide a deletion: the version to delete, if any; otherwise one that
+/// shows why there is none, if the subject has versions. Empty without a valid choice.
+pub(crate) fn deletion_rows<S: Alter>(
     alloc: Global,
     db: &mut Conn<S>,
     subject: &Subject,
@@ -78,7 +78,7 @@ pub(crate) fn compared_rows<S: Alter>(
 /// The versions that suffice to register the schema with id `known_id` (`None` for a new one): a
 /// live version that has the id, else the last and the last live version, or all if the level is
 /// transitive.
-pub(crate) fn rows_to_register<S: Alter>(
+pub(crate) fn registration_rows<S: Alter>(
     alloc: Global,
     db: &mut Conn<S>,
     subject: &Subject,

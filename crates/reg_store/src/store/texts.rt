@@ -14,7 +14,10 @@ use std::alloc::Global;
 use std::collections::BTreeMap;
 
 /// The identity text of the id's schema, or `None`.
-pub(crate) fn text_under<S: Alter>(db: &mut Conn<S>, id: u32) -> Result<Option<String>, StoreError>
+pub(crate) fn text_with_id<S: Alter>(
+    db: &mut Conn<S>,
+    id: u32,
+) -> Result<Option<String>, StoreError>
     ensures { Reads db.old db.new result (λ was found.
         option_map string_bytes found ≡ text_at was.registry.schemas id) }
 {
@@ -79,7 +82,7 @@ fn add_text<S: Alter>(
     if texts.contains_key(&id) {
         return Ok(());
     }
-    let found = text_under(db, id)?;
+    let found = text_with_id(db, id)?;
     Ok(insert_text(texts, id, found)?)
 }
 

@@ -12,7 +12,7 @@ use crate::conn::Conn;
 use crate::error::StoreError;
 use crate::table_checks::require;
 use reg_core::OutOfMemory;
-use reg_rows::{are_ids, is_identity};
+use reg_rows::{are_consecutive_ids, is_identity};
 use reg_tables::{RawText, text_ids, texts_between};
 use sqlite::Alter;
 use std::alloc::Global;
@@ -40,7 +40,7 @@ fn count_texts<S: Alter>(alloc: Global, db: &mut Conn<S>) -> Result<u32, StoreEr
 {
     let mut ids = text_ids(alloc, &mut db.idle)?;
     ids.sort_unstable();
-    require(are_ids(&ids))?;
+    require(are_consecutive_ids(&ids))?;
     Ok(ids.len() as u32)
 }
 
@@ -78,6 +78,8 @@ fn judge_all<S: Alter>(alloc: Global, db: &mut Conn<S>, count: u32) -> Result<bo
     Ok(fit)
 }
 
+/// Checks the rows of `texts`; `NotARegistry` if a check fails. The ids must be 1, 2, .. up to at most
+/// 2,147,483,647. Each text must be the identity text of a schema.
 pub(crate) fn check_texts<S: Alter>(alloc: Global, db: &mut Conn<S>) -> Result<(), StoreError>
     ensures tests { ChecksSpelledBase db.old db.new result (λ _. TextsPass) }
     ensures plain { IfErr result HasNoLayoutNumber }

@@ -40,7 +40,7 @@ entry_of Against = against_entry
 abbrev pub RawRows : Type 0
 RawRows = (name : TableName) → List (RawRowOf name)
 
--- the entries are those of the table's rows, or there is no table and no entry
+-- the entries are those of the table's rows, each once, in any order; without a table there is no entry
 abbrev pub ListsIn : {K V : Type 0} → RowForm K V → Trees → Option Table → List (ℤ × K × V) → Type 0
 ListsIn form trees (Some table) entries = Lists form (trees table.tree) entries
 ListsIn form trees None entries = entries ≡ []

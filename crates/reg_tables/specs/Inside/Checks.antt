@@ -19,8 +19,8 @@ pub record IsTestAt (nodes : List Op) (at : ℕ) (number : ℤ) : Type 0 where
   pub column : node_at nodes left ≡ Column 1 4
   pub value : node_at nodes right ≡ Literal (Int number)
 
--- the node at this index is: the fourth column = 0 OR the fourth column = 1
-pub record IsCheckAt (nodes : List Op) (at : ℕ) : Type 0 where
+-- the node at this index is the check of a flag: the fourth column = 0 OR the fourth column = 1
+pub record IsFlagCheckAt (nodes : List Op) (at : ℕ) : Type 0 where
   pub left : ℕ
   pub right : ℕ
   pub either : node_at nodes at ≡ Binary Or left right

@@ -4,16 +4,16 @@ use Rattle.std.specs.FinMap.{get, insert, remove}
 use Rattle.sqlite.specs.Order.{Row}
 use Rattle.sqlite.specs.Term.{Term}
 use Rattle.reg_tables.specs.Contents.{TableName, Texts, Versions, Levels, Kept, Meta, Modes, Evidence, Against, KeyOf, ValueOf, form_of, Contents, map_of, with_map}
-use Rattle.reg_tables.specs.Inside.Statements.{by_key, by_version, by_position, by_id}
+use Rattle.reg_tables.specs.Inside.Statements.{by_first_column, by_version, by_position, by_id}
 
 -- the tests that find the row of a key; their parameters are the key's cells
 abbrev pub tests_of : TableName → List Term
 tests_of Texts = by_id
 tests_of Versions = by_version
-tests_of Levels = by_key
-tests_of Kept = by_key
-tests_of Meta = by_key
-tests_of Modes = by_key
+tests_of Levels = by_first_column
+tests_of Kept = by_first_column
+tests_of Meta = by_first_column
+tests_of Modes = by_first_column
 tests_of Evidence = by_version
 tests_of Against = by_position
 

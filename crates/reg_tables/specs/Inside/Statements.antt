@@ -86,11 +86,11 @@ Takes q = TakesSelect q.sql (body_of q)
 
 -- ---- rows by their keys
 
--- the first column is the parameter
-abbrev pub by_key : List Term
-by_key = op2 (Compare Eq Binary) (col 1 1) (col 0 0) ∷ []
+-- the test that the first column of a row equals the first parameter; the key may have more columns
+abbrev pub by_first_column : List Term
+by_first_column = op2 (Compare Eq Binary) (col 1 1) (col 0 0) ∷ []
 
--- the first two columns are the parameters
+-- the test that the first two columns of a row equal the first two parameters
 abbrev pub by_version : List Term
 by_version = op2 (Compare Eq Binary) (col 1 1) (col 0 0) ∷ op2 (Compare Eq Binary) (col 1 2) (col 0 1) ∷ []
 

@@ -4,7 +4,7 @@ ghost use Rattle.std.specs.Prelude.{◌≡◌, ◌↔◌, IsTrue};
 ghost use Rattle.sqlite.specs.declared.types.Value.TheVariants.{Int};
 ghost use Rattle.sqlite_schema.specs.declared.code.Op.TheVariants.{Column as ColumnNode, Literal as LiteralNode};
 ghost use Rattle.reg_tables.specs.Layout.{versions};
-ghost use Rattle.reg_tables.specs.Inside.Checks.{node_at, IsTestAt, IsCheckAt};
+ghost use Rattle.reg_tables.specs.Inside.Checks.{node_at, IsTestAt, IsFlagCheckAt};
 
 use sqlite_schema::code::{Op, Terms};
 use sqlite_schema::schema::Column;
@@ -24,7 +24,7 @@ pub fn are_version_checks(checks: &Terms) -> bool
 
 /// Whether the expression at this node is `deleted = 0 OR deleted = 1`.
 fn is_check(nodes: &[Op], at: usize) -> bool
-    ensures { IsTrue result ↔ IsCheckAt nodes.now at }
+    ensures { IsTrue result ↔ IsFlagCheckAt nodes.now at }
 {
     match nodes.get(at) {
         Some(Op::Binary(BinaryOp::Or, left, right)) => {

@@ -98,13 +98,13 @@ loop-alias-preserved c k l m =
       | inr g ↦ (let e : i ≡ k = omega arith in subst (λ (n : ℕ). NoField rank_map fields (get_or aliases n 0)) e here)
     ]
 
-pub loop-alias-preserved-then-not-knows : goal.loop-alias-preserved-then-not-knows
-loop-alias-preserved-then-not-knows c k l m =
+pub loop-alias-preserved-then-not-writer_has : goal.loop-alias-preserved-then-not-writer_has
+loop-alias-preserved-then-not-writer_has c k l m =
     let rank_map = c.args.schemas.now.rank_map.ranks.items in let fields = names_in c.args.fields.ranks.now in let aliases = c.args.names.now.aliases.items in let i = c.loop-alias.alias-index in
     let here : NoField rank_map fields (get_or aliases i 0) = λ j own.
-    (let known = c.args.schemas.now.rank_map.known.items in
-    let told : c.knows.result ≡ get_or known (get_or aliases i 0) false = subst (λ (xs : List ℕ). c.knows.result ≡ get_or known (get_or xs i 0) false) c.deref-alias-items.ensures.value c.knows.ensures in
-    true≢false (sym (c.requires.in_slots.both.known own.0 (get_or aliases i 0) own.2) ∙ sym told ∙ c.if-not-knows.true)) in
+    (let known = c.args.schemas.now.rank_map.writer_has.items in
+    let told : c.writer_has.result ≡ get_or known (get_or aliases i 0) false = subst (λ (xs : List ℕ). c.writer_has.result ≡ get_or known (get_or xs i 0) false) c.deref-alias-items.ensures.value c.writer_has.ensures in
+    true≢false (sym (c.requires.in_slots.both.known own.0 (get_or aliases i 0) own.2) ∙ sym told ∙ c.if-not-writer_has.true)) in
     elim (cases_lt k i) [
       | inl g ↦ c.loop-alias.invariant k g m
       | inr g ↦ (let e : i ≡ k = omega arith in subst (λ (n : ℕ). NoField rank_map fields (get_or aliases n 0)) e here)

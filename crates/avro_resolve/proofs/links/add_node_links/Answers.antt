@@ -19,7 +19,7 @@ use Rattle.avro_resolve.specs.declared.readable.Aliased.{Aliased}
 use Rattle.avro_resolve.specs.declared.links.Link.{Link}
 use Rattle.avro_resolve.specs.declared.links.LinkKind.{LinkKind}
 use Rattle.avro_resolve.specs.Inside.Agreeing.{fields_of}
-use Rattle.avro_resolve.specs.Inside.Referrers.{element_place, AreFieldsLinked, HasLabel, IsFieldLinked, IsOfField, IsPlaceLinked, LinkedBy, alias_labels, own_label, GivenBy, IsAlias, OnlyAddsLinks, ranks_of}
+use Rattle.avro_resolve.specs.Inside.Referrers.{element_place, AreFieldsLinked, HasLabel, IsFieldLinked, IsLinkOfFields, IsPlaceLinked, LinkedBy, alias_labels, own_label, IsLinkOfField, IsAlias, OnlyAddsLinks, ranks_of}
 use Rattle.avro_resolve.specs.declared.schemas.RankMap.{RankMap}
 use Rattle.avro_resolve.specs.Inside.RankMaps.{mapped_rank}
 use Rattle.avro_resolve.specs.Inside.Schemas.{names_of}
@@ -61,8 +61,8 @@ got_pushed xs ys y number e long = ap (λ (zs : List Aliased). slice_get zs numb
 
 -- the links of one more field are added
 module _ (rank_map : Option (List (Option ℕ))) (views : List FieldView) (ranks : List FieldRanks) (i at : ℕ) (f : FieldView) (y : FieldRanks) (f_at : slice_get views at ≡ Some f) (y_at : slice_get ranks at ≡ Some y)
-    (old xs ys : Links) (more : OnlyAddsLinks (λ x p. (x.referrer ≡ i) × (p ≡ f.place) × GivenBy rank_map ys.aliased.items at y x x.kind) xs ys) where
-  next_only_adds : OnlyAddsLinks (λ x p. (x.referrer ≡ i) × IsOfField rank_map xs.aliased.items views ranks x p) old xs → OnlyAddsLinks (λ x p. (x.referrer ≡ i) × IsOfField rank_map ys.aliased.items views ranks x p) old ys
+    (old xs ys : Links) (more : OnlyAddsLinks (λ x p. (x.referrer ≡ i) × (p ≡ f.place) × IsLinkOfField rank_map ys.aliased.items at y x x.kind) xs ys) where
+  next_only_adds : OnlyAddsLinks (λ x p. (x.referrer ≡ i) × IsLinkOfFields rank_map xs.aliased.items views ranks x p) old xs → OnlyAddsLinks (λ x p. (x.referrer ≡ i) × IsLinkOfFields rank_map ys.aliased.items views ranks x p) old ys
   next_only_adds before = only_adds_then _ _ _ (λ x p h. (h.0, of_field_on xs.aliased.items ys.aliased.items more.kept rank_map x views ranks p h.1)) (λ x p h. (h.0, (at, f, y, f_at, y_at, sym h.1, h.2))) old xs ys before more
 
   next_there : ((k : ℕ) (g : FieldView) (x : FieldRanks) → k < at → slice_get views k ≡ Some g → slice_get ranks k ≡ Some x → IsFieldLinked rank_map xs i k g.place x) → IsFieldLinked rank_map ys i at f.place y
@@ -101,7 +101,7 @@ loop-index-preserved-then-is_some c =
     let names_here : slice_get ranks at ≡ Some names = slice_get-get_or ranks at c.index-fields-index-in-loop-index.result l in
     let mine : c.map_or-own.result ≡ own_label rank_map names.name = own_is c.args.rank_map names.name c.map_or-own.result _ (λ m h. search rules) c.map_or-own.ensures in let own = c.in_ok-add_links-2.ensures in
     let old = c.args.links.now in let xs = c.loop-index.links in let ys = c.add_links-in-loop-index.new.links in
-    let given = λ (x : Link) (kind : LinkKind). GivenBy rank_map ys.aliased.items at names x kind in
+    let given = λ (x : Link) (kind : LinkKind). IsLinkOfField rank_map ys.aliased.items at names x kind in
     let more : OnlyAddsLinks (λ x q. (x.referrer ≡ i) × (q ≡ p) × given x x.kind) xs ys =
     only_adds_such _ _ (λ x q h. (h.2, h.3, subst (given x) (sym h.1) (sym mine ∙ some_label c.map_or-own.result c.as_slice.result.now c.as_slice.ensures x.label h.0))) xs ys own.only_adds in
     let none : alias_labels rank_map names.aliases.items ≡ [] = no_labels c.args.rank_map names.aliases.items (elim c.then-is_some.branch [
@@ -133,7 +133,7 @@ loop-index-preserved c =
     let is = last.only_adds.kept number this (got_pushed ms.aliased.items c.push.new.self.items this number items (omega (arith, c.len.ensures, ms.aliased.ok.0))) in
     let kept : (k : ℕ) (x : Aliased) → slice_get ms.aliased.items k ≡ Some x → slice_get ys.aliased.items k ≡ Some x =
     λ k x e. last.only_adds.kept k x (subst (λ (fs : List Aliased). slice_get fs k ≡ Some x) (sym items) (got_still ms.aliased.items x this k e)) in
-    let given = λ (x : Link) (kind : LinkKind). GivenBy rank_map ys.aliased.items at names x kind in
+    let given = λ (x : Link) (kind : LinkKind). IsLinkOfField rank_map ys.aliased.items at names x kind in
     let copied : c.in_ok-labels.labels.items ≡ names.aliases.items = each_same names.aliases.items c.in_ok-labels.labels.items c.in_ok-labels.ensures.cases.0 in
     let Linked = λ (label : ℕ). LinkedBy (HasLabel label (ByAlias number)) ys.lists.items i p in
     let sorted = c.sort_unstable.new.self.items in
@@ -199,7 +199,7 @@ returns-clause-only_adds c =
       h.0,
       λ a ea. (
           let are = c.fields-fields.ensures.are a ea in
-          inr (all.ranks.now, subst (λ (fs : List FieldView). AreFieldsRanked (names_of c.args.indexed.now) fs all.ranks.now) are c.fields-fields.ensures.ranked, subst (λ (fs : List FieldView). IsOfField rank_map links.aliased.items fs all.ranks.now x p) are h.1)
+          inr (all.ranks.now, subst (λ (fs : List FieldView). AreFieldsRanked (names_of c.args.indexed.now) fs all.ranks.now) are c.fields-fields.ensures.ranked, subst (λ (fs : List FieldView). IsLinkOfFields rank_map links.aliased.items fs all.ranks.now x p) are h.1)
           ),
     )) c.args.links.now links c.loop-index.invariant.only_adds
 

@@ -3,7 +3,7 @@ use Rattle.std.specs.Prelude.{slice_get}
 use Rattle.std.specs.List.Sorted.{IsNonDecreasingBy}
 use Rattle.avro_nodes.specs.Nodes.{NodeView}
 use Rattle.avro_resolve.specs.declared.links.Link.{Link}
-use Rattle.avro_resolve.specs.Inside.Referrers.{HasUnions, IsOfNode, IsPlaceLinked, ranks_of}
+use Rattle.avro_resolve.specs.Inside.Referrers.{HasUnions, IsLinkOfNode, IsPlaceLinked, ranks_of}
 use Rattle.avro_resolve.specs.Inside.Lists.{list_at, IsListedAt}
 use Rattle.avro_resolve.specs.Inside.Schemas.{names_of, nodes_of}
 use Rattle.avro_resolve.proofs.LinkLemmas.{SameLists}
@@ -15,7 +15,7 @@ invariant-loop-i l = record {
   long : length l.links.lists.items ≡ length l.indexed.schema.now;
   within : (x : Link) (place : ℕ) → IsListedAt l.links.lists.items x place → x.referrer < length l.indexed.schema.now;
   named : (i : ℕ) (a : NodeView) → i < l.i → slice_get (nodes_of l.indexed) i ≡ Some a → IsPlaceLinked (names_of l.indexed) (ranks_of l.rank_map) l.links i a;
-  meant : (x : Link) (place : ℕ) → IsListedAt l.links.lists.items x place → (a : NodeView) → slice_get (nodes_of l.indexed) x.referrer ≡ Some a → IsOfNode (names_of l.indexed) (ranks_of l.rank_map) l.links.aliased.items a x place;
+  meant : (x : Link) (place : ℕ) → IsListedAt l.links.lists.items x place → (a : NodeView) → slice_get (nodes_of l.indexed) x.referrer ≡ Some a → IsLinkOfNode (names_of l.indexed) (ranks_of l.rank_map) l.links.aliased.items a x place;
 }
 
 abbrev pub invariant-loop-place : goal.invariant-loop-place

@@ -7,7 +7,7 @@ use Rattle.avro_resolve.specs.declared.readable.ReaderField.{ReaderField}
 use Rattle.avro_resolve.specs.Asking.{source_place}
 use Rattle.avro_resolve.specs.Inside.Rows.{row_fields}
 use Rattle.avro_resolve.specs.Inside.Schemas.{columns, names_of}
-use Rattle.avro_resolve.specs.Inside.Sources.{source_entry, Describes, IsSourceEntry, IsReaderField}
+use Rattle.avro_resolve.specs.Inside.Sources.{source_entry, Describes, IsSourceEntry, DescribesAliasedField}
 use Rattle.avro_resolve.proofs.LinkLemmas.{zip_got}
 use Rattle.avro_resolve.proofs.readable.known_source.Goals as goal
 
@@ -27,7 +27,7 @@ asked_by P o x e h = subst (λ q. IsSomeAnd q P) e h
 
 pub returns : goal.returns
 returns c = λ schemas f is at.
-    let row = c.args.row.now in let P = IsSourceEntry (columns schemas) (row_fields row) in let Q = IsReaderField schemas.reader in let n = c.args.number in
+    let row = c.args.row.now in let P = IsSourceEntry (columns schemas) (row_fields row) in let Q = DescribesAliasedField schemas.reader in let n = c.args.number in
     let same : c.in_ok-get.field-0.now ≡ c.args.field = search rules in
     let field = got row.aliased_fields.aliased.now n c.in_ok-get.field-0.now c.in_ok-get.ensures.lookup.3 ∙ ap (λ (x : Aliased). Some x) same in
     let one = got row.entries.now n c.in_ok-entry.entry.now c.in_ok-entry.ensures.lookup.3 in

@@ -12,20 +12,20 @@ use Rattle.avro_resolve.specs.declared.readable.ReaderField.{ReaderField}
 use Rattle.avro_resolve.specs.declared.schemas.IndexedSchema.{IndexedSchema}
 use Rattle.avro_resolve.specs.Asking.{source_place}
 use Rattle.avro_resolve.specs.Inside.Schemas.{columns, names_of}
-use Rattle.avro_resolve.specs.Inside.Sources.{source_entry, Describes, IsSourceEntry, IsReaderField}
+use Rattle.avro_resolve.specs.Inside.Sources.{source_entry, Describes, IsSourceEntry, DescribesAliasedField}
 use Rattle.avro_resolve.proofs.LinkLemmas.{zip_got, zip_more}
 use Rattle.avro_resolve.proofs.SupportLemmas.{source_fits, unsourced}
 use Rattle.avro_resolve.proofs.readable.source_entries.Goals as goal
 use Rattle.avro_resolve.proofs.readable.source_entries.Goals.{in-None, in-Some}
 
 -- the reader's field with a number
-reader_field : (indexed : IndexedSchema) (all : List Aliased) (wanted : List (Option ReaderField)) → AllZip (IsReaderField indexed) all wanted → (n : ℕ) (x : Option ReaderField) → n < length wanted → x ≡ get_or wanted n x → (a : Aliased) × (slice_get all n ≡ Some a) × IsReaderField indexed a x
+reader_field : (indexed : IndexedSchema) (all : List Aliased) (wanted : List (Option ReaderField)) → AllZip (DescribesAliasedField indexed) all wanted → (n : ℕ) (x : Option ReaderField) → n < length wanted → x ≡ get_or wanted n x → (a : Aliased) × (slice_get all n ≡ Some a) × DescribesAliasedField indexed a x
 reader_field indexed all wanted zip n x l e =
     let none : Aliased = record { place = 0; index = 0 } in
-    let within : n < length all = omega (arith, AllZip-long (IsReaderField indexed) all wanted zip, l) in
+    let within : n < length all = omega (arith, AllZip-long (DescribesAliasedField indexed) all wanted zip, l) in
     let at = slice_get-get_or all n none within in
-    let w = zip_got (IsReaderField indexed) all wanted zip n (get_or all n none) at in
-    (get_or all n none, at, subst (IsReaderField indexed (get_or all n none)) (sym (e ∙ get_or_from_slice_get wanted n w.0 x w.1)) w.2)
+    let w = zip_got (DescribesAliasedField indexed) all wanted zip n (get_or all n none) at in
+    (get_or all n none, at, subst (DescribesAliasedField indexed (get_or all n none)) (sym (e ∙ get_or_from_slice_get wanted n w.0 x w.1)) w.2)
 
 -- a property of the value in an option
 asked_by : {X : Type 0} (P : X → Type 0) (o : Option X) (x : X) → o ≡ Some x → IsSomeAnd o P → P x
@@ -51,7 +51,7 @@ pub returns-then-is_empty : goal.returns-then-is_empty
 returns-then-is_empty c =
     let all = c.args.aliased_fields.aliased.now in let wanted = c.args.aliased_fields.wanted.now in
     let P = IsSourceEntry (columns c.args.schemas.now) (map field_view c.args.fields.fields.now) in
-    let long : length all ≡ length wanted = sym (AllZip-long (IsReaderField c.args.schemas.now.reader) all wanted c.requires.wanted) in
+    let long : length all ≡ length wanted = sym (AllZip-long (DescribesAliasedField c.args.schemas.now.reader) all wanted c.requires.wanted) in
     let made : c.in_ok-vec.field-0.items ≡ replicate (length wanted) 0 = c.in_ok-vec.ensures.items_if_clones_equal (λ y h. h) in
     subst (λ (xs : List ℕ). AllZip P all xs) (sym made) (zeros P (λ a f h. empty_source c.args.fields.fields.now f (sym c.is_empty.ensures ∙ c.if-is_empty.true)) all (length wanted) long)
 
@@ -91,6 +91,6 @@ loop-wanted-preserved c =
 pub returns : goal.returns
 returns c =
     let P = IsSourceEntry (columns c.args.schemas.now) (map field_view c.args.fields.fields.now) in let all = c.args.aliased_fields.aliased.now in let n = c.loop-wanted.wanted-index in
-    let long = AllZip-long (IsReaderField c.args.schemas.now.reader) all c.args.aliased_fields.wanted.now c.requires.wanted in
+    let long = AllZip-long (DescribesAliasedField c.args.schemas.now.reader) all c.args.aliased_fields.wanted.now c.requires.wanted in
     let past : length all ≤ n = omega (arith, long, c.loop-wanted-test.false) in
     subst (λ (xs : List Aliased). AllZip P xs c.loop-wanted.row.items) (take_all n all past) c.loop-wanted.invariant

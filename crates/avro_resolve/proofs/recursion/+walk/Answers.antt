@@ -49,7 +49,7 @@ check_pair-loop-walk-init t c =
     record {
       front = take_all (length v.assumed.items) v.assumed.items (omega arith);
       low = omega (arith, s.assumed.ok.0, long, more, lists);
-      differ = outcome.0.good.assumed_differ;
+      distinct = outcome.0.good.assumed_distinct;
       marks = outcome.0.assumed;
       failed = refl;
       failed_set = refl;
@@ -73,8 +73,8 @@ check_pair-loop-walk-preserved-in-Some t c =
     record {
       front = sym (take-take (length ps) (length x.assumed.items) all le) ∙ ap (λ (y : List Pair). take (length ps) y) (inv.front ∙ is) ∙ take_at ps (p ∷ []) (length ps) refl;
       low = omega (arith, l, long, c.loop-walk-test.true);
-      differ = differ_front ps p (subst AreDistinct is inv.differ);
-      marks = marks_pop m x.assumed_set c.remove.new.self ps c.in-Some.i c.in-Some.j (subst (λ (y : List Pair). Represents m x.assumed_set y) is inv.marks) (subst AreDistinct is inv.differ) c.remove.ensures.readers c.remove.ensures.others;
+      distinct = differ_front ps p (subst AreDistinct is inv.distinct);
+      marks = marks_pop m x.assumed_set c.remove.new.self ps c.in-Some.i c.in-Some.j (subst (λ (y : List Pair). Represents m x.assumed_set y) is inv.marks) (subst AreDistinct is inv.distinct) c.remove.ensures.readers c.remove.ensures.others;
       failed = inv.failed;
       failed_set = inv.failed_set;
       visits = inv.visits;

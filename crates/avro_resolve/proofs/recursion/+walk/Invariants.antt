@@ -22,7 +22,7 @@ abbrev pub invariant-check_pair-loop-walk : goal.invariant-check_pair-loop-walk
 invariant-check_pair-loop-walk l = record {
   front : take (length l.walk.assumed.items) l.initial.walk.assumed.items ≡ l.walk.assumed.items;
   low : l.mark ≤ length l.walk.assumed.items;
-  differ : AreDistinct l.walk.assumed.items;
+  distinct : AreDistinct l.walk.assumed.items;
   marks : Represents (length (columns l.schemas)) l.walk.assumed_set l.walk.assumed.items;
   failed : l.walk.failed ≡ l.initial.walk.failed;
   failed_set : l.walk.failed_set ≡ l.initial.walk.failed_set;

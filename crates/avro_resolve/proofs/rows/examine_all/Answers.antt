@@ -11,7 +11,7 @@ use Rattle.avro_resolve.specs.Inside.Agreeing.{fields_of}
 use Rattle.avro_resolve.specs.Inside.FieldSlots.{IsClear}
 use Rattle.avro_resolve.specs.Inside.Remaining.{StillSupported}
 use Rattle.avro_resolve.specs.Inside.Schemas.{columns, names_of, rows}
-use Rattle.avro_resolve.specs.Inside.Sources.{IsSourceEntry, IsReaderField}
+use Rattle.avro_resolve.specs.Inside.Sources.{IsSourceEntry, DescribesAliasedField}
 use Rattle.avro_resolve.proofs.LinkLemmas.{zip_more}
 use Rattle.avro_resolve.proofs.RankMaps.{met_below}
 use Rattle.avro_resolve.proofs.KeptSupport.{lists_none, lists_then, settled_on}
@@ -60,7 +60,7 @@ source_entries-requires-clause-fields_in c =
     All-weaker (λ (g : Field). g.place < length s) (λ (g : Field). g.place < 65535) (λ g h. omega arith) c.fields-fields.result.fields.now c.fields-fields.ensures.in_schema
 
 pub source_entries-requires-clause-wanted : goal.source_entries-requires-clause-wanted
-source_entries-requires-clause-wanted c = subst (AllZip (IsReaderField c.args.schemas.now.reader) c.args.aliased.now) (sym c.deref-2.ensures.value) c.in_ok-wanted.ensures
+source_entries-requires-clause-wanted c = subst (AllZip (DescribesAliasedField c.args.schemas.now.reader) c.args.aliased.now) (sym c.deref-2.ensures.value) c.in_ok-wanted.ensures
 
 pub examine_row-requires-clause-row : goal.examine_row-requires-clause-row
 examine_row-requires-clause-row c =
@@ -71,7 +71,7 @@ examine_row-requires-clause-row c =
       places = c.fields-fields.ensures.in_schema;
       in_slots = record { both = c.requires.rest.0; ranked = c.fields-fields.ensures.ranked; in_slots = c.fill_slots.ensures; room = omega arith };
       entries = subst (λ (xs : List ℕ). AllZip (IsSourceEntry (columns schemas) (map field_view c.fields-fields.result.fields.now)) c.args.aliased.now xs) (sym c.deref-in-loop-place.ensures.value) c.in_ok-entries.ensures;
-      wanted = subst (AllZip (IsReaderField schemas.reader) c.args.aliased.now) (sym c.deref-2.ensures.value) c.in_ok-wanted.ensures;
+      wanted = subst (AllZip (DescribesAliasedField schemas.reader) c.args.aliased.now) (sym c.deref-2.ensures.value) c.in_ok-wanted.ensures;
     }
 
 pub clear_slots-requires-clause-has_slots : goal.clear_slots-requires-clause-has_slots

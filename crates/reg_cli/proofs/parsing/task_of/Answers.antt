@@ -16,4 +16,4 @@ returns-in-Some c =
 
 pub returns : goal.returns
 returns c usage =
-    refused (app_of c.in_ok-program.field-0) c.in_ok-program.ensures.shape (map string_bytes c.args.arguments.now) c.in-Err.error c.in-Err.ensures.kinds (c.fault_of.ensures usage)
+    refused (app_of c.in_ok-program.field-0) c.in_ok-program.ensures.shape (map string_bytes c.args.arguments.now) c.in-Err.error c.in-Err.ensures.kinds (c.line_fault_of.ensures usage)

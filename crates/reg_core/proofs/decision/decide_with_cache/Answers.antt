@@ -11,7 +11,7 @@ use Rattle.reg_core.specs.Registry.{Registry}
 use Rattle.reg_core.specs.Replies.{IsCommandReply, ReplyView}
 use Rattle.reg_core.specs.Evidence.{IsEvidenceUpdate, IsEvidenceAfter}
 use Rattle.reg_core.specs.Inside.Evidence.{UpdateEvidence}
-use Rattle.reg_core.specs.Views.{ChangesFit, IsDecisionFor, IsDecisionInput, after_changes, evidence_after_changes, mode_of_view, used_schema}
+use Rattle.reg_core.specs.Views.{ChangesFit, IsDecisionFor, IsDecisionInput, after_changes, evidence_after_changes, mode_of_view, schema_if_supported}
 use Rattle.reg_core.proofs.EvidenceLemmas.{add_none-tell}
 use Rattle.reg_core.proofs.ModeLemmas.{step-read_only, step-permitted}
 use Rattle.reg_core.proofs.OwnReplies.{not_permitted-IsCommandReply}
@@ -19,10 +19,10 @@ use Rattle.reg_core.proofs.decision.decide_with_cache.Goals as goal
 
 -- if no mode forbids the command, the decision for the permitted step is the decision for the step
 carried : (command : Command) (schema : Option (List NodeView)) (view : View) {E : Type 0} (result : Result Decision E) → is_read_only (mode_of_view view command) ≡ false
-    → IfOk result (λ d. (g : Registry) → IsDecisionInput g command (used_schema command schema) view → d.reply ≡ (permitted_step g command).1)
-    → IfOk result (λ d. (g : Registry) → IsDecisionInput g command (used_schema command schema) view → after_changes d.changes.items g ≡ (permitted_step g command).0)
-    → IfOk result (λ d. (g : Registry) → IsDecisionInput g command (used_schema command schema) view → ChangesFit d.changes.items g)
-    → IfOk result (λ d. (g : Registry) → IsDecisionInput g command (used_schema command schema) view → UpdateEvidence d.changes.items g)
+    → IfOk result (λ d. (g : Registry) → IsDecisionInput g command (schema_if_supported command schema) view → d.reply ≡ (permitted_step g command).1)
+    → IfOk result (λ d. (g : Registry) → IsDecisionInput g command (schema_if_supported command schema) view → after_changes d.changes.items g ≡ (permitted_step g command).0)
+    → IfOk result (λ d. (g : Registry) → IsDecisionInput g command (schema_if_supported command schema) view → ChangesFit d.changes.items g)
+    → IfOk result (λ d. (g : Registry) → IsDecisionInput g command (schema_if_supported command schema) view → UpdateEvidence d.changes.items g)
     → IfOk result (λ d. is_write command ≡ false → d.changes.items ≡ [])
     → IfOk result (λ d. d.reply.status ≢ 200 → d.changes.items ≡ [])
     → IfOk result (λ d. IsCommandReply d.reply)
@@ -58,5 +58,5 @@ returns-then-is_forbidden_by_mode c =
 pub returns : goal.returns
 returns c =
     let free = sym c.is_forbidden_by_mode.ensures ∙ c.if-is_forbidden_by_mode.false in
-    let done = rw c.schema_if_sent.ensures at c.decide_permitted.ensures in
+    let done = rw c.schema_if_supported.ensures at c.decide_permitted.ensures in
     carried c.args.command.now _ c.args.view.now c.decide_permitted.result free done.reply done.changes done.fit done.evidence done.read done.refusal done.own

@@ -1,6 +1,6 @@
 use Rattle.std.proofs.Common.{◌≡◌, ◌∙◌, ap, refl}
 use Rattle.reg_jobs.specs.Jobs.{HasOutcome, job_result}
-use Rattle.reg_jobs.specs.Outcomes.{PrintsFault, result_view, status_of}
+use Rattle.reg_jobs.specs.Outcomes.{ReportsResult, result_view, status_of}
 use Rattle.reg_jobs.proofs.job.do_job.Goals as goal
 use Rattle.reg_jobs.proofs.job.do_job.Goals.{in-Run, in-Text, in-Check, in-List, in-Migrate, in-Audit}
 
@@ -20,6 +20,6 @@ returns g c =
     ] in
     let answer : result_view c.result_of-answer.result ≡ job_result c.args.job.now c.match-job.outcome.0 =
     rw (c.file_of.ensures, c.writer_schema_file_of.ensures) at c.result_of-answer.ensures in
-    let reports : PrintsFault g.E.Write.contents (job_result c.args.job.now c.match-job.outcome.0) c.args.errors.now c.report_result.new.errors =
+    let reports : ReportsResult g.E.Write.contents (job_result c.args.job.now c.match-job.outcome.0) c.args.errors.now c.report_result.new.errors =
     rw answer at c.report_result.ensures.reports in
     record { outcome = c.match-job.outcome.0; has_outcome = comes; reports = reports; status_is = c.report_result.ensures.status ∙ ap status_of answer }

@@ -1,10 +1,10 @@
 use Rattle.std.proofs.Common.{refl}
-use Rattle.reg_jobs.proofs.JobLemmas.{ListsOver-found, OverDatabase-map}
+use Rattle.reg_jobs.proofs.JobLemmas.{ListsOver-found, OpenedDatabaseSatisfies-map}
 use Rattle.reg_jobs.proofs.job.list_on.Goals as goal
 
 pub returns-in-Ok : goal.returns-in-Ok
 returns-in-Ok g c =
-    OverDatabase-map g.S.Store c.args.opened _ _
+    OpenedDatabaseSatisfies-map g.S.Store c.args.opened _ _
     (λ old opens. record {
       connection = c.list_store-listed.result.1;
       given = refl;

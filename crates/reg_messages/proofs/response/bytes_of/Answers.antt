@@ -1,6 +1,6 @@
 use Rattle.std.proofs.Common.{◌≡◌, ℕ, List, ◌++◌, length, refl, ap, ◌∙◌}
 use Rattle.reg_messages.specs.Responses.{response_bytes, status_line, content_length_line}
-use Rattle.reg_messages.proofs.Statuses.{IsStatusCode-from_IsStatus}
+use Rattle.reg_messages.proofs.Statuses.{IsStatusCode-from_IsReplyStatus}
 use Rattle.reg_messages.proofs.response.bytes_of.Goals as goal
 
 -- one more part
@@ -8,7 +8,7 @@ then : (old new part text a : List ℕ) → old ≡ a → new ≡ old ++ part �
 then old new part text a e p q = p ∙ (λ i. e i ++ q i)
 
 pub status_line-requires : goal.status_line-requires
-status_line-requires c = IsStatusCode-from_IsStatus c.status.result c.status.ensures.nine
+status_line-requires c = IsStatusCode-from_IsReplyStatus c.status.result c.status.ensures.nine
 
 pub returns : goal.returns
 unfolding response_bytes

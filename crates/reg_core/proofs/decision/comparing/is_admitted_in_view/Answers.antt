@@ -31,7 +31,7 @@ pub returns-in_default : goal.returns-in_default
 returns-in_default c =
     let shown = λ (found : CacheLookup). nodes_view (found_schema found) in
     let none = sym c.in_ok-earlier.ensures ∙ ap (option_map shown) c.in_default.is in
-    refused c.args.view.now c.args.level c.args.rows.now c.named-versions.result.now (nodes_view c.args.new.now) c.named-versions.ensures c.loop-row.row-index c.row-item.result c.loop-row-test.true c.row-item.is
+    refused c.args.view.now c.args.level c.args.rows.now c.named_versions-versions.result.now (nodes_view c.args.new.now) c.named_versions-versions.ensures c.loop-row.row-index c.row-item.result c.loop-row-test.true c.row-item.is
     (verdict_found c.args.view.now c.args.level (nodes_view c.args.new.now) c.row-item.result.now None none)
 
 pub returns-then-not-branch : goal.returns-then-not-branch
@@ -41,7 +41,7 @@ returns-then-not-branch c =
     let new = nodes_view c.args.new.now in
     let has = sym c.in_ok-earlier.ensures ∙ ap (option_map shown) c.in-Some.is in
     let verdict = same_from_decides _ (is_compatible c.args.level earlier new) (rw c.schema.ensures at c.in_ok-is_compatible.ensures) (compatible_decides c.args.level earlier new) in
-    refused c.args.view.now c.args.level c.args.rows.now c.named-versions.result.now new c.named-versions.ensures c.loop-row.row-index c.row-item.result c.loop-row-test.true c.row-item.is
+    refused c.args.view.now c.args.level c.args.rows.now c.named_versions-versions.result.now new c.named_versions-versions.ensures c.loop-row.row-index c.row-item.result c.loop-row-test.true c.row-item.is
     (verdict_found c.args.view.now c.args.level new c.row-item.result.now (Some earlier) has ∙ sym verdict ∙ c.if-not-branch.true)
 
 pub loop-row-preserved : goal.loop-row-preserved
@@ -50,7 +50,7 @@ loop-row-preserved c =
     let earlier = shown c.in-Some.earlier in
     let new = nodes_view c.args.new.now in
     let P = λ (row : Bor Row). is_compatible_in_view c.args.view.now c.args.level new row.now in
-    let xs = c.named-versions.result.now in
+    let xs = c.named_versions-versions.result.now in
     let has = sym c.in_ok-earlier.ensures ∙ ap (option_map shown) c.in-Some.is in
     let verdict = same_from_decides _ (is_compatible c.args.level earlier new) (rw c.schema.ensures at c.in_ok-is_compatible.ensures) (compatible_decides c.args.level earlier new) in
     let here : P c.row-item.result ≡ true = verdict_found c.args.view.now c.args.level new c.row-item.result.now (Some earlier) has ∙ sym verdict ∙ c.if-not-branch.false in
@@ -62,8 +62,8 @@ loop-row-preserved c =
 pub returns : goal.returns
 returns c =
     let P = λ (row : Bor Row). is_compatible_in_view c.args.view.now c.args.level (nodes_view c.args.new.now) row.now in
-    let xs = c.named-versions.result.now in
+    let xs = c.named_versions-versions.result.now in
     sym (admitted_named (λ (row : Bor Row). row.now) c.args.view.now c.args.level c.args.rows.now (nodes_view c.args.new.now)
-    ∙ ap (list_all P) (sym c.named-versions.ensures)
+    ∙ ap (list_all P) (sym c.named_versions-versions.ensures)
     ∙ ap (list_all P) (sym (take_all c.loop-row.row-index xs c.loop-row-test.false))
     ∙ c.loop-row.invariant)

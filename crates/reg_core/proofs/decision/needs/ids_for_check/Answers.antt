@@ -18,5 +18,5 @@ returns-in-Ok c =
     let live : map (λ (row : Bor Row). row.now) c.deref-2.result.now ≡ live_rows view.rows.items = ap (map (λ (row : Bor Row). row.now)) c.deref-2.ensures.value ∙ shown in
     let found = c.in-Ok.ensures ∙ (ap (λ (choice : Option VersionChoice). found_row choice (map (λ (row : Bor Row). row.now) c.deref-2.result.now)) c.parse_choice.ensures ∙ ap (found_row (parse_choice c.args.version.now)) live) in
     let rows : map (λ (row : Bor Row). row.now) (c.in-Ok.row ∷ []) ≡ found_as_list (found_row (parse_choice c.args.version.now) (live_rows view.rows.items)) = ap found_as_list found in
-    let ids = named_ids (λ (row : Bor Row). row.now) c.level_in_force.result (level_of_view view) (c.in-Ok.row ∷ []) c.named.result.now _ c.level_in_force.ensures rows c.named.ensures in
+    let ids = named_ids (λ (row : Bor Row). row.now) c.level_in_force.result (level_of_view view) (c.in-Ok.row ∷ []) c.named_versions.result.now _ c.level_in_force.ensures rows c.named_versions.ensures in
     IfOk-weaker c.ids_of.result _ _ (λ v h. h ∙ ids) c.ids_of.ensures

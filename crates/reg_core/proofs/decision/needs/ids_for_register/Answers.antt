@@ -22,7 +22,7 @@ returns c =
     let told = sym (c.id_among.ensures ∙ ap (id_among view.known) live) in
     let unknown : is_among view.known (live_rows view.rows.items) ≡ false =
     not_told view.known (live_rows view.rows.items) (ap is_some told ∙ (sym c.is_some.ensures ∙ c.if-is_some.false)) in
-    let ids = named_ids (λ (row : Bor Row). row.now) c.level_in_force.result (level_of_view view) c.deref-3.result.now c.named.result.now (live_rows view.rows.items) c.level_in_force.ensures again c.named.ensures in
+    let ids = named_ids (λ (row : Bor Row). row.now) c.level_in_force.result (level_of_view view) c.deref-3.result.now c.named_versions.result.now (live_rows view.rows.items) c.level_in_force.ensures again c.named_versions.ensures in
     let all : map (λ (row : Row). row.1.id) (named_versions (level_of_view view) (live_rows view.rows.items))
     ≡ map (λ (row : Row). row.1.id) (if is_among view.known (live_rows view.rows.items) then [] else named_versions (level_of_view view) (live_rows view.rows.items)) = rw unknown refl in
     IfOk-weaker c.ids_of.result _ _ (λ v h. h ∙ (ids ∙ all)) c.ids_of.ensures

@@ -3,8 +3,8 @@ use Rattle.std.specs.Prelude.{OnOk, option_copied, option_map}
 use Rattle.avro_nodes.specs.Nodes.{nodes_view}
 use Rattle.avro_nodes.specs.Identity.{identity}
 use Rattle.reg_core.specs.Machine.{command_schema}
-use Rattle.reg_core.specs.Views.{IsDecisionInput, used_schema}
-use Rattle.reg_core.proofs.ViewLemmas.{used_schema-sent}
+use Rattle.reg_core.specs.Views.{IsDecisionInput, schema_if_supported}
+use Rattle.reg_core.proofs.ViewLemmas.{schema_if_supported-sent}
 use Rattle.reg_store.proofs.EvidenceOwners.{is_of_versions}
 use Rattle.reg_service.proofs.StoreCalls.{decided_for}
 use Rattle.reg_service.proofs.OpenConnections.{goes_on, keeps_reading}
@@ -16,9 +16,9 @@ returns-clause-decided g c clean was over =
     let text : option_copied c.as_deref.result ≡ option_map identity (command_schema command) = search rules in
     let sent : option_map nodes_view (option_copied c.as_ref-2.result) ≡ command_schema command = search rules in
     let spells = (over (c.in_ok-view.ensures.frame.was_open clean)).spells in
-    let ground : IsDecisionInput was.registry command (used_schema command (option_map nodes_view (option_copied c.as_ref-2.result))) c.in_ok-view.view = record {
+    let ground : IsDecisionInput was.registry command (schema_if_supported command (option_map nodes_view (option_copied c.as_ref-2.result))) c.in_ok-view.view = record {
       registry = spells.spelled.base.registry;
-      sent = ap (used_schema command) sent ∙ used_schema-sent command;
+      sent = ap (schema_if_supported command) sent ∙ schema_if_supported-sent command;
       shows = (c.in_ok-view.ensures.tells clean).answers was over (λ _. text);
     } in
     decided_for was command _ c.in_ok-view.view c.in_ok-decision.decision c.in_ok-decision.ensures ground (is_of_versions _ was spells)

@@ -10,7 +10,7 @@ use Rattle.reg_service.specs.Crashes.{RecoversAcknowledged}
 use Rattle.reg_service.specs.Processing.{ProcessesEach}
 use Rattle.reg_service.proofs.Chains.{processes_next}
 use Rattle.reg_service.proofs.DueReplies.{repeats_agree, no_other_answers}
-use Rattle.reg_service.specs.Services.{store_in, state_in, AreBackendFaults, FailsAt, PreservesService}
+use Rattle.reg_service.specs.Services.{store_in, state_in, AreBackendFaults, FailsDuring, PreservesService}
 use Rattle.reg_service.proofs.OverTables.{none_over, next_over}
 use Rattle.reg_service.proofs.AdmissionLemmas.{all_admitted}
 use Rattle.reg_service.proofs.CrashLemmas.{leaves_open}
@@ -41,7 +41,7 @@ loop-delivery-preserved g c =
     let all = zip (take c.loop-delivery.delivery-index c.args.list.now) c.loop-delivery.replies.items in
     let next = sym (zip_next c.args.list.now c.loop-delivery.delivery-index c.delivery-item.result c.loop-delivery.replies.items c.push_reserved.new.self.items c.answer-reply.result c.loop-delivery-test.true c.delivery-item.is i.count more.items) in
     let Passed : List Exchange → Type 0 = λ xs. PreservesService c.args.self.now c.answer-reply.new.self (served xs ≡ []) in
-    let Fails : List Exchange → Type 0 = λ xs. IsTrue (has_failed (store_in c.args.self.now)) ⊎ FailsAt c.args.self.now c.answer-reply.new.self xs in
+    let Fails : List Exchange → Type 0 = λ xs. IsTrue (has_failed (store_in c.args.self.now)) ⊎ FailsDuring c.args.self.now c.answer-reply.new.self xs in
     record {
       len = omega (arith, i.len, more.len);
       count = omega (arith, i.count, ap length more.items, length-append c.loop-delivery.replies.items (c.answer-reply.result ∷ []));
@@ -82,7 +82,7 @@ returns-clause-crash g c clean was over =
 pub returns-clause-fails : goal.returns-clause-fails
 returns-clause-fails g c failed =
     let all : take c.loop-delivery.delivery-index c.args.list.now ≡ c.args.list.now = take_all c.loop-delivery.delivery-index c.args.list.now c.loop-delivery-test.false in
-    subst (λ (list : List Delivery). IsTrue (has_failed (store_in c.args.self.now)) ⊎ FailsAt c.args.self.now c.loop-delivery.self (zip list c.loop-delivery.replies.items)) all (c.loop-delivery.invariant.fails failed)
+    subst (λ (list : List Delivery). IsTrue (has_failed (store_in c.args.self.now)) ⊎ FailsDuring c.args.self.now c.loop-delivery.self (zip list c.loop-delivery.replies.items)) all (c.loop-delivery.invariant.fails failed)
 
 pub returns-in_err-replies-clause-crash_while_open : goal.returns-in_err-replies-clause-crash_while_open
 returns-in_err-replies-clause-crash_while_open g c = leaves_open (state_in c.args.self.now) (g.met.S.Store.settled c.args.self.now.store.db.idle.conn.store)

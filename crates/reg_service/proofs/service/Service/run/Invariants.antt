@@ -7,7 +7,7 @@ use Rattle.reg_service.specs.Crashes.{RecoversAcknowledged}
 use Rattle.reg_service.specs.Deliveries.{served}
 use Rattle.reg_service.specs.Processing.{ProcessesEach}
 use Rattle.reg_store.specs.Stores.{has_failed}
-use Rattle.reg_service.specs.Services.{store_in, state_in, ServesOver, AreBackendFaults, FailsAt, PreservesService}
+use Rattle.reg_service.specs.Services.{store_in, state_in, ServesOver, AreBackendFaults, FailsDuring, PreservesService}
 use Rattle.reg_service.proofs.service.Service.run.Given as goal
 
 abbrev pub invariant-loop-delivery : goal.invariant-loop-delivery
@@ -18,7 +18,7 @@ invariant-loop-delivery g l = record {
   room : length l.list ≤ vec_capacity l.replies;
   frame : PreservesService l.fn.self l.self (AreBackendFaults l.replies.items);
   passed : PreservesService l.fn.self l.self (served (zip (take l.delivery-index l.list) l.replies.items) ≡ []);
-  fails : IsTrue (has_failed (store_in l.self)) → IsTrue (has_failed (store_in l.fn.self)) ⊎ FailsAt l.fn.self l.self (zip (take l.delivery-index l.list) l.replies.items);
+  fails : IsTrue (has_failed (store_in l.self)) → IsTrue (has_failed (store_in l.fn.self)) ⊎ FailsDuring l.fn.self l.self (zip (take l.delivery-index l.list) l.replies.items);
   served : HasCleanDisk (state_in l.self) → ServesOver (state_in l.fn.self) (state_in l.self) (served (zip (take l.delivery-index l.list) l.replies.items));
   crash : HasCleanDisk (state_in l.self) → (was : Stored) → IsOpenOver (state_in l.fn.self) was
       → RecoversAcknowledged l.fn.self l.self was (zip (take l.delivery-index l.list) l.replies.items);

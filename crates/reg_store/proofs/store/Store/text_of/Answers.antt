@@ -9,5 +9,5 @@ returns-then-self g c = reads_failed g.met.S.Store.settled c.args.self.now c.if-
 
 pub returns : goal.returns
 returns g c =
-    let failed_now : (c.text_under-text.result ≡ Err Disk) ↔ IsTrue c.match-matches.self = search rules in
-    reads_store g.met.S.Store.settled c.if-self.false failed_now c.text_under-text.ensures
+    let failed_now : (c.text_with_id-text.result ≡ Err Disk) ↔ IsTrue c.match-matches.self = search rules in
+    reads_store g.met.S.Store.settled c.if-self.false failed_now c.text_with_id-text.ensures

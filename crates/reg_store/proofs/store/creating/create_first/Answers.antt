@@ -3,7 +3,7 @@ use Rattle.std.proofs.lemmas.Bool.{both_ways}
 use Rattle.sqlite.specs.Effect.{Database}
 use Rattle.sqlite.specs.Held.{state}
 use Rattle.reg_core.specs.Stored.{new_stored}
-use Rattle.reg_tables.specs.Layout.{no_schema}
+use Rattle.reg_tables.specs.Layout.{empty_schema}
 use Rattle.reg_store.specs.Failures.{IsFaultBy}
 use Rattle.reg_store.specs.Stores.{KeepsConnection}
 use Rattle.reg_store.proofs.Committing.{left_if_spelled}
@@ -12,7 +12,7 @@ use Rattle.reg_store.proofs.store.creating.create_first.Goals as goal
 
 pub returns-in-Ok-clause-done : goal.returns-in-Ok-clause-done
 returns-in-Ok-clause-done g c clean =
-    let none : (state g.S.Store c.set_step_limit.new.self).now.schema ≡ no_schema = search rules in
+    let none : (state g.S.Store c.set_step_limit.new.self).now.schema ≡ empty_schema = search rules in
     c.in-Ok.ensures.done clean none
 
 pub returns-in-Ok-clause-crash_after : goal.returns-in-Ok-clause-crash_after
@@ -24,7 +24,7 @@ returns-in-Ok-clause-crash_after g c clean db it =
 pub returns-in-Err-clause-fails : goal.returns-in-Err-clause-fails
 returns-in-Err-clause-fails g c =
     let idle : IsTrue c.is_autocommit-idle-2.result = search rules in
-    let empty : (state g.S.Store c.set_step_limit.new.self).now.schema ≡ no_schema = search rules in
+    let empty : (state g.S.Store c.set_step_limit.new.self).now.schema ≡ empty_schema = search rules in
     let begun = c.set_step_limit.new.self in
     let new = state g.S.Store c.create_in-made.new.db.idle.conn in
     record {

@@ -5,7 +5,7 @@ use Rattle.sqlite.specs.Held.{Held, state}
 use Rattle.sqlite.specs.State.{HasCleanDisk}
 use Rattle.sqlite.proofs.StateLemmas.{survives_then}
 use Rattle.sqlite.proofs.Callers.{survives_begin}
-use Rattle.reg_tables.specs.Layout.{no_schema}
+use Rattle.reg_tables.specs.Layout.{empty_schema}
 use Rattle.reg_tables.proofs.Transactions.{on_ok, if_err, keeps_then, survives_both}
 use Rattle.reg_tables.proofs.WriteFaults.{erred_with}
 use Rattle.reg_store.specs.Failures.{failure_of, IsFaultBy}
@@ -13,7 +13,7 @@ use Rattle.reg_store.proofs.Writing.{fault_of_write, fault_of_commit, of_call}
 use Rattle.reg_store.proofs.Failing.{by_since}
 use Rattle.reg_store.specs.Inside.Applying.{SpellsNew, RecoversToNew}
 use Rattle.reg_store.specs.Stores.{KeepsCrashStates}
-use Rattle.reg_store.proofs.Committing.{keeps_begin, keeps_if_failed, is_new, leaves_new, before_if_undone, before_if_failed}
+use Rattle.reg_store.proofs.Committing.{keeps_begin, keeps_if_failed, is_open_over_new, leaves_new, before_if_undone, before_if_failed}
 use Rattle.reg_store.proofs.store.creating.create_in.Goals as goal
 
 pub returns-clause-done : goal.returns-clause-done
@@ -25,15 +25,15 @@ returns-clause-done g c clean =
     on_ok c.commit.result (λ done none.
     let made = c.in_ok-create_tables.ensures.made clean_last tt (ap (λ (h : Held _). h.schema) c.transaction-tx.ensures.begun ∙ none) in
     let spells = subst (SpellsNew c.args.layout) (sym done.1.now_is) made in
-    is_new c.args.layout (state g.S.Store end) done.1.is_open (done.1.committed_is ∙ sym done.1.now_is) spells) (c.commit.ensures.ok late)
+    is_open_over_new c.args.layout (state g.S.Store end) done.1.is_open (done.1.committed_is ∙ sym done.1.now_is) spells) (c.commit.ensures.ok late)
 
 pub returns-clause-survives : goal.returns-clause-survives
 returns-clause-survives g c =
     let end = c.commit.new.self.0 in
     let first = state g.S.Store c.args.db.now.idle.conn in
     let last = state g.S.Store c.create_tables.new.tx.conn.now in
-    let P = λ (db : Trees). first.now.schema ≡ no_schema → RecoversToNew c.args.layout db in
-    let commits = λ (clean : HasCleanDisk (state g.S.Store end)) (db : Trees) (is : db ≡ last.now.trees) (none : first.now.schema ≡ no_schema).
+    let P = λ (db : Trees). first.now.schema ≡ empty_schema → RecoversToNew c.args.layout db in
+    let commits = λ (clean : HasCleanDisk (state g.S.Store end)) (db : Trees) (is : db ≡ last.now.trees) (none : first.now.schema ≡ empty_schema).
     let clean_last : HasCleanDisk last = omega (arith, c.commit.ensures.survives.clean) in
     let made = c.in_ok-create_tables.ensures.made clean_last tt (ap (λ (h : Held _). h.schema) c.transaction-tx.ensures.begun ∙ none) in
     leaves_new c.args.layout db last.now is made in
@@ -50,7 +50,7 @@ returns-in_err-create_tables-clause-fault g c clean =
     let e = c.in_err-create_tables.field-0.0 in
     let late : HasCleanDisk (state g.S.Store end) = search rules in
     let clean_last : HasCleanDisk (state g.S.Store last) = omega (arith, c.drop-tx.ensures.survives.clean) in
-    erred_with c.from_residual.result e (λ e. conn.schema ≡ no_schema → IsFaultBy (state g.S.Store conn) (state g.S.Store c.drop-tx.new.self.0) (failure_of e)) c.from_residual.ensures.1
+    erred_with c.from_residual.result e (λ e. conn.schema ≡ empty_schema → IsFaultBy (state g.S.Store conn) (state g.S.Store c.drop-tx.new.self.0) (failure_of e)) c.from_residual.ensures.1
     (λ none.
     let write = c.in_err-create_tables.ensures.fault clean_last tt (ap (λ (h : Held _). h.schema) is ∙ none) in
     of_call g.S.Store conn begun last end is c.drop-tx.ensures.survives.counts (failure_of e)

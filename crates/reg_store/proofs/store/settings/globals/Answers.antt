@@ -2,10 +2,10 @@ use Rattle.std.proofs.Common.{◌≡◌, ◌∙◌, Some, codes, ap}
 use Rattle.sqlite.specs.Held.{state}
 use Rattle.reg_core.specs.Levels.{level_text}
 use Rattle.reg_core.specs.Modes.{mode_text}
+use Rattle.reg_tables.specs.Listings.{meta_value}
 use Rattle.reg_tables.proofs.MetaLines.{value_read}
 use Rattle.reg_tables.proofs.Statements.{laid_out}
 use Rattle.reg_tables.proofs.Tables.{eight_has_five, two_has_eight}
-use Rattle.reg_store.specs.Inside.Viewing.{meta_value}
 use Rattle.reg_store.proofs.MetaLemmas.{tells_meta}
 use Rattle.reg_store.proofs.ReadBack.{global_is, global_mode_is}
 use Rattle.reg_store.proofs.ReadLemmas.{read, not_read, match_on}

@@ -21,11 +21,11 @@ returns-in_err-require-clause-tests g c =
     let b = c.text_ids.new.db.conn in
     let sorted = c.sort_unstable.new.self.items in
     let judged = test_judged g.S.Store a b {P = λ l d. ListsTextIds d l.items} (test_read g.S.Store a b c.in_ok-ids.ids c.in_ok-ids.ensures.frame c.in_ok-ids.ensures.listed) {Q = λ _ _. Unit {0}}
-    (Err c.in_err-require.field-0.0) c.are_ids.result tt c.in_err-require.ensures.err some_known (λ db lists yes. tt)
+    (Err c.in_err-require.field-0.0) c.are_consecutive_ids.result tt c.in_err-require.ensures.err some_known (λ db lists yes. tt)
     (λ db lists no s.
     let rising : Rises sorted = subst Rises (map-id sorted) (rises (λ (n : ℕ). n) sorted (IsNonDecreasingBy-from_sort (λ (n : ℕ). n) sorted c.sort_unstable.ensures.sorted)) in
     let fit = ids_fit db s.stored s.spells sorted (ids_sorted db c.in_ok-ids.ids.items sorted c.sort_unstable.ensures.permutation lists) rising in
-    both_ways _ no (c.are_ids.ensures.1 (subst (λ (l : List ℕ). AreConsecutive 1 l × (length l ≤ max_number)) (sym c.deref.ensures.value) fit))) in
+    both_ways _ no (c.are_consecutive_ids.ensures.1 (subst (λ (l : List ℕ). AreConsecutive 1 l × (length l ≤ max_number)) (sym c.deref.ensures.value) fit))) in
     test_fails g.S.Store a b c.from_residual-in_err-require.result _ judged c.from_residual-in_err-require.ensures.1
 
 pub returns-clause-tests : goal.returns-clause-tests
@@ -33,7 +33,7 @@ returns-clause-tests g c =
     let a = c.args.db.now.idle.conn in
     let b = c.text_ids.new.db.conn in
     let sorted = c.sort_unstable.new.self.items in
-    let fit = subst (λ (l : List ℕ). AreConsecutive 1 l × (length l ≤ max_number)) c.deref.ensures.value (c.are_ids.ensures.0 c.in_ok-require.ensures.ok) in
+    let fit = subst (λ (l : List ℕ). AreConsecutive 1 l × (length l ≤ max_number)) c.deref.ensures.value (c.are_consecutive_ids.ensures.0 c.in_ok-require.ensures.ok) in
     let few = fit.1 in
     let is : length sorted ≡ c.len.result = sym c.sort_unstable.new.self.ok.0 ∙ sym c.len.ensures in
     test_tells g.S.Store a b {P = λ l d. ListsTextIds d l.items} (test_read g.S.Store a b c.in_ok-ids.ids c.in_ok-ids.ensures.frame c.in_ok-ids.ensures.listed) c.len.result

@@ -13,7 +13,7 @@ overflow_sub-self c =
     let all = text_bytes-put nat_eq cache c.args.id c.args.entry (omega arith) (omega arith) in
     let replaced = c.freed_bytes.ensures ∙ ap entry_text_bytes c.in-Ok.ensures.old in
     let kept = c.self.invariant.counted in
-    let text = ap length c.text-more.ensures.text in
+    let text = ap length c.text-text_len.ensures.text in
     omega arith
 
 pub invariant_of-self : goal.invariant_of-self
@@ -21,11 +21,11 @@ invariant_of-self c =
     let cache = c.self.inside.cache in
     let cap = c.self.invariant.capacity in
     let few : length cache.entries < max_entries = rw c.self.view_is c.make_room.ensures.few in
-    let room : text_bytes cache.entries + length c.text-more.result.now ≤ max_total_bytes = rw c.self.view_is c.make_room.ensures.text_bytes in
+    let room : text_bytes cache.entries + length c.text-text_len.result.now ≤ max_total_bytes = rw c.self.view_is c.make_room.ensures.text_bytes in
     let all = text_bytes-put nat_eq cache c.args.id c.args.entry (omega arith) (omega arith) in
     let replaced = c.freed_bytes.ensures ∙ ap entry_text_bytes c.in-Ok.ensures.old in
     let kept = c.self.invariant.counted in
-    let text = ap length c.text-more.ensures.text in
+    let text = ap length c.text-text_len.ensures.text in
     rw c.in-Ok.ensures.entries (record { counted = omega arith; small = omega arith; capacity = cap })
 
 pub returns-in-Ok-clause-ok : goal.returns-in-Ok-clause-ok

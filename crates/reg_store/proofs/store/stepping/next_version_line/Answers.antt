@@ -3,7 +3,7 @@ use Rattle.std.specs.FinMap.{entries}
 use Rattle.reg_store.proofs.NextRowLemmas.{last_taken}
 use Rattle.reg_store.proofs.NextLineLemmas.{next_row, version_leads}
 use Rattle.reg_store.proofs.ReadLemmas.{fail, tell, refuse}
-use Rattle.reg_store.proofs.store.stepping.version_at.Goals as goal
+use Rattle.reg_store.proofs.store.stepping.next_version_line.Goals as goal
 
 pub returns-in_err-next_version : goal.returns-in_err-next_version
 returns-in_err-next_version g c = fail c.in_err-next_version.ensures c.from_residual.ensures.1

@@ -1,6 +1,6 @@
 use Rattle.std.proofs.Common.{ap}
 use Rattle.reg_jobs.specs.Outcomes.{text_of_line}
-use Rattle.reg_jobs.proofs.line.line_of.Goals as goal
+use Rattle.reg_jobs.proofs.line.line_with.Goals as goal
 
 pub returns-in-OldLayout : goal.returns-in-OldLayout
 returns-in-OldLayout c = rw c.in-OldLayout.is (ap text_of_line c.file_line-in-OldLayout.ensures)

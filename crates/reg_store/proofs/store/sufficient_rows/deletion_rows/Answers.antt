@@ -9,8 +9,8 @@ use Rattle.reg_core.specs.Registry.{Row}
 use Rattle.reg_core.specs.Rows.{rows_of, visible_rows}
 use Rattle.reg_core.proofs.FewRows.{removes_shown, marks_shown}
 use Rattle.reg_store.proofs.ReadLemmas.{may_retell}
-use Rattle.reg_store.proofs.store.sufficient_rows.rows_to_delete.Goals as goal
-use Rattle.reg_store.proofs.store.sufficient_rows.rows_to_delete.Goals.{in_default-via-in-Some-Latest+else-not-permanent, in_default-via-in-Some+in_default, in_default-via-in_default}
+use Rattle.reg_store.proofs.store.sufficient_rows.deletion_rows.Goals as goal
+use Rattle.reg_store.proofs.store.sufficient_rows.deletion_rows.Goals.{in_default-via-in-Some-Latest+else-not-permanent, in_default-via-in-Some+in_default, in_default-via-in_default}
 
 -- versions that suffice to choose one suffice to delete it, unless the last live one is soft-deleted
 deletes : (permanent : Bool) (choice : Option VersionChoice) (seen all : List Row) → (permanent ≡ false → choice ≢ Some Latest) → found_row choice (visible_rows true seen) ≡ found_row choice (visible_rows true all)

@@ -3,7 +3,7 @@ use Rattle.std.specs.Prelude.{Option}
 use Rattle.reg_core.specs.Rows.{rows_of}
 use Rattle.reg_core.specs.Needs.{SufficeToRegister}
 use Rattle.reg_store.proofs.ReadLemmas.{retell}
-use Rattle.reg_store.proofs.store.sufficient_rows.rows_to_register.Goals as goal
+use Rattle.reg_store.proofs.store.sufficient_rows.registration_rows.Goals as goal
 
 pub returns-in-Some : goal.returns-in-Some
 returns-in-Some g c =

@@ -4,7 +4,7 @@ use Rattle.reg_store.specs.Listings.{subject_listed, subjects_of}
 use Rattle.reg_store.proofs.NextRowLemmas.{last_taken}
 use Rattle.reg_store.proofs.NextLineLemmas.{next_subject_is, subject_leads}
 use Rattle.reg_store.proofs.ReadLemmas.{fail, tell, go_on, stop}
-use Rattle.reg_store.proofs.store.stepping.subject_at.Goals as goal
+use Rattle.reg_store.proofs.store.stepping.next_subject_line.Goals as goal
 
 pub returns-in_err-next_subject : goal.returns-in_err-next_subject
 returns-in_err-next_subject g c = fail c.in_err-next_subject.ensures c.from_residual.ensures.1
