@@ -115,12 +115,12 @@ pub fn owned_value_at(
     }
 }
 
-/// Reads the items that are left of an array, and its closing bracket. Returns the items `before`,
-/// followed by these. Each of these nests at most `depth` levels deep.
+/// Reads the items that are left of an array, if any, and its closing bracket. Returns the items
+/// `before`, followed by these. Each of these nests at most `depth` levels deep.
 ///
 /// # Errors
 ///
-/// As `owned_value_at`, for any of the items.
+/// As `owned_value_at`, for any of the items. `Invalid` also if the closing bracket is missing.
 #[cycle(keep)]
 #[inline(never)]
 pub fn owned_items_at(

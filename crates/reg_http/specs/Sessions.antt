@@ -15,11 +15,13 @@ pub record ProcessesMessages (AreServed : List Exchange → Type 0) (old new : O
   pub serves : AreServed (exchanges xs)
   pub writes : Appends old new out
 
--- The input ended (`reader`), and nothing follows the messages (`rest`). No message closes the connection, and each got its response (`out`).
+-- The reader has no more bytes (`reader`; nothing is said if they are unknown), and nothing follows the messages (`rest`). No message closes the
+-- connection, and each got its response (`out`).
 abbrev pub EndsBetween : Option (List ℕ) → List AnsweredMessage → List ℕ → List ℕ → Type 0
 EndsBetween reader xs rest out = NoneCloses xs × IsAtEnd reader × Follows rest End × (out ≡ output xs End)
 
--- The input ended (`reader`) inside a further message (`rest`). No message before it closes the connection, and each got its response (`out`).
+-- The reader has no more bytes (`reader`; nothing is said if they are unknown), and a part of a further message follows the messages (`rest`). That
+-- message gets no response. No message before it closes the connection, and each got its response (`out`).
 abbrev pub EndsInside : Option (List ℕ) → List AnsweredMessage → List ℕ → List ℕ → Type 0
 EndsInside reader xs rest out = NoneCloses xs × IsAtEnd reader × Follows rest Part × (out ≡ output xs Part)
 

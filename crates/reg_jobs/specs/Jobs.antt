@@ -198,8 +198,9 @@ pub record FindsNoRegistry {S : Type 0} (g : Ghosts S) (opened : Opened S) (retu
   pub unwritten : writer' ≡ writer
   pub lacks : OpensNoExistingRegistry g opened returned error
 
--- What is true after a listing, by its outcome. `Unopened`: no store was opened, and nothing was written. `ListEnded`: a `Database` was opened, its
--- connection is returned, and on a clean disk `ListsOver` says what was listed. No other outcome occurs.
+-- What is true after a listing, by its outcome. `Unopened`: no store was opened, and nothing was written. `OpensNoExistingRegistry` says why, and which
+-- connection is returned, if any. `ListEnded`: a `Database` was opened, its connection is returned, and on a clean disk `ListsOver` says what was
+-- listed. No other outcome occurs.
 abbrev pub ListsOn : {S : Type 0} (g : Ghosts S) → Opened S → ListingKind → Option (Held S) → Option (List ℕ) → Option (List ℕ) → Outcome → Type 0
 ListsOn g opened kind returned writer writer' (SessionEnded ended) = ⊥
 ListsOn g opened kind returned writer writer' (Unopened error) = FindsNoRegistry g opened returned writer writer' error

@@ -110,8 +110,8 @@ text_of_parts parts = flat_map (λ part. part.now) parts
 abbrev pub text_of_line : ErrorLine → List ℕ
 text_of_line line = line.front.now ++ (shown_name line.name.now ++ text_of_parts line.rest)
 
--- What was written for a result. Without a fault: nothing, and nothing was lost. For a fault and the name of its file: its line, or a beginning of it
--- if a write failed. If an earlier write had failed: nothing.
+-- What was written to standard error for a result. Without a fault, the writer is unchanged. For a fault and the name of its file, its line (`line_of`)
+-- was written, or a beginning of it if a write failed. If an earlier write had failed, nothing of the line was written (`Puts`).
 abbrev pub ReportsResult : {E : Type 0} → (E → Option (List ℕ)) → Result ℕ (Fault × List ℕ) → ErrorWriter E → ErrorWriter E → Type 0
 ReportsResult contents (Ok status) old new = new ≡ old
 ReportsResult contents (Err job_error) old new = Puts contents old new (line_of job_error.0 job_error.1)

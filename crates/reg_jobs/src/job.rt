@@ -219,10 +219,10 @@ fn list_on<S: Alter + Drop, W: Write>(
     }
 }
 
-/// Migrates the registry of what was opened to this program's layout, and prints a line. If `meta`
-/// names that layout already, the line says so, even if the other tables are invalid. If there is no
-/// registry, or if the migration fails, the outcome is `Unopened` and nothing is printed. Returns the
-/// opened connection, or `None`.
+/// Migrates the registry of what was opened to this program's layout, and prints a line. If the
+/// database has no SQL view and `meta` names that layout already, the line says so, even if the other
+/// tables are invalid. If there is no registry, or if the migration fails, the outcome is `Unopened`
+/// and nothing is printed. Returns the opened connection in every case, or `None` if there is none.
 fn migrate_on<S: Alter + Drop, W: Write>(
     alloc: Global,
     opened: Opened<S>,

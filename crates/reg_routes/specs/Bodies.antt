@@ -6,7 +6,8 @@ use Rattle.serde_json.specs.Read.{read}
 use Rattle.serde_json.specs.Find.{get, as_str}
 use Rattle.reg_routes.specs.declared.body.SentSchema.{SentSchema}
 
--- the value of a body, or `None` if it isn't JSON
+-- The value of a body, as `serde_json` reads it. `None` if it isn't JSON in UTF-8, nests over 127 levels deep, or has a number too large for a float or
+-- an unpaired surrogate. Of members with the same name, the last one counts.
 unfoldable pub body_json : List ℕ → Option Data
 body_json body = if is_utf8 body then read body else None
 
@@ -14,7 +15,7 @@ body_json body = if is_utf8 body then read body else None
 abbrev pub string_member : List ℕ → Data → Option (List ℕ)
 string_member name value = option_and_then as_str (get name value)
 
--- given a name and a body: the text of the body's string member with this name; `None` if the body isn't a JSON object with such a member
+-- given a name and a body: the text of the body's string member with this name; `None` if the body isn't an object with such a member (`body_json`)
 abbrev pub body_string_member : List ℕ → List ℕ → Option (List ℕ)
 body_string_member name body = option_and_then (string_member name) (body_json body)
 
@@ -45,7 +46,7 @@ is_supported value = is_avro (get (codes "schemaType") value) && has_no_referenc
 abbrev pub schema_member : Data → Option SentSchema
 schema_member value = option_map (λ text. record { text = text; supported = is_supported value }) (string_member (codes "schema") value)
 
--- The text of the schema in a body, and whether the schema is supported (`is_supported`). The text isn't parsed. `None` if the body isn't a JSON object
--- with a string member `schema`.
+-- The text of the schema in a body, and whether the schema is supported (`is_supported`). The text isn't parsed. `None` if the body isn't an object with
+-- a string member `schema` (`body_json`).
 abbrev pub body_schema : List ℕ → Option SentSchema
 body_schema body = option_and_then schema_member (body_json body)

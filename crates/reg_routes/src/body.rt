@@ -16,7 +16,8 @@ pub struct SentSchema {
     pub supported: bool,
 }
 
-/// The value of a JSON body, or `None` if the body isn't JSON.
+/// The value of a JSON body, as `serde_json` reads it. `None` if the body isn't JSON, nests over 127
+/// levels deep, or has a number too large for a float or an unpaired surrogate.
 fn body_json(alloc: Global, body: &[u8]) -> Result<Option<Value>, OutOfMemory>
     ensures { IfOk result (λ value. option_map view value ≡ body_json body.now) }
 {

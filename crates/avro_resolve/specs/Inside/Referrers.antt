@@ -83,7 +83,8 @@ abbrev pub ranks_of : Option (Bor RankMap) → Option (List (Option ℕ))
 ranks_of rank_map = option_map (λ m. m.now.ranks.items) rank_map
 
 -- The list of this place, which is that of the field's type, has the links of the referrer's field at this index, and perhaps others. One link is by
--- the field's own name, if this has a label (`own_label`). A reader's field (without a rank map) also has one by each alias.
+-- the field's own name, if this has a label (`own_label`); it doesn't contain the index. A reader's field (without a rank map) also has a link by
+-- each alias (`IsAlias`).
 pub record IsFieldLinked (rank_map : Option (List (Option ℕ))) (links : Links) (referrer index place : ℕ) (ranks : FieldRanks) : Type 0 where
   pub own : (label : ℕ) → own_label rank_map ranks.name ≡ Some label → LinkedBy (HasLabel label ByName) links.lists.items referrer place
   pub aliases : All (λ label. LinkedBy (IsAlias links.aliased.items referrer index label) links.lists.items referrer place) (alias_labels rank_map ranks.aliases.items)

@@ -61,8 +61,8 @@ symbols_in ms = do
   if all_distinct bytes_eq symbols then Some symbols else None
 
 -- The enum that an object's members other than `type` declare, as the node at the next place. The first argument is the enclosing namespace. `None` if
--- `name` or `symbols` is missing, a member is invalid, or the full name is taken or ends with the name of a primitive type. `None` also if an
--- attribute nests too deep, or the schema has the maximum number of nodes.
+-- `name` or `symbols` is missing, or a member is invalid. `None` also if the full name is taken, or its last part is the name of a primitive type.
+-- `None` also if an attribute nests too deep, or the schema has the maximum number of nodes.
 unfoldable pub enum_at : List ℕ → Members → Known → ℕ → Option (Part ℕ)
 enum_at space ms known first = do
   place ← next_place first

@@ -23,8 +23,8 @@ is_required required i = list_any (λ j. j == i) required
 abbrev pub IsCovered : List ℕ → (List ℕ → Option ℕ) → ℕ → FieldView → Type 0
 IsCovered required index_of i f = (is_required required i ≡ true) ⊎ ((is_some f.value ≡ true) × (index_of f.name ≡ Some i))
 
--- A table, given as its required indices and its function from names to indices, covers each of the first n fields. The field's index is required,
--- or the field has a default, and the function maps its name to its index.
+-- A table covers each of the first n fields. It is given as its required indices and its function from names to indices. A field is covered if its
+-- index is required. A field with a default is also covered if the function maps its name to its index.
 unfoldable pub CoversFirstFields : ℕ → List ℕ → (List ℕ → Option ℕ) → List FieldView → Type 0
 CoversFirstFields n required index_of fields = (i : ℕ) (f : FieldView) → i < n → slice_get fields i ≡ Some f → IsCovered required index_of i f
 

@@ -152,8 +152,9 @@ unfoldable pub fits : ℕ → List NodeView → Fitting
 fits zero nodes v place = false
 fits (suc n) nodes v place = node_fits (fits n nodes) v (default_type nodes (slice_get nodes place))
 
--- Whether a field's optional default fits the type at the place; `None` fits any. For a union, here or inside, only the first branch counts. Members
--- that name no field of their record are ignored. A value that is checked must not lie more than `max_nesting` levels inside the default.
+-- Whether a field's optional default fits the type at the place, by the rules of `FitsDefault`; `None` fits any. For a union, here or inside, only the
+-- first branch counts. A missing member fits if its field has a default, and members that name no field are ignored. A value that is checked must
+-- not lie more than `max_nesting` levels inside the default.
 abbrev pub value_fits : List NodeView → Option Data → ℕ → Bool
 value_fits nodes None place = true
 value_fits nodes (Some v) place = fits (suc max_nesting) nodes v place

@@ -156,9 +156,9 @@ pub fn id_among(known: Option<u32>, rows: &[&Row]) -> Option<u32>
     }
 }
 
-/// The subject's next version, which is live; `None` if its number or its id would exceed
-/// `MAX_NUMBER`. The number follows the greatest of the view's versions, soft-deleted ones included,
-/// or is 1. The id is the sent schema's, or the next one if the schema is new.
+/// The subject's next version, which is live, if no live version has the schema yet. `None` if its
+/// number or its id would exceed `MAX_NUMBER`. The number follows the greatest of the view's versions,
+/// soft-deleted ones included, or is 1. The id is the sent schema's, or the next one if it is new.
 fn next_row(view: &View, subject: &Subject) -> Result<Option<Row>, OutOfMemory>
     ensures { IfOk result (λ row. row ≡ (if has_numbers_by_view view.now then Some (row_by_view view.now subject.now) else None)) }
 {
