@@ -137,10 +137,10 @@ entry_some (Some z) p e = let same : z ≡ p = omega (arith, e) in ap Some same
 
 -- ---- what a match of two links means
 
-module _ (names : List (List ℕ)) (rank_map : Option (List (Option ℕ))) (numbered : List Aliased) (a : NodeView) (x : Link) (place : ℕ) where
-  of_contents : x.kind ≡ ByElement → IsLinkOfNode names rank_map numbered a x place → element_place a ≡ Some place
+module _ (names : List (List ℕ)) (rank_map : Option (List (Option ℕ))) (aliased : List Aliased) (a : NodeView) (x : Link) (place : ℕ) where
+  of_contents : x.kind ≡ ByElement → IsLinkOfNode names rank_map aliased a x place → element_place a ≡ Some place
   of_contents e (inl h) = h.1
-  of_contents e (inr (ranks, ranked, (index, f, y, ef, ey, at, given))) = absurd (subst (IsLinkOfField rank_map numbered index y x) e given)
+  of_contents e (inr (ranks, ranked, (index, f, y, ef, ey, at, given))) = absurd (subst (IsLinkOfField rank_map aliased index y x) e given)
 
   -- the field that gives the link
   record Field (kind : LinkKind) : Type 0 where
@@ -150,9 +150,9 @@ module _ (names : List (List ℕ)) (rank_map : Option (List (Option ℕ))) (numb
     there : slice_get (fields_of a) index ≡ Some field
     ranked : IsFieldRanked names field ranks
     at : field.place ≡ place
-    given : IsLinkOfField rank_map numbered index ranks x kind
+    given : IsLinkOfField rank_map aliased index ranks x kind
 
-  of_field : (kind : LinkKind) → (kind ≡ ByElement → ⊥) → x.kind ≡ kind → IsLinkOfNode names rank_map numbered a x place → Field kind
+  of_field : (kind : LinkKind) → (kind ≡ ByElement → ⊥) → x.kind ≡ kind → IsLinkOfNode names rank_map aliased a x place → Field kind
   of_field kind n e (inl h) = absurd (n (sym e ∙ h.0))
   of_field kind n e (inr (ranks, ranked, (index, f, y, ef, ey, at, given))) =
       let here = zip_got (IsFieldRanked names) (fields_of a) ranks ranked index f ef in
@@ -163,7 +163,7 @@ module _ (names : List (List ℕ)) (rank_map : Option (List (Option ℕ))) (numb
         there = ef;
         ranked = subst (IsFieldRanked names f) (same_Some here.0 y (sym here.1 ∙ ey)) here.2;
         at = at;
-        given = subst (IsLinkOfField rank_map numbered index y x) e given;
+        given = subst (IsLinkOfField rank_map aliased index y x) e given;
       }
 
 module _ (schemas : SchemaPair) (is : IsValidSchemaPair schemas) (writer_links reader_links : Links) (sources : List (Vec ℕ Global)) (are_referrers : AreReferrers schemas writer_links reader_links sources) (p q : ℕ) (x y : Link) (R : Pairs) (out : R p q ≡ false)

@@ -28,7 +28,7 @@ pub data Reaches : List NodeView → List NodeView → ℕ → ℕ → Type 0 wh
   at_roots : {w r : List NodeView} → Reaches w r 0 0
   asked_by : {w r : List NodeView} {i j p q : ℕ} → Reaches w r i j → Asks w r i j p q → Reaches w r p q
 
--- the list has exactly the pair of the roots and the pairs that it reaches (`Reaches`), supported or not, each once
+-- the list has exactly the pairs of `Reaches`, supported or not, each once; the pair of the roots is one of them
 pub record AreAllReached (w r : List NodeView) (ps : List Pair) : Type 0 where
   pub distinct : AreDistinct ps
   pub exact : (i j : ℕ) → IsTrue (member ps i j) ↔ Reaches w r i j

@@ -149,7 +149,8 @@ pub fn owned_items_at(
 ///
 /// # Errors
 ///
-/// As `owned_value_at`, for any of the members.
+/// As `owned_value_at`, for any of the members. `Invalid` also if a key or the closing brace is
+/// missing, and `OutOfMemory` for a key.
 #[cycle(keep)]
 #[inline(never)]
 fn owned_members_at(

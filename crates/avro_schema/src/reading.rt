@@ -414,9 +414,9 @@ fn owned_fields_at(
 ///
 /// # Errors
 ///
-/// `BadShape` if the value isn't an object or has no `type`. `TooLarge` if another attribute nests too
-/// deep, and `OutOfMemory` if allocation fails. Also the errors of `field_attributes_of` and `type_at`.
-/// After an error, some nodes may be added and some names defined.
+/// `BadShape` if the value isn't an object. Then the errors of `field_attributes_of`. Then `BadShape`
+/// if `type` is missing, `TooLarge` if another attribute nests too deep, and the errors of `type_at`.
+/// `OutOfMemory` if allocation fails. After an error, some nodes may be added and some names defined.
 #[cycle(read)]
 fn field_at(
     alloc: Global,

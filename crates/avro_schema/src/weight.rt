@@ -131,8 +131,8 @@ fn after_definition(budget: usize, members: ObjectRef<'_, '_>, enclosing: &str) 
 }
 
 /// What remains of the budget of bytes after the full names and full aliases of all definitions in a
-/// type; 0 if the budget is too small. It counts only the outermost `depth` levels. `space` is the
-/// enclosing namespace.
+/// type. It is 0 if the budget is too small. Only the outermost `depth` levels of the type count.
+/// `space` is the enclosing namespace.
 #[cycle(weigh)]
 #[tactic(auto, unfolding(crate::specs::Inside::Weight::weight))]
 fn after_type(budget: usize, value: ValueRef<'_, '_>, space: &str, depth: u32) -> usize

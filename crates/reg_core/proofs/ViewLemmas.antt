@@ -133,7 +133,7 @@ told_lookup g view schema subject text supported deleted sent shows =
     ∙ (lookup_as (text_at g.schemas) (supported_schema text supported) view.known (visible_rows deleted view.rows.items) (visible_rows deleted (rows_of g subject)) shows.rows
     ∙ known_as (text_at g.schemas) text supported view.known (known_id g.schemas (supported_schema text supported)) (visible_rows deleted (rows_of g subject)) shows.known))
 
--- the used schema is the command's schema
+-- `schema_if_supported` leaves a command's own schema as it is
 pub schema_if_supported-sent : (c : Command) → schema_if_supported c (command_schema c) ≡ command_schema c
 unfolding supported_schema
 schema_if_supported-sent (SetGlobal level) = refl

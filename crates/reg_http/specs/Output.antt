@@ -16,8 +16,8 @@ use Rattle.reg_routes.specs.Deliveries.{Rejection, delivery_of, allow_field}
 abbrev pub AnsweredMessage : Type 0
 AnsweredMessage = Message × ReplyView
 
--- The response to a whole message with this reply. It has `Allow` if the reply is 405 and the path lacks the message's method (`allow_field`). It has
--- `Connection: close` if the message ends the connection.
+-- The response to a whole message with this reply. It has `Allow` if the reply is 405, and the path's resource lacks the message's method
+-- (`allow_field`). It has `Connection: close` if the message ends the connection.
 abbrev pub response_to : Message → ReplyView → List ℕ
 response_to message reply = response_bytes reply (allow_field (delivery_of message) reply) (closes message)
 

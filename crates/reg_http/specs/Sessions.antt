@@ -15,17 +15,17 @@ pub record ProcessesMessages (AreServed : List Exchange → Type 0) (old new : O
   pub serves : AreServed (exchanges xs)
   pub writes : Appends old new out
 
--- The reader has no more bytes (`reader`; nothing is said if they are unknown), and nothing follows the messages (`rest`). No message closes the
--- connection, and each got its response (`out`).
+-- If the reader's bytes are known, it has none left (`reader`). Nothing follows the messages (`rest`). No message ends the connection, and each got its
+-- response (`out`).
 abbrev pub EndsBetween : Option (List ℕ) → List AnsweredMessage → List ℕ → List ℕ → Type 0
 EndsBetween reader xs rest out = NoneCloses xs × IsAtEnd reader × Follows rest End × (out ≡ output xs End)
 
--- The reader has no more bytes (`reader`; nothing is said if they are unknown), and a part of a further message follows the messages (`rest`). That
--- message gets no response. No message before it closes the connection, and each got its response (`out`).
+-- If the reader's bytes are known, it has none left (`reader`). A part of a further message follows the messages (`rest`), and gets no response. No
+-- message before it ends the connection, and each got its response (`out`).
 abbrev pub EndsInside : Option (List ℕ) → List AnsweredMessage → List ℕ → List ℕ → Type 0
 EndsInside reader xs rest out = NoneCloses xs × IsAtEnd reader × Follows rest Part × (out ≡ output xs Part)
 
--- A fault follows the messages, and got its response. No message closes the connection, and each got its response.
+-- A fault follows the messages, and got its response. No message ends the connection, and each got its response.
 abbrev pub EndsFaulty : List AnsweredMessage → List ℕ → List ℕ → Type 0
 EndsFaulty xs rest out = (code : Code) × NoneCloses xs × Follows rest (Faulty code) × (out ≡ output xs (Faulty code))
 

@@ -44,8 +44,8 @@ pub fn write_whole<W: Write>(writer: &mut W, bytes: &[u8]) -> bool
 }
 
 /// Writes a response, with one write if the writer takes it in full. `allow` is the value of its
-/// `Allow` field. If `close` is true, the response has `Connection: close`. If allocating it fails,
-/// nothing is written.
+/// `Allow` field. If `close` is true, the response has `Connection: close`. If allocating the
+/// response fails, nothing is written.
 pub fn send<W: Write>(
     alloc: Global,
     writer: &mut W,

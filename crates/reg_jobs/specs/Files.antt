@@ -29,9 +29,9 @@ FailsAs file OutOfMemory = ⊤
 abbrev pub identity_line : List NodeView → List ℕ
 identity_line nodes = identity nodes ++ 10 ∷ []
 
--- What `text` printed for a file: the file's bytes (`None` if it can't be read), and the writer's before and after. If those before are unknown (`None`),
--- nothing is said of the output. `Whole`: the identity text of the schema, and a line end. `Nothing`: no byte, for this fault (`FailsAs`).
--- `NotWritten`: a beginning of that line, which may be empty or whole.
+-- What `text` printed for a file. The arguments are the file's bytes (`None` if it can't be read), and the writer's bytes before and after. If those
+-- before are unknown (`None`), nothing is said of the output. `Whole`: the identity text of the schema, and a line end. `Nothing`: no byte, for this
+-- fault (`FailsAs`). `NotWritten`: a beginning of that line, which may be empty or whole.
 abbrev pub PrintsTextAs : Option (List ℕ) → Option (List ℕ) → Option (List ℕ) → TextOutcome → Type 0
 PrintsTextAs file old new Whole = (nodes : List NodeView) × FileHolds file nodes × Appends old new (identity_line nodes)
 PrintsTextAs file old new (Nothing fault) = FailsAs file fault × Appends old new []

@@ -106,7 +106,7 @@ OpensRegistry g OrphanedLog new = ⊥
 OpensRegistry g (Fresh old) new = IsCreatedIn (state g old) new
 OpensRegistry g (Database old) new = OpensOver (state g old) new
 
--- why what was opened has no registry, and the connection that is returned
+-- why no registry was opened, and the connection that is returned
 abbrev pub OpensNoRegistry : {S : Type 0} (g : Ghosts S) → Opened S → Option (Held S) → StoreError → Type 0
 OpensNoRegistry g Nothing returned error = (returned ≡ None) × (error ≡ Disk)
 OpensNoRegistry g (Texts texts) returned error = (returned ≡ None) × (error ≡ Disk)
@@ -141,11 +141,11 @@ pub record RunsOver {S : Type 0} (g : Ghosts S) (opened : Opened S) (returned : 
   pub given : returned ≡ Some (connection_of (store_in after))
   pub holds : HasCleanDisk (state_in after) → SessionFrom g opened before after reader reader' writer writer' ended
 
--- there was no registry, and nothing was read or written
+-- no registry was opened, and nothing was read or written
 pub record RunsWithoutRegistry {S : Type 0} (g : Ghosts S) (opened : Opened S) (returned : Option (Held S)) (reader reader' writer writer' : Option (List ℕ)) (error : StoreError) : Type 0 where
   pub unread : reader' ≡ reader
   pub unwritten : writer' ≡ writer
-  pub lacks : OpensNoRegistry g opened returned error
+  pub none : OpensNoRegistry g opened returned error
 
 -- the outcome of a session over what was opened
 abbrev pub RunsOn : {S : Type 0} (g : Ghosts S) → Opened S → Option (Held S) → Option (List ℕ) → Option (List ℕ) → Option (List ℕ) → Option (List ℕ) → Outcome → Type 0
@@ -173,7 +173,7 @@ OpenedDatabaseSatisfies g OrphanedLog P = ⊥
 OpenedDatabaseSatisfies g (Fresh old) P = ⊥
 OpenedDatabaseSatisfies g (Database old) P = P (state g old)
 
--- Why a job that creates no registry finds none in what was opened, and the connection that is returned. The connection to an empty
+-- Why a job that creates no registry opens none, and the connection that is returned. The connection to an empty
 -- database is returned unchanged.
 abbrev pub OpensNoExistingRegistry : {S : Type 0} (g : Ghosts S) → Opened S → Option (Held S) → StoreError → Type 0
 OpensNoExistingRegistry g Nothing returned error = OpensNoRegistry g Nothing returned error
@@ -193,10 +193,10 @@ pub record ListsOver (old : State) (kind : ListingKind) (output output' : Option
   pub fault : IfUnread list_outcome (λ error. IsTrue (is_fault error))
   pub spells : SpellsWhileOpen new was
 
--- no registry was found, and nothing was written
+-- no registry was opened, and nothing was written
 pub record FindsNoRegistry {S : Type 0} (g : Ghosts S) (opened : Opened S) (returned : Option (Held S)) (writer writer' : Option (List ℕ)) (error : StoreError) : Type 0 where
   pub unwritten : writer' ≡ writer
-  pub lacks : OpensNoExistingRegistry g opened returned error
+  pub none : OpensNoExistingRegistry g opened returned error
 
 -- What is true after a listing, by its outcome. `Unopened`: no store was opened, and nothing was written. `OpensNoExistingRegistry` says why, and which
 -- connection is returned, if any. `ListEnded`: a `Database` was opened, its connection is returned, and on a clean disk `ListsOver` says what was

@@ -76,7 +76,8 @@ abbrev pub status_of : Result ℕ (Fault × List ℕ) → ℕ
 status_of (Ok status) = status
 status_of (Err job_error) = 2
 
--- The line for a fault, with its line end. It shows the file's name as given here, and these digits of a layout or a port. Many lines show neither.
+-- The line for a fault, with its line end. Some lines show the file's name, as given here. The lines for a layout or a port show these digits. The
+-- others ignore them.
 abbrev pub line_with : Fault → List ℕ → List ℕ → List ℕ
 line_with FaultReadFailed file digits = codes "avroreg: read failed\n"
 line_with FaultWriteFailed file digits = codes "avroreg: write failed\n"

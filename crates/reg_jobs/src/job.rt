@@ -151,9 +151,9 @@ pub fn open_store<S: Alter + Drop>(
     alloc: Global,
     opened: Opened<S>,
 ) -> Result<Store<S>, (StoreError, Option<Connection<S>>)>
-    ensures has { IfOk result (λ store. HasCleanDisk (state_of store) → OpensRegistry S.Store opened (state_of store)) }
+    ensures opens { IfOk result (λ store. HasCleanDisk (state_of store) → OpensRegistry S.Store opened (state_of store)) }
     ensures unfailed { IfOk result (λ store. has_failed store ≡ false) }
-    ensures lacks { IfErr result (λ e. OpensNoRegistry S.Store opened e.1 e.0) }
+    ensures none { IfErr result (λ e. OpensNoRegistry S.Store opened e.1 e.0) }
 {
     match opened {
         Opened::Fresh(connection) => create_in(alloc, connection),
@@ -221,8 +221,8 @@ fn list_on<S: Alter + Drop, W: Write>(
 
 /// Migrates the registry of what was opened to this program's layout, and prints a line. If the
 /// database has no SQL view and `meta` names that layout already, the line says so, even if the other
-/// tables are invalid. If there is no registry, or if the migration fails, the outcome is `Unopened`
-/// and nothing is printed. Returns the opened connection in every case, or `None` if there is none.
+/// tables are invalid. In every other case without a migration, the outcome is `Unopened` and nothing
+/// is printed. Returns the opened connection, or `None` if none was opened.
 fn migrate_on<S: Alter + Drop, W: Write>(
     alloc: Global,
     opened: Opened<S>,

@@ -25,7 +25,7 @@ pub record HasHead (bytes : List ℕ) (head : RequestHead) (rest : List ℕ) : T
 abbrev pub fields_of : RequestHead → List HeaderField
 fields_of head = map name_and_value head.fields
 
--- the bytes are the message, followed by the rest: its head is within the size limit, and its fields give the length of its body
+-- The bytes are the message, followed by the rest. The message's head is within the size limit, and its fields give the length of the body.
 pub record StartsWithMessage (bytes : List ℕ) (message : Message) (rest : List ℕ) : Type 0 where
   pub head : HasHead bytes message.head (message.body ++ rest)
   pub body : body_length_from_fields (fields_of message.head) ≡ Ok (length message.body)

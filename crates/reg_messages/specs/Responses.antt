@@ -1,4 +1,4 @@
--- The bytes of a response (RFC 9112, sections 2 to 6). Each `x_line` ends with CR LF.
+-- The bytes of a response (RFC 9112, sections 2 to 6). Each line ends with CR LF. Two of them may be absent.
 use Rattle.std.specs.Prelude.{ℕ, Bool, true, false, List, [], ◌∷◌, ◌++◌, length, Option, Some, None, codes, unwrap_or}
 use Rattle.std.specs.Fmt.{decimal}
 use Rattle.http.specs.StatusCode.{reason_phrase}

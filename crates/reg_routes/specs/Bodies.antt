@@ -6,16 +6,16 @@ use Rattle.serde_json.specs.Read.{read}
 use Rattle.serde_json.specs.Find.{get, as_str}
 use Rattle.reg_routes.specs.declared.body.SentSchema.{SentSchema}
 
--- The value of a body, as `serde_json` reads it. `None` if it isn't JSON in UTF-8, nests over 127 levels deep, or has a number too large for a float or
--- an unpaired surrogate. Of members with the same name, the last one counts.
+-- The value of a body, as `serde_json` reads it. `None` if it isn't JSON in UTF-8, nests over 127 levels deep, has an unpaired surrogate, or has a number
+-- too large for a float. Of members with the same name, the last one counts.
 unfoldable pub body_json : List ℕ → Option Data
 body_json body = if is_utf8 body then read body else None
 
--- the text of an object's string member with this name; `None` without such a member, if it isn't a string, and if the value isn't an object
+-- the text of the object's member with this name, if it is a string; `None` for any other value
 abbrev pub string_member : List ℕ → Data → Option (List ℕ)
 string_member name value = option_and_then as_str (get name value)
 
--- given a name and a body: the text of the body's string member with this name; `None` if the body isn't an object with such a member (`body_json`)
+-- given a name and a body: the text of the member with this name, if it is a string; `None` if the body isn't an object with one (`body_json`)
 abbrev pub body_string_member : List ℕ → List ℕ → Option (List ℕ)
 body_string_member name body = option_and_then (string_member name) (body_json body)
 

@@ -7,7 +7,7 @@ use Rattle.form_urlencoded.specs.Form.{raw_pairs, decode}
 abbrev pub form_text : List ℕ → List ℕ
 form_text bytes = utf8_lossy (decode bytes)
 
--- Whether the first pair with this name has the value `true`. The pairs are raw, and are compared once decoded. Without such a pair: false.
+-- Whether the first pair with this name has the value `true`; false without such a pair. The pairs are still encoded, and are decoded here.
 abbrev pub first_is_true : List (List ℕ × List ℕ) → List ℕ → Bool
 first_is_true [] name = false
 first_is_true (pair ∷ pairs) name = cond (bytes_eq (form_text pair.0) name) (bytes_eq (form_text pair.1) (codes "true")) (first_is_true pairs name)

@@ -17,7 +17,7 @@ pub struct SentSchema {
 }
 
 /// The value of a JSON body, as `serde_json` reads it. `None` if the body isn't JSON, nests over 127
-/// levels deep, or has a number too large for a float or an unpaired surrogate.
+/// levels deep, has an unpaired surrogate, or has a number too large for a float.
 fn body_json(alloc: Global, body: &[u8]) -> Result<Option<Value>, OutOfMemory>
     ensures { IfOk result (λ value. option_map view value ≡ body_json body.now) }
 {

@@ -106,9 +106,9 @@ impl<S: Alter> Service<S> {
 
         // On a clean disk, this is true of the deliveries whose reply isn't 50001. Each reply is
         // the abstract machine's, or the reply kept for its key, or 42290 for a key with another
-        // command. If the connection is open after the call, the tables spell the result: each
-        // first delivery was applied once. Each added version has the evidence that its decision
-        // named. If all evidence was true, it still is.
+        // command. If the connection is open after the call, the tables spell the result. In it,
+        // each first delivery was applied once, and each added version has the evidence that its
+        // decision named. All its evidence is true if that was so before.
         ensures exactly_once { HasCleanDisk (state_in self.new) → IfOk result (λ replies.
             ServesOver (state_in self.old) (state_in self.new) (served (zip list.now replies.items))) }
 
@@ -133,8 +133,9 @@ impl<S: Alter> Service<S> {
             → AllAdmitted was (served (zip list.now replies.items))) }
 
         // On a clean disk, if the connection was open: after a crash, the tables have every
-        // acknowledged delivery. They may also have one first delivery that got 50001, but no
-        // other. A delivery's version, reply and evidence survive together.
+        // acknowledged delivery. They may also have one first delivery of the list that got 50001,
+        // but no other one that got 50001. A delivery's version, reply and evidence survive
+        // together.
         ensures crash { HasCleanDisk (state_in self.new) → IfOk result (λ replies.
             (was : Stored) → IsOpenOver (state_in self.old) was
             → RecoversAcknowledged self.old self.new was (zip list.now replies.items)) }

@@ -70,7 +70,7 @@ impl SchemaCache {
     }
 
     /// Returns the number of cached schemas, and the total length in bytes of the texts that they were
-    /// cached with. Their identity texts don't count.
+    /// cached with. These needn't be identity texts.
     pub fn len_and_bytes(&self) -> (usize, usize)
         ensures schemas { result.0 ≡ length self.now }
         ensures bytes { result.1 ≡ text_bytes self.now }

@@ -93,8 +93,8 @@ impl LruEntries {
         Some(entry)
     }
 
-    /// Whether another entry with a text of this many bytes can be added without exceeding
-    /// `MAX_ENTRIES` or `MAX_TOTAL_BYTES`. An entry that it would replace still counts.
+    /// Whether an entry with a text of this many bytes can be added without evicting any. An entry
+    /// that it would replace still counts.
     pub fn has_room(&self, text_len: usize) -> bool {
         self.cache.len() < MAX_ENTRIES && self.bytes.saturating_add(text_len) <= MAX_TOTAL_BYTES
     }

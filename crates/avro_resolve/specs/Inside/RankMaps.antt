@@ -22,6 +22,6 @@ RanksDecideNames w r rank_map = (a b : ℕ) (x y : List ℕ) → slice_get w a �
 abbrev pub AreMappedRanks : List (Option ℕ) → List ℕ → List ℕ → Type 0
 AreMappedRanks rank_map ranks found = map (λ rank. Some rank) found ≡ map (λ rank. mapped_rank rank_map rank) ranks
 
--- each rank that the map reaches is marked as known
+-- each reader's rank that the map reaches is marked: the writer has the name
 abbrev pub IsKnown : List (Option ℕ) → List Bool → Type 0
 IsKnown rank_map known = (name rank : ℕ) → mapped_rank rank_map name ≡ Some rank → get_or known rank false ≡ true

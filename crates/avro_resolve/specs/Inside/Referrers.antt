@@ -82,14 +82,14 @@ alias_labels (Some rank_map) ranks = []
 abbrev pub ranks_of : Option (Bor RankMap) → Option (List (Option ℕ))
 ranks_of rank_map = option_map (λ m. m.now.ranks.items) rank_map
 
--- The list of this place, which is that of the field's type, has the links of the referrer's field at this index, and perhaps others. One link is by
--- the field's own name, if this has a label (`own_label`); it doesn't contain the index. A reader's field (without a rank map) also has a link by
--- each alias (`IsAlias`).
+-- The list of `place`, the place of the field's type, has the links of the referrer's field at this index, and perhaps others. If the field's own name
+-- has a label (`own_label`), one link is by that name; the link doesn't contain the field's index. A reader's field (without a rank map) also has a
+-- link by each alias (`IsAlias`).
 pub record IsFieldLinked (rank_map : Option (List (Option ℕ))) (links : Links) (referrer index place : ℕ) (ranks : FieldRanks) : Type 0 where
   pub own : (label : ℕ) → own_label rank_map ranks.name ≡ Some label → LinkedBy (HasLabel label ByName) links.lists.items referrer place
   pub aliases : All (λ label. LinkedBy (IsAlias links.aliased.items referrer index label) links.lists.items referrer place) (alias_labels rank_map ranks.aliases.items)
 
--- the same for each of its fields
+-- the same for each of the referrer's fields
 abbrev pub AreFieldsLinked : Option (List (Option ℕ)) → Links → ℕ → List FieldView → List FieldRanks → Type 0
 AreFieldsLinked rank_map links referrer fields ranks = (index : ℕ) (f : FieldView) (x : FieldRanks) → slice_get fields index ≡ Some f → slice_get ranks index ≡ Some x → IsFieldLinked rank_map links referrer index f.place x
 
@@ -114,9 +114,9 @@ pub record IsNodeLinked (names : List (List ℕ)) (rank_map : Option (List (Opti
 abbrev pub IsPlaceLinked : List (List ℕ) → Option (List (Option ℕ)) → Links → ℕ → NodeView → Type 0
 IsPlaceLinked names rank_map links referrer a = (ranks : List FieldRanks) × IsNodeLinked names rank_map links referrer a ranks
 
--- The field at this index gives its record, the link's referrer, this link. The kind is the link's, and decides the rule. By name: if the link's label
--- is that of the field's own name. By alias: if the kind has the number of this field among the aliased ones; the label isn't restricted. By
--- element: never.
+-- The link is one of the field at this index, by the rule for the link's kind. By name: the link's label is that of the field's own name; index and
+-- referrer aren't tested. By alias: the kind has the number of the referrer's field at this index among the aliased ones; the label isn't tested.
+-- By element: never.
 abbrev pub IsLinkOfField : Option (List (Option ℕ)) → List Aliased → ℕ → FieldRanks → Link → LinkKind → Type 0
 IsLinkOfField rank_map aliased index ranks x ByElement = ⊥
 IsLinkOfField rank_map aliased index ranks x ByName = own_label rank_map ranks.name ≡ Some x.label
@@ -167,10 +167,10 @@ CanMatchKinds sources writer_place referrer ByName ByName = Unit {0}
 CanMatchKinds sources writer_place referrer ByName (ByAlias number) = entry_at sources referrer number ≡ writer_place + 1
 CanMatchKinds sources writer_place referrer _ _ = ⊥
 
--- The kinds of a writer's link to this place and of a reader's link match: both are by element, or both by name. A writer's link by name also matches
--- a reader's by alias, if the source of the reader's field in the writer's record has its type at this place. `sources` has the source entries of
--- the reader's aliased fields, for each of the writer's places. If the links are of two schemas (AreReferrers) and have the same label, the pair of
--- their referrers depends on the pair of the places to which they refer.
+-- The kinds of a writer's link to this place and of a reader's link match. They do if both are by element, or both by name. They also do if the
+-- writer's is by name, the reader's by alias, and the source of the reader's field has its type at this place. `sources` has the source entries of
+-- the reader's aliased fields, for each of the writer's places. If such links of two schemas (AreReferrers) have the same label, the pair of their
+-- referrers depends on the pair of the places to which they refer.
 abbrev pub LinkKindsMatch : List (Vec ℕ Global) → ℕ → Link → Link → Type 0
 LinkKindsMatch sources writer_place writer_link reader_link = CanMatchKinds sources writer_place writer_link.referrer writer_link.kind reader_link.kind
 

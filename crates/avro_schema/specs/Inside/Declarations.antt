@@ -60,9 +60,9 @@ symbols_in ms = do
   symbols ← texts_in (allowed is_simple) items
   if all_distinct bytes_eq symbols then Some symbols else None
 
--- The enum that an object's members other than `type` declare, as the node at the next place. The first argument is the enclosing namespace. `None` if
--- `name` or `symbols` is missing, or a member is invalid. `None` also if the full name is taken, or its last part is the name of a primitive type.
--- `None` also if an attribute nests too deep, or the schema has the maximum number of nodes.
+-- The enum that an object's members other than `type` declare, as the node at the next place. `space` is the enclosing namespace. `None` if `name` or
+-- `symbols` is missing, or if one of these, the namespace, the aliases or the default is invalid. `None` also if the full name is taken, or its
+-- last part is the name of a primitive type. `None` also if another attribute nests too deep, or the schema has the maximum number of nodes.
 unfoldable pub enum_at : List ℕ → Members → Known → ℕ → Option (Part ℕ)
 enum_at space ms known first = do
   place ← next_place first
@@ -73,7 +73,7 @@ enum_at space ms known first = do
   Some (record { it = place; nodes = enumeration named symbols fallback extra ∷ []; known = defined known named.name place })
 
 -- The `fixed` that an object's members other than `type` declare, as the node at the next place. `None` as for `enum_at`, with `size` in place of
--- `symbols`.
+-- `symbols`, and without the default.
 unfoldable pub fixed_at : List ℕ → Members → Known → ℕ → Option (Part ℕ)
 fixed_at space ms known first = do
   place ← next_place first

@@ -52,7 +52,7 @@ abbrev pub alias_size : List ℕ → Data → ℕ
 alias_size space d = map_or_zero (λ alias. length (full_name_in space alias)) (as_str d)
 
 -- The namespace of a definition, by the enclosing namespace, its name and its attributes. For a name with a dot, it is the part before the last dot.
--- For any other, it is the attribute `namespace`, even if that is malformed. If this is missing or isn't a string, it is the enclosing namespace.
+-- For any other, it is the string of the attribute `namespace`, even if that is no valid namespace. Without such a string, it is the enclosing one.
 unfoldable pub namespace_in : List ℕ → List ℕ → Members → List ℕ
 namespace_in enclosing name ms = if has_dot name then namespace_of name else unwrap_or (text_in (codes "namespace") ms) enclosing
 

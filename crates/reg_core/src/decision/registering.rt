@@ -156,9 +156,10 @@ pub fn id_among(known: Option<u32>, rows: &[&Row]) -> Option<u32>
     }
 }
 
-/// The subject's next version, which is live, if no live version has the schema yet. `None` if its
-/// number or its id would exceed `MAX_NUMBER`. The number follows the greatest of the view's versions,
-/// soft-deleted ones included, or is 1. The id is the sent schema's, or the next one if it is new.
+/// The version that a registration would add, which is live. The caller has checked that no live
+/// version has the schema. `None` if its number or its id would exceed `MAX_NUMBER`. The number is 1
+/// more than the greatest in the view, soft-deleted versions included, or 1. The id is the sent
+/// schema's, or the next one if the schema isn't registered.
 fn next_row(view: &View, subject: &Subject) -> Result<Option<Row>, OutOfMemory>
     ensures { IfOk result (λ row. row ≡ (if has_numbers_by_view view.now then Some (row_by_view view.now subject.now) else None)) }
 {

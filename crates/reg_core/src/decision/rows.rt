@@ -45,8 +45,8 @@ pub fn found_row<'a>(choice: Option<VersionChoice>, rows: &[&'a Row]) -> Result<
     }
 }
 
-/// The chosen one of these versions, or `None`: the last in the list, soft-deleted or not, or that with
-/// the number.
+/// The chosen one of these versions, or `None` if there is none. `Latest` is the last in the list,
+/// soft-deleted or not; `Numbered` is the one with the number.
 pub fn chosen_row<'a>(choice: VersionChoice, rows: &[&'a Row]) -> Option<&'a Row>
     ensures { option_copied result ≡ chosen_row choice (map (λ row. row.now) rows.now) }
 {

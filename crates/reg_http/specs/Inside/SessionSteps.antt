@@ -25,13 +25,13 @@ pub record IsIncompleteUntil (bytes : List ℕ) (needs : ℕ) : Type 0 where
 
 -- The facts at each stop. `rest` follows the processed messages xs, `buffered` is in the buffer, and `out` was written.
 abbrev pub StopsAs : List AnsweredMessage → List ℕ → List ℕ → List ℕ → Stop → Type 0
--- no message ends the connection, and each got its response; the rest is in the buffer, and is incomplete until it has `needs` bytes
+-- no message ends the connection, and each got its response; the rest is in the buffer, and has no whole message before it has `needs` bytes
 StopsAs xs rest buffered out (Waiting needs) = NoneCloses xs × (rest ≡ buffered) × IsIncompleteUntil rest needs × (out ≡ responses xs)
 -- only the last message ends the connection, and each got its response; any bytes may follow
 StopsAs xs rest buffered out AtClose = LastCloses xs × (out ≡ responses xs)
--- no message ends the connection, a fault follows the messages, and each got its response
+-- no message ends the connection, and each got its response; a fault follows them, and got its response, too
 StopsAs xs rest buffered out AtFault = (code : Code) × NoneCloses xs × Follows rest (Faulty code) × (out ≡ responses xs ++ fault_response code)
--- the last response, or that to a fault which follows, was cut short
+-- each earlier response was written in full; of the last one, or of that to a fault, a beginning was written, perhaps none or all of it
 StopsAs xs rest buffered out NotWritten = IsCutShort xs rest out
 -- no message ends the connection, and each got its response; or the output is cut short as for `NotWritten`
 StopsAs xs rest buffered out OutOfMemory = (NoneCloses xs × (out ≡ responses xs)) ⊎ IsCutShort xs rest out

@@ -113,8 +113,8 @@ impl<'a, C: Clock> Timing<'a, C> {
         self.phase.set(Phase::Responding(time(self.clock)));
     }
 
-    /// Records that the system took the last byte of a response. The connection is then between two
-    /// requests.
+    /// Records that the system took the last byte of a response. The connection then counts as between
+    /// two requests.
     pub fn end_response(&self) {
         self.phase.set(Phase::Between);
     }

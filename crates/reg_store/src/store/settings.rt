@@ -92,8 +92,8 @@ fn globals<S: Alter>(alloc: Global, db: &mut Conn<S>) -> Result<(Level, Mode), S
     globals_in(lines.as_slice())
 }
 
-/// The global level and the global mode that the rows of `meta` spell. `NotARegistry` if a row is
-/// missing or isn't valid.
+/// The global level and the global mode that the rows of `meta` spell. `NotARegistry` if the first
+/// row `global` or `mode` is missing or has an invalid value.
 fn globals_in(lines: &[RawMeta]) -> Result<(Level, Mode), StoreError>
     ensures ok { IfOk result (λ globals.
         (option_and_then level_of (meta_value (codes "global") lines.now) ≡ Some globals.0)

@@ -67,8 +67,9 @@ fn next_subject_line<S: Alter>(
     }
 }
 
-/// The fields of the line of the next version after `last` (the first one for `None`), by subject and
-/// number, soft-deleted or not, and the cursor after it. If none follows, `None` and the same cursor.
+/// The fields of the line of the next version after `last` (the first one for `None`), and the cursor
+/// after it. The order is by subject and number, and soft-deleted versions count. If none follows,
+/// `None` and the same cursor.
 fn next_version_line<S: Alter>(
     alloc: Global,
     db: &mut Conn<S>,

@@ -21,8 +21,8 @@ use reg_core::{Level, Row, Subject, VersionChoice};
 use sqlite::Alter;
 use std::alloc::Global;
 
-/// The versions that suffice to decide a deletion: the version to delete, if any; otherwise one that
-/// shows why there is none, if the subject has versions. Empty without a valid choice.
+/// At most one version, which suffices to decide a deletion: the version to delete. If there is none,
+/// one that shows why, if the subject has versions. Empty without a valid choice.
 pub(crate) fn deletion_rows<S: Alter>(
     alloc: Global,
     db: &mut Conn<S>,

@@ -94,10 +94,10 @@ by_first_column = op2 (Compare Eq Binary) (col 1 1) (col 0 0) ∷ []
 abbrev pub by_version : List Term
 by_version = op2 (Compare Eq Binary) (col 1 1) (col 0 0) ∷ op2 (Compare Eq Binary) (col 1 2) (col 0 1) ∷ []
 
--- the first three columns are the parameters
+-- the test that the first three columns of a row equal the first three parameters
 abbrev pub by_position : List Term
 by_position = op2 (Compare Eq Binary) (col 1 1) (col 0 0) ∷ op2 (Compare Eq Binary) (col 1 2) (col 0 1) ∷ op2 (Compare Eq Binary) (col 1 3) (col 0 2) ∷ []
 
--- the rowid is the parameter
+-- the test that the rowid equals the first parameter
 abbrev pub by_id : List Term
 by_id = op2 (Compare Eq Binary) (col 1 0) (col 0 0) ∷ []

@@ -14,4 +14,4 @@ returns-in-Ok g c =
     c.in-Ok.ensures.over
 
 pub returns-in-Err : goal.returns-in-Err
-returns-in-Err g c = record { unwritten = refl; lacks = c.in-Err.ensures.none }
+returns-in-Err g c = record { unwritten = refl; none = c.in-Err.ensures.none }
