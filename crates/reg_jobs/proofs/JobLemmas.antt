@@ -22,7 +22,7 @@ use Rattle.reg_jobs.specs.declared.listings.ListOutcome.TheVariants.{Whole, Unre
 use Rattle.reg_jobs.specs.declared.auditing.AuditOutcome.{AuditOutcome}
 use Rattle.reg_jobs.specs.Auditing.{AuditsAs}
 use Rattle.reg_jobs.specs.Listings.{IfUnread, ListsAs, listing_of}
-use Rattle.reg_jobs.specs.Databases.{ServesStore}
+use Rattle.reg_jobs.specs.Databases.{RunsOnStore}
 use Rattle.reg_jobs.specs.Jobs.{AuditsOver, SessionStartsFrom, OpensRegistry, ListsOver, OpenedDatabaseSatisfies, RunsOver}
 
 -- the stored state when a session over the registry of what was opened begins
@@ -42,7 +42,7 @@ begins_over g (Database old) begun has = record { was = has.stored; begins = has
 
 -- a session over the registry of what was opened
 pub RunsOver-has : {S : Type 0} (g : Ghosts S) (opened : Opened S) (store : Store S g) (back : Held S) (reader reader' writer writer' : Option (List ℕ)) (ended : Ended)
-    → (HasCleanDisk (state g back) → OpensRegistry g opened (state_of store)) → ServesStore store back reader reader' writer writer' ended → RunsOver g opened (Some back) reader reader' writer writer' ended
+    → (HasCleanDisk (state g back) → OpensRegistry g opened (state_of store)) → RunsOnStore store back reader reader' writer writer' ended → RunsOver g opened (Some back) reader reader' writer writer' ended
 RunsOver-has {S} g opened store back reader reader' writer writer' ended has s = record {
   before = s.before;
   after = s.after;

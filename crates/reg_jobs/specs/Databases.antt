@@ -30,7 +30,7 @@ pub record ReturnsConnection {S : Type 0} (g : Ghosts S) (returned : Option (Hel
 -- A service over the store served a session, and then returned its connection. Let the disk be clean then. From each stored state that the tables
 -- spelled, the session led to one that they spell, each while the connection is open (`StoredTransition`). `Session` says what was read and written,
 -- `ServesDurably` what was stored.
-pub record ServesStore {S : Type 0} {g : Ghosts S} (store : Store S g) (returned : Held S) (reader reader' writer writer' : Option (List ℕ)) (ended : Ended) : Type 0 where
+pub record RunsOnStore {S : Type 0} {g : Ghosts S} (store : Store S g) (returned : Held S) (reader reader' writer writer' : Option (List ℕ)) (ended : Ended) : Type 0 where
   pub before : Service S g
   pub after : Service S g
   pub begins : store_in before ≡ store

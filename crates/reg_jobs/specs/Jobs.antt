@@ -106,7 +106,8 @@ OpensRegistry g OrphanedLog new = ⊥
 OpensRegistry g (Fresh old) new = IsCreatedIn (state g old) new
 OpensRegistry g (Database old) new = OpensOver (state g old) new
 
--- why no registry was opened, and the connection that is returned
+-- Why no registry was opened or created, by what was opened, and the connection that is returned. For `Fresh` and `Database`, the reason is given on a
+-- clean disk (`CreatesNone`, `OpensNone`).
 abbrev pub OpensNoRegistry : {S : Type 0} (g : Ghosts S) → Opened S → Option (Held S) → StoreError → Type 0
 OpensNoRegistry g Nothing returned error = (returned ≡ None) × (error ≡ Disk)
 OpensNoRegistry g (Texts texts) returned error = (returned ≡ None) × (error ≡ Disk)

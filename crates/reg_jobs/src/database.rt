@@ -5,7 +5,7 @@ ghost use Rattle.sqlite.specs.Held.{state};
 ghost use Rattle.sqlite.specs.State.{HasCleanDisk};
 ghost use Rattle.reg_store.specs.Stores.{has_failed, state_of};
 ghost use Rattle.reg_store.specs.Opening.{OpensOver};
-ghost use Rattle.reg_jobs.specs.Databases.{ReturnsConnection, IsCreatedIn, CreatesNone, OpensNone, ServesStore};
+ghost use Rattle.reg_jobs.specs.Databases.{ReturnsConnection, IsCreatedIn, CreatesNone, OpensNone, RunsOnStore};
 
 use reg_http::{Ended, serve};
 use reg_service::Service;
@@ -22,7 +22,7 @@ pub fn run_on_store<R: Read, W: Write, S: Alter>(
     writer: &mut W,
 ) -> (Ended, Connection<S>)
     ensures clean { HasCleanDisk (state S.Store result.1) → HasCleanDisk (state_of store) }
-    ensures session { ServesStore store result.1 (R.remaining reader.old) (R.remaining reader.new)
+    ensures session { RunsOnStore store result.1 (R.remaining reader.old) (R.remaining reader.new)
         (W.contents writer.old) (W.contents writer.new) result.0 }
 {
     let mut service = Service::new(alloc, store);

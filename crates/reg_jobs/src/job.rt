@@ -221,8 +221,8 @@ fn list_on<S: Alter + Drop, W: Write>(
 
 /// Migrates the registry of what was opened to this program's layout, and prints a line. If the
 /// database has no SQL view and `meta` names that layout already, the line says so, even if the other
-/// tables are invalid. In every other case without a migration, the outcome is `Unopened` and nothing
-/// is printed. Returns the opened connection, or `None` if none was opened.
+/// tables are invalid. In every other case, also if an allocation or the disk fails, the outcome is
+/// `Unopened` and nothing is printed. Returns the opened connection, or `None` if none was opened.
 fn migrate_on<S: Alter + Drop, W: Write>(
     alloc: Global,
     opened: Opened<S>,

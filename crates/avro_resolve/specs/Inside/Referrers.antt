@@ -168,9 +168,9 @@ CanMatchKinds sources writer_place referrer ByName (ByAlias number) = entry_at s
 CanMatchKinds sources writer_place referrer _ _ = ⊥
 
 -- The kinds of a writer's link to this place and of a reader's link match. They do if both are by element, or both by name. They also do if the
--- writer's is by name, the reader's by alias, and the source of the reader's field has its type at this place. `sources` has the source entries of
--- the reader's aliased fields, for each of the writer's places. If such links of two schemas (AreReferrers) have the same label, the pair of their
--- referrers depends on the pair of the places to which they refer.
+-- writer's is by name, the reader's by alias, and the source of the reader's field, in the writer's referrer, has its type at this place. `sources`
+-- has the source entries of the reader's aliased fields, for each of the writer's places. If such links of two schemas (AreReferrers) have the same
+-- label, the pair of their referrers depends (`DependsOn`) on the pair of the places to which they refer.
 abbrev pub LinkKindsMatch : List (Vec ℕ Global) → ℕ → Link → Link → Type 0
 LinkKindsMatch sources writer_place writer_link reader_link = CanMatchKinds sources writer_place writer_link.referrer writer_link.kind reader_link.kind
 

@@ -23,7 +23,8 @@ pub record Represents (m : ℕ) (s : PairSet) (ps : List Pair) : Type 0 where
 -- The invariant of the recursion, over its assumed pairs, its failed pairs in the order in which they failed, and its number of visits. All these pairs
 -- are reachable. Each occurs once, and none is both assumed and failed. Each failed pair lacks support even from the set of all pairs but the ones
 -- that failed before it. There are at least as many visits as assumed and failed pairs together. Let a list contain the pair of the roots, and all
--- that its pairs ask for (`ContainsAsked`). Then its length times the number of failed pairs, plus the number of assumed pairs, is an upper bound.
+-- that its pairs ask for (`ContainsAsked`). Then there are at most as many visits as its length times the number of failed pairs, plus the number of
+-- assumed pairs.
 pub record WalkInvariant (w r : List NodeView) (assumed failed : List Pair) (visits : ℕ) : Type 0 where
   pub assumed_reachable : (i j : ℕ) → IsTrue (member assumed i j) → IsReachable w r i j
   pub failed_reachable : (i j : ℕ) → IsTrue (member failed i j) → IsReachable w r i j

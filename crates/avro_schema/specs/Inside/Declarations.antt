@@ -61,8 +61,9 @@ symbols_in ms = do
   if all_distinct bytes_eq symbols then Some symbols else None
 
 -- The enum that an object's members other than `type` declare, as the node at the next place. `space` is the enclosing namespace. `None` if `name` or
--- `symbols` is missing, or if one of these, the namespace, the aliases or the default is invalid. `None` also if the full name is taken, or its
--- last part is the name of a primitive type. `None` also if another attribute nests too deep, or the schema has the maximum number of nodes.
+-- `symbols` is missing, or if one of these, the aliases or the default is invalid. `None` also if `namespace` isn't a string, or is malformed and
+-- the name has no dot. `None` also if the full name is taken, or its last part is the name of a primitive type. `None` also if another attribute
+-- nests too deep, or the schema has the maximum number of nodes.
 unfoldable pub enum_at : List ℕ → Members → Known → ℕ → Option (Part ℕ)
 enum_at space ms known first = do
   place ← next_place first
