@@ -1,16 +1,13 @@
-"""Sends requests in pieces, and from several clients of one server."""
+"""Sends requests in pieces, and receives responses."""
 
 import os
-import resource
+import re
 import socket
 import subprocess
 import threading
-import time
 
 from .program import PROGRAM, TIMEOUT_SECONDS, CaseError, completed_process
 
-REPETITIONS = 1000
-BYTES_PER_SECOND = 10_000_000
 PIECE_LENGTHS = range(1, 65)
 
 
@@ -56,9 +53,35 @@ def write_pieces(descriptor, pieces):
 def receive_all(connection):
     """Returns all bytes that arrive before the server closes the connection."""
     received = b""
-    while part := connection.recv(1 << 16):
+    while part := connection.recv(1 << 20):
         received += part
     return received
+
+
+def response_length(received):
+    """Returns the length of the response at the front of the bytes, or None if its head isn't whole."""
+    head, end, _ = received.partition(b"\r\n\r\n")
+    length = re.search(rb"\r\nContent-Length: (\d+)", head)
+    return len(head + end) + int(length[1]) if end and length else None
+
+
+def receive_response(connection):
+    """Returns the bytes of the next response, or what arrives of it before the server closes the connection."""
+    received = b""
+    while (length := response_length(received)) is None or len(received) < length:
+        part = connection.recv(1 << 16)
+        if not part:
+            break
+        received += part
+    return received
+
+
+def send_request(connection, request):
+    """Sends a request, shuts down the sending side, and returns all bytes of the response."""
+    with connection:
+        connection.sendall(request)
+        connection.shutdown(socket.SHUT_WR)
+        return receive_all(connection)
 
 
 def send_in_pieces(connection, pieces):
@@ -69,57 +92,3 @@ def send_in_pieces(connection, pieces):
             connection.sendall(piece)
         connection.shutdown(socket.SHUT_WR)
         return receive_all(connection)
-
-
-def send_during_many(connect, repeated, single):
-    """Sends a request from a second client while the server responds to many requests of a first client.
-
-    The first client sends `repeated` 1,000 times at once, and reads ten megabytes of responses a second. The second client
-    sends `single` once. Returns the bytes that the second client receives. Raises CaseError unless the first client received
-    at least one and fewer than 1,000 responses, each of them whole.
-    """
-    with connect() as first, connect() as second:
-        first.sendall(repeated * REPETITIONS)
-        second.sendall(single)
-        second.shutdown(socket.SHUT_WR)
-        received = b""
-        while part := first.recv(1 << 16):
-            received += part
-            time.sleep(len(part) / BYTES_PER_SECOND)
-        check_equal_responses(received)
-        return receive_all(second)
-
-
-def check_equal_responses(received):
-    """Checks that the bytes are whole equal responses, at least one and fewer than REPETITIONS. Raises CaseError if they
-    aren't."""
-    if not received:
-        raise CaseError("the server closed a connection without a response")
-    head, _, body = received.partition(b"\r\n\r\n")
-    prefix = b"Content-Length: "
-    length = next((int(line[len(prefix) :]) for line in head.split(b"\r\n") if line.startswith(prefix)), 0)
-    response = head + b"\r\n\r\n" + body[:length]
-    count = len(received) // len(response)
-    if received != response * count:
-        raise CaseError(f"a response is incomplete: {len(received)} bytes arrived, and a response has {len(response)}")
-    if count >= REPETITIONS:
-        raise CaseError(f"the server responded to all {count} requests of a client before it served another client")
-
-
-def connect_without_descriptor(connect, server, requests):
-    """Connects two clients, one after the other. The server has no file descriptor for the second connection until two
-    accepts have failed. Returns the bytes that both clients receive, and the line that the server prints to standard error."""
-    limits = resource.prlimit(server.pid, resource.RLIMIT_NOFILE)
-    with connect() as connection:
-        connection.sendall(requests[0])
-        received = connection.recv(1 << 16)
-        last = max(int(name) for name in os.listdir(f"/proc/{server.pid}/fd"))
-        resource.prlimit(server.pid, resource.RLIMIT_NOFILE, (last, limits[1]))
-    error = server.stderr.readline()
-    with connect() as connection:
-        connection.sendall(requests[1])
-        connection.shutdown(socket.SHUT_WR)
-        # (another accept fails during this time, and the server doesn't report it again)
-        time.sleep(0.3)
-        resource.prlimit(server.pid, resource.RLIMIT_NOFILE, limits)
-        return received + receive_all(connection), error

@@ -2,9 +2,18 @@
 
 import os
 import shlex
-import socket
 
-from .clients import connect_without_descriptor, receive_all, send_during_many
+from .clients import send_request
+from .crowds import (
+    KINDS,
+    LATECOMERS,
+    MAX_CLOSED,
+    connect_without_descriptor,
+    raise_limit,
+    send_alternately,
+    send_beside,
+    send_in_crowd,
+)
 from .messages import build_request, parse_requests
 from .program import (
     TIMEOUT_SECONDS,
@@ -54,7 +63,9 @@ class Execution:
         actions = {
             "avroreg": self.run_avroreg,
             "connect": self.connect_each,
-            "behind": self.send_during,
+            "alternate": self.alternate,
+            "beside": self.send_beside,
+            "crowd": self.send_in_crowd,
             "starve": self.starve,
             "file": self.make_file,
             "link": self.link_file,
@@ -99,13 +110,15 @@ class Execution:
     def run_server(self, line, connections, client, requests=()):
         """Runs a server for this number of connections, after checking the previous run. Responses count as its output.
 
+        line      its first argument is the server's file
         client    called as in `serve`; returns the responses, or the responses and a part of the server's standard error
         requests  the requests that error texts show
         """
         self.check_last_run()
-        result, server = serve(self.folder, self.file_name(line), connections, client)
+        name = self.file_name(line).split(" ")[0]
+        result, server = serve(self.folder, name, connections, client)
         responses, stderr = result if isinstance(result, tuple) else (result, b"")
-        context = describe_request(f"{line.location}: avroreg serve --db {line.argument}", b"\n".join(requests))
+        context = describe_request(f"{line.location}: avroreg serve --db {name}", b"\n".join(requests))
         process = completed_process(server.returncode, server.stdout + responses, stderr + server.stderr)
         self.last_run = CheckedRun(context, process)
 
@@ -119,17 +132,36 @@ class Execution:
             requests,
         )
 
-    def send_during(self, line):
-        """Sends the second request below the line while a server responds to the first one, sent many times."""
-        repeated, single = parse_requests(self.case, line)
-        self.run_server(line, 2, lambda connect, _: send_during_many(connect, repeated, single))
+    def alternate(self, line):
+        """Sends the requests below the line in turn from two clients that keep their connections."""
+        requests = parse_requests(self.case, line)
+        self.run_server(line, 2, lambda connect, _: send_alternately(connect, requests), requests)
+
+    def send_beside(self, line):
+        """Sends each request below the line but the first to a server with clients of a kind, which send the first one."""
+        requests = parse_requests(self.case, line)
+        kind = line.argument.split(" ")[1]
+        connections = KINDS[kind][0] + len(requests) - 1
+        raise_limit(connections)
+        self.run_server(line, connections, lambda connect, _: send_beside(connect, kind, requests), requests)
+
+    def send_in_crowd(self, line):
+        """Sends the request below the line from more clients than the server has places or descriptors for."""
+        (request,) = parse_requests(self.case, line)
+        _, count, what = line.argument.split(" ")
+        places, lacks_descriptors = int(count), what == "descriptors"
+        raise_limit(places)
+        self.run_server(
+            line,
+            places + LATECOMERS,
+            lambda connect, server: send_in_crowd(connect, server, request, places, lacks_descriptors),
+        )
+        self.last_run.process.stderr = unite_reports(self.last_run.process.stderr)
 
     def starve(self, line):
-        """Sends each request on its own connection to a server that has no file descriptor for the second one at first."""
+        """Sends the requests below the line to a server that has no file descriptor for its second connection at first."""
         requests = parse_requests(self.case, line)
-        self.run_server(
-            line, len(requests), lambda connect, server: connect_without_descriptor(connect, server, requests)
-        )
+        self.run_server(line, 2, lambda connect, server: connect_without_descriptor(connect, server, requests))
 
     def make_file(self, line):
         """Writes the file NAME with the contents TEXT."""
@@ -202,12 +234,10 @@ class Execution:
             other.communicate()
 
 
-def send_request(connection, request):
-    """Sends a request, shuts down the sending side, and returns all bytes of the response."""
-    with connection:
-        connection.sendall(request)
-        connection.shutdown(socket.SHUT_WR)
-        return receive_all(connection)
+def unite_reports(stderr):
+    """Returns one line for the equal lines that a server prints, one for each time that it closes a connection."""
+    lines = stderr.splitlines(keepends=True)
+    return lines[0] if lines and len(lines) <= MAX_CLOSED and lines == lines[:1] * len(lines) else stderr
 
 
 class CheckedRun:

@@ -1,36 +1,31 @@
 //! Serves a registry on a port of 127.0.0.1.
 
-use reg_jobs::{ErrorWriter, Opened, Outcome, Server, open_store, report, serve_with_clock};
-use reg_service::Service;
-use reg_store::Store;
+use reg_jobs::{ErrorWriter, Opened, Outcome, Server, Sockets, open_store, report, serve_opened};
 use sqlite::{Alter, Connection};
-use std::io::Stderr;
+use std::alloc::Global;
+use std::io::{self, Stderr};
 use std::net::{Ipv4Addr, TcpListener};
 
-/// Serves the connections to the server's port over a store. Returns the store's connection, and
-/// `NotListening` if the program can't listen on the port, otherwise `None`.
-fn listen<S: Alter + Drop>(
-    rt: &HostRuntime,
+/// The outcome if the program can't listen on the server's port: why the database has no registry,
+/// otherwise `NotListening`. Returns the connection to the database, too.
+fn open_in_vain<S: Alter + Drop>(
+    alloc: Global,
     server: &Server,
-    store: Store<S>,
-    errors: &mut ErrorWriter<Stderr>,
-) -> (Option<Outcome>, Connection<S>) {
-    let mut service = Service::new(rt.alloc(), store);
-    let fault = match TcpListener::bind(rt, (Ipv4Addr::LOCALHOST, server.port)) {
-        Ok(listener) => {
-            serve_with_clock(
-                rt.alloc(),
-                rt,
-                &listener,
-                server.connections,
-                &mut service,
-                errors,
-            );
-            None
-        }
-        Err(_) => Some(Outcome::NotListening(server.port)),
-    };
-    (fault, service.into_store().into_connection())
+    opened: Opened<S>,
+) -> (Outcome, Option<Connection<S>>) {
+    match open_store(alloc, opened) {
+        Ok(store) => (
+            Outcome::NotListening(server.port),
+            Some(store.into_connection()),
+        ),
+        Err((error, connection)) => (Outcome::Unopened(error), connection),
+    }
+}
+
+/// The network of the server's port.
+fn listen(rt: &HostRuntime, server: &Server) -> io::Result<Sockets> {
+    let listener = TcpListener::bind(rt, (Ipv4Addr::LOCALHOST, server.port))?;
+    Sockets::of(rt.alloc(), rt, listener)
 }
 
 /// Serves a server's connections over the database that was opened for it. Returns the program's
@@ -41,16 +36,13 @@ pub fn serve<S: Alter + Drop>(
     opened: Opened<S>,
     errors: &mut ErrorWriter<Stderr>,
 ) -> (u8, Option<Connection<S>>) {
-    let (fault, connection) = match open_store(rt.alloc(), opened) {
-        Ok(store) => {
-            let (fault, connection) = listen(rt, server, store, errors);
-            (fault, Some(connection))
+    let alloc = rt.alloc();
+    let (outcome, connection) = match listen(rt, server) {
+        Ok(mut network) => {
+            serve_opened(alloc, rt, &mut network, server.connections, opened, errors)
         }
-        Err((error, connection)) => (Some(Outcome::Unopened(error)), connection),
+        Err(_) => open_in_vain(alloc, server, opened),
     };
-    let status = match fault {
-        Some(outcome) => report(errors, outcome, server.database.as_str()),
-        None => 0,
-    };
+    let status = report(errors, outcome, server.database.as_str());
     (status, connection)
 }

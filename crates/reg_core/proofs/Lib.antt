@@ -5,6 +5,7 @@ pub mod Arrays
 pub mod Quoting
 pub mod OwnReplies
 pub mod ModeLemmas
+pub mod StepReplies
 pub mod UnchangedRegistries
 pub mod CommandTextLemmas
 pub mod Versions

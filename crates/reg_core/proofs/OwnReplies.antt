@@ -11,7 +11,7 @@ use Rattle.reg_core.specs.declared.level.Level.{Level}
 use Rattle.reg_core.specs.declared.mode.Mode.{Mode}
 use Rattle.reg_core.specs.declared.number.VersionChoice.{VersionChoice}
 use Rattle.reg_core.specs.declared.code.Code.{Code}
-use Rattle.reg_core.specs.declared.code.Code.TheVariants.{KeyReused, SubjectNotFound, SubjectSoftDeleted, SubjectNotSoftDeleted, VersionSoftDeleted, VersionNotSoftDeleted, VersionNotFound, SchemaNotFound, InvalidSchema, InvalidVersion, InvalidLevel, InvalidMode, NotPermitted, NoNumberLeft}
+use Rattle.reg_core.specs.declared.code.Code.TheVariants.{KeyReused, SubjectNotFound, SubjectSoftDeleted, SubjectNotSoftDeleted, VersionSoftDeleted, VersionNotSoftDeleted, VersionNotFound, SchemaNotFound, InvalidSchema, InvalidVersion, InvalidLevel, InvalidMode, Incompatible, NotPermitted, NoNumberLeft}
 use Rattle.reg_core.specs.Codes.{fault_body}
 use Rattle.reg_core.specs.Replies.{ReplyView, IsKeptStatus, success, fault, IsCommandReply}
 use Rattle.reg_core.specs.Registry.{Registry, Row}
@@ -32,7 +32,7 @@ success-IsCommandReply body = record {
 }
 
 -- a fault with status 404
-not_found : (code : Code) → (fault code).status ≡ 404 → IsCommandReply (fault code)
+pub not_found : (code : Code) → (fault code).status ≡ 404 → IsCommandReply (fault code)
 not_found code e = record {
   kept = subst IsKeptStatus (sym e) refl;
   no_reused_key = other_status _ _ (λ h. eqb-false 404 422 refl (sym e ∙ h));
@@ -73,6 +73,12 @@ invalid_version-IsCommandReply = unprocessable InvalidVersion 17 refl (eqb-false
 pub not_permitted-IsCommandReply : IsCommandReply (fault NotPermitted)
 unfolding fault_body digits
 not_permitted-IsCommandReply = unprocessable NotPermitted 17 refl (eqb-false 48 57 refl)
+
+pub incompatible-IsCommandReply : IsCommandReply (fault Incompatible)
+incompatible-IsCommandReply = record {
+  kept = refl;
+  no_reused_key = other_status _ _ (eqb-false 409 422 refl);
+}
 
 pub no_number_left-IsCommandReply : IsCommandReply (fault NoNumberLeft)
 unfolding fault_body digits

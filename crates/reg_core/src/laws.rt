@@ -4,6 +4,7 @@ ghost use Rattle.reg_core.specs.declared.command.Command.{Command};
 ghost use Rattle.reg_core.specs.Registry.{IsRegistry, Registry};
 ghost use Rattle.reg_core.specs.Machine.{step};
 ghost use Rattle.reg_core.specs.Additions.{AddsOnlyAdmitted};
+ghost use Rattle.reg_core.specs.Replies.{IsCommandReply};
 ghost use Rattle.reg_core.specs.Evidence.{EvidenceMap, IsEvidenceAfter, IsTrueEvidence};
 
 /// A law of the abstract machine: each command preserves the invariant of a registry. Texts denote
@@ -27,4 +28,10 @@ pub fn additions_are_admitted()
 pub fn evidence_stays_true()
     ensures { (g : Registry) (command : Command) (before after : EvidenceMap) → IsRegistry g → IsTrueEvidence g before
         → IsEvidenceAfter g command before after → IsTrueEvidence (step g command).0 after }
+{}
+
+/// A law of the abstract machine: the reply to each command has the status 200, 404, 409 or 422, and
+/// isn't the one for a reused retry key. So it reports no fault, as 50001 does.
+pub fn commands_reply_as_commands()
+    ensures { (g : Registry) (command : Command) → IsCommandReply (step g command).1 }
 {}

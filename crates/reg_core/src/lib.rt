@@ -31,7 +31,10 @@ pub use decision::{
 pub use delivery::Delivery;
 pub use evidence::Evidence;
 pub use key::Key;
-pub use laws::{additions_are_admitted, commands_preserve_invariant, evidence_stays_true};
+pub use laws::{
+    additions_are_admitted, commands_preserve_invariant, commands_reply_as_commands,
+    evidence_stays_true,
+};
 pub use level::Level;
 pub use mode::Mode;
 pub use needs::{Needs, RowsNeeded, SubjectRows};

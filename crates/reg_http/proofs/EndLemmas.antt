@@ -9,12 +9,10 @@ use Rattle.reg_messages.specs.ParseOutcomes.{IsPartialUntil}
 use Rattle.reg_http.specs.declared.serving.Ended.{Ended}
 use Rattle.reg_http.specs.declared.serving.Ended.TheVariants.{Closed, ReadFailed, Malformed, Memory}
 use Rattle.reg_http.specs.Output.{responses, exchanges}
-use Rattle.reg_http.specs.declared.answering.Stop.{Stop}
-use Rattle.reg_http.specs.declared.answering.Stop.TheVariants.{Waiting}
-use Rattle.reg_http.specs.Inside.Readings.{end_of}
-use Rattle.reg_http.specs.Sessions.{ProcessesMessages, EndsAs, Session}
-use Rattle.reg_http.specs.Inside.SessionSteps.{AnswersAs, IsIncompleteUntil, AnsweredSoFar}
-use Rattle.reg_http.proofs.SessionLemmas.{Joins, ProcessesMessages-nil, AnsweredSoFar-more, AnswersAs-after}
+use Rattle.reg_http.specs.Inside.InputEnds.{end_of}
+use Rattle.reg_http.specs.Sessions.{EndsAs, Session}
+use Rattle.reg_http.specs.Inside.SessionSteps.{IsIncompleteUntil, AnsweredSoFar}
+use Rattle.reg_http.proofs.SessionLemmas.{ProcessesMessages-nil}
 
 -- the buffer, if it has less than a whole message
 held : (bytes : List ℕ) (needs : ℕ) → IsIncompleteUntil bytes needs → (bytes ≡ []) ⊎ Follows bytes Part
@@ -92,33 +90,6 @@ module _ (P : List Exchange → Type 0) (r r' w w' : Option (List ℕ)) (input r
 pub Session-unread : (P : List Exchange → Type 0) (r w : Option (List ℕ)) → P [] → Session P r r w w Memory
 Session-unread P r w none =
     record { input = []; reads = Consumes-nil r; answered = []; rest = []; out = []; processes = ProcessesMessages-nil P w [] none; ends = inl (tt, refl) }
-
--- a session up to a stop of its responses
-pub Session-stopped : (P : List Exchange → Type 0) (r r' w w' : Option (List ℕ)) (input bytes : List ℕ) (stop : Stop) (ended : Ended) → Consumes r r' input
-    → (a : AnswersAs P w w' input bytes stop) → EndsAs r' a.answered a.rest a.out ended → Session P r r' w w' ended
-Session-stopped P r r' w w' input bytes stop ended reads a e = record {
-  input = input;
-  reads = reads;
-  answered = a.answered;
-  rest = a.rest;
-  out = a.out;
-  processes = a.processes;
-  ends = e;
-}
-
--- and a session that waits for more bytes
-pub AnsweredSoFar-waiting : (P : List Exchange → Type 0) (w w' : Option (List ℕ)) (input bytes : List ℕ) (needs : ℕ) → AnswersAs P w w' input bytes (Waiting needs) → AnsweredSoFar P w w' input bytes
-AnsweredSoFar-waiting P w w' input bytes needs a =
-    let All : List ℕ × List ℕ → Type 0 = λ s. ProcessesMessages P w w' input a.answered s.0 s.1 in
-    record { answered = a.answered; stay = a.stops.0; processes = subst All (λ i. (a.stops.1 i, a.stops.3 i)) a.processes }
-
--- the responses after one more read
-pub AnswersAs-read : (P Q R : List Exchange → Type 0) → Joins P Q R → (w w1 w2 : Option (List ℕ)) (input before bytes more held : List ℕ) (stop : Stop)
-    → AnsweredSoFar P w w1 input before → bytes ≡ before ++ more → AnswersAs Q w1 w2 bytes held stop → AnswersAs R w w2 (input ++ more) held stop
-AnswersAs-read P Q R joins w w1 w2 input before bytes more held stop s is a =
-    let Behind : List ℕ → Type 0 = λ rest. AnsweredSoFar P w w1 (input ++ more) rest in
-    let all = subst Behind (sym is) (AnsweredSoFar-more P w w1 input before more s) in
-    AnswersAs-after P Q R joins w w1 w2 (input ++ more) bytes held all.answered stop all.stay all.processes a
 
 -- a consequence of what is true of the exchanges
 pub Session-map : (P Q : List Exchange → Type 0) → ((xs : List Exchange) → P xs → Q xs) → (r r' w w' : Option (List ℕ)) (ended : Ended) → Session P r r' w w' ended → Session Q r r' w w' ended

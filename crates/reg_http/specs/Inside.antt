@@ -1,3 +1,4 @@
 pub mod Replying
 pub mod SessionSteps
 pub mod Readings
+pub mod InputEnds

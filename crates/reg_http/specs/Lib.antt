@@ -1,4 +1,4 @@
-pub mod Transitions
 pub mod Output
 pub mod Sessions
 pub mod Inside
+pub mod Conversations

@@ -1,15 +1,11 @@
 //! Processes whole messages in order, and writes their responses.
 
 ghost use Rattle.std.specs.Prelude.{◌≡◌, option_map};
-ghost use Rattle.sqlite.specs.State.{HasCleanDisk};
-ghost use Rattle.reg_service.specs.Crashes.{ServesDurably};
-ghost use Rattle.reg_service.specs.Services.{state_in};
+ghost use Rattle.reg_service.specs.Processing.{ProcessesEach};
 ghost use Rattle.reg_routes.specs.Deliveries.{allow_field, requested_by};
-ghost use Rattle.reg_http.specs.Transitions.{StoredTransition};
 ghost use Rattle.reg_http.specs.Inside.Replying.{IsReplyTo};
-ghost use Rattle.reg_http.specs.Inside.SessionSteps.{AnswersAs, FaultAs, IsWithin, NextAs, IsIncompleteIfWaiting, step_outcome};
+ghost use Rattle.reg_http.specs.Inside.SessionSteps.{FaultAs, IsWithin, NextAs, step_outcome};
 
-use crate::buffer::ReadBuffers;
 use crate::writing::{WriteOutcome, send};
 use httparse::spans::HeaderSpan;
 use reg_core::{Code, Reply};
@@ -52,9 +48,7 @@ fn reply_to<S: Alter>(
     request: &Request<'_>,
     service: &mut Service<S>,
 ) -> (Reply, Option<&'static str>)
-    ensures clean { HasCleanDisk (state_in service.new) → HasCleanDisk (state_in service.old) }
-    ensures replies { HasCleanDisk (state_in service.new) → StoredTransition (state_in service.old) (state_in service.new)
-        (λ was now. IsReplyTo (ServesDurably service.old service.new was now) (requested_by request.now) result.0) }
+    ensures replies { IsReplyTo (ProcessesEach service.old service.new) (requested_by request.now) result.0 }
     ensures allow { option_map (λ text. text.now) result.1 ≡ allow_field (requested_by request.now) result.0 }
 {
     match command_of(alloc, routes, request) {
@@ -90,7 +84,7 @@ fn answer_fault<W: Write>(alloc: Global, code: Code, writer: &mut W) -> Stop
 }
 
 /// Processes the front of the bytes: a whole message, a part of one, a fault, or nothing.
-fn answer_front<W: Write, S: Alter>(
+pub fn answer_front<W: Write, S: Alter>(
     alloc: Global,
     routes: &Routes,
     bytes: &[u8],
@@ -98,11 +92,9 @@ fn answer_front<W: Write, S: Alter>(
     writer: &mut W,
     service: &mut Service<S>,
 ) -> StepOutcome
-    ensures clean { HasCleanDisk (state_in service.new) → HasCleanDisk (state_in service.old) }
     ensures within { IsWithin bytes.now result }
-    ensures next { HasCleanDisk (state_in service.new) → StoredTransition (state_in service.old) (state_in service.new)
-        (λ was now. NextAs (ServesDurably service.old service.new was now)
-        (W.contents writer.old) (W.contents writer.new) bytes.now result) }
+    ensures next { NextAs (ProcessesEach service.old service.new)
+        (W.contents writer.old) (W.contents writer.new) bytes.now result }
 {
     match parse_front(bytes, headers) {
         ParseOutcome::Whole(whole) => {
@@ -115,33 +107,8 @@ fn answer_front<W: Write, S: Alter>(
         ParseOutcome::Nothing => StepOutcome::Stopped(Stop::Waiting(1)),
         ParseOutcome::Part(needs) => StepOutcome::Stopped(Stop::Waiting(needs)),
         ParseOutcome::Faulty(code) => StepOutcome::Stopped(answer_fault(alloc, code, writer)),
-        // `ReadBuffers` has room for more fields than a head within the size limit can have. So
+        // The workspace has room for more fields than a head within the size limit can have. So
         // this doesn't happen.
         ParseOutcome::TooManyFields => StepOutcome::Stopped(Stop::OutOfMemory),
-    }
-}
-
-/// Processes the complete messages in the buffer, in order, until it must stop, and returns why.
-/// Removes each message after which the connection stays open.
-pub fn answer_buffered<W: Write, S: Alter>(
-    alloc: Global,
-    routes: &Routes,
-    buffers: &mut ReadBuffers,
-    writer: &mut W,
-    service: &mut Service<S>,
-) -> Stop
-    ensures clean { HasCleanDisk (state_in service.new) → HasCleanDisk (state_in service.old) }
-    ensures responses { HasCleanDisk (state_in service.new) → StoredTransition (state_in service.old) (state_in service.new)
-        (λ was now. AnswersAs (ServesDurably service.old service.new was now)
-        (W.contents writer.old) (W.contents writer.new) buffers.old.bytes buffers.new.bytes result) }
-    ensures waits { IsIncompleteIfWaiting buffers.new.bytes result }
-{
-    loop {
-        let held = buffers.bytes.held();
-        let headers = buffers.headers.as_mut_slice();
-        match answer_front(alloc, routes, held, headers, writer, service) {
-            StepOutcome::Answered(size) => buffers.bytes.consume(size),
-            StepOutcome::Stopped(stop) => return stop,
-        }
     }
 }

@@ -1,23 +1,27 @@
-//! The buffers of a connection. A reader fills the buffer of bytes, and messages are removed from
-//! its front.
+//! The bytes that a client sent. A reader fills the buffer, and messages are removed from its front.
 
-ghost use Rattle.std.specs.Prelude.{◌≡◌, ◌≤◌, ◌<◌, ◌+◌, ◌-◌, ◌++◌, [], ℕ, List, length, take, drop, IfOk, OnErr, slice_range, vec_len};
+ghost use Rattle.std.specs.Prelude.{◌≡◌, ◌≤◌, ◌<◌, ◌+◌, ◌-◌, ◌++◌, [], ℕ, List, length, take, drop, IfOk, OnOk, OnErr, slice_range, vec_len};
 ghost use Rattle.std.specs.Io.KnownBytes.{Consumes, IsAtEnd, Keeps};
 ghost use Rattle.reg_messages.specs.Framing.{max_body};
 ghost use Rattle.reg_messages.specs.Messages.{max_head};
 
-use httparse::spans::{EMPTY_HEADER_SPAN, HeaderSpan};
 use reg_core::OutOfMemory;
-use reg_messages::MAX_HEAD;
 use std::alloc::Global;
 use std::io;
 use std::io::Read;
 use std::marker::Model;
 
-/// The capacity of a buffer in bytes: a head and a body at their limits.
-pub const ROOM: usize = 1_064_960;
+/// The largest capacity of a buffer in bytes: a head and a body at their limits.
+pub const MAX_ROOM: usize = 1_064_960;
 
-/// Bytes that were read and not yet consumed. Contracts see these bytes.
+/// The capacity in bytes at the first read. It holds most requests.
+pub const FIRST_ROOM: usize = 4096;
+
+/// The factor by which a full buffer grows.
+const GROWTH: usize = 4;
+
+/// Bytes that were read and not yet consumed. Contracts see these bytes. The buffer grows as bytes
+/// arrive.
 #[derive(Drop)]
 pub struct Buffer {
     bytes: Vec<u8>,
@@ -37,8 +41,8 @@ impl Model for Buffer {
 
     ghost view = { λ b. slice_range b.bytes.items b.first b.last };
 
-    ghost invariant = { λ b. (b.first ≤ b.last) × (b.last ≤ max_head + max_body)
-        × (vec_len b.bytes ≡ max_head + max_body) };
+    ghost invariant = { λ b. (b.first ≤ b.last) × (b.last ≤ vec_len b.bytes)
+        × (vec_len b.bytes ≤ max_head + max_body) };
 }
 
 /// Reads once, into the bytes from position `at` on, and returns the number of bytes read: 0 at the
@@ -66,38 +70,102 @@ fn to_front(bytes: &mut Vec<u8>, first: usize, last: usize)
     bytes.copy_within(first..last, 0);
 }
 
+/// The capacity after a buffer of this capacity has grown. It is at least twice as large, so that a
+/// vector takes no more than it asks for.
+fn next_room(room: usize) -> usize
+    requires { room < max_head + max_body }
+    ensures more { room < result }
+    ensures most { result ≤ max_head + max_body }
+{
+    if room < FIRST_ROOM {
+        FIRST_ROOM
+    } else if room < MAX_ROOM / GROWTH / 2 {
+        room * GROWTH
+    } else {
+        MAX_ROOM
+    }
+}
+
+/// Lets a full buffer grow. If the allocation fails, the bytes stay as they were.
+fn grow(bytes: &mut Vec<u8>) -> io::Result<()>
+    requires { vec_len bytes.old < max_head + max_body }
+    ensures ok { OnOk result ((vec_len bytes.old < vec_len bytes.new) × (vec_len bytes.new ≤ max_head + max_body)
+        × (take (vec_len bytes.old) bytes.new.items ≡ bytes.old.items)) }
+    ensures err { OnErr result ((bytes.new.items ≡ bytes.old.items) × (vec_len bytes.new ≡ vec_len bytes.old)) }
+{
+    let room = next_room(bytes.len());
+    bytes.resize(room, 0)?;
+    Ok(())
+}
+
 /// Makes room for at least one byte after the bytes `first..last`, and returns their new positions.
-/// It copies them to the front only if no room follows them.
-fn make_room(bytes: &mut Vec<u8>, first: usize, last: usize) -> (usize, usize)
+/// It copies them to the front only if no room follows them. If they take all room, it grows.
+fn make_room(bytes: &mut Vec<u8>, first: usize, last: usize) -> io::Result<(usize, usize)>
     requires order { first ≤ last }
     requires within { last ≤ vec_len bytes.old }
-    requires fits { last - first < vec_len bytes.old }
-    ensures len { vec_len bytes.new ≡ vec_len bytes.old }
-    ensures order { result.0 ≤ result.1 }
-    ensures room { result.1 < vec_len bytes.new }
-    ensures same { slice_range bytes.new.items result.0 result.1 ≡ slice_range bytes.old.items first last }
+    requires fits { last - first < max_head + max_body }
+    requires most { vec_len bytes.old ≤ max_head + max_body }
+    ensures ok { IfOk result (λ r. (r.0 ≤ r.1) × (r.1 < vec_len bytes.new) × (vec_len bytes.new ≤ max_head + max_body)
+        × (slice_range bytes.new.items r.0 r.1 ≡ slice_range bytes.old.items first last)) }
+    ensures err { OnErr result ((bytes.new.items ≡ bytes.old.items) × (vec_len bytes.new ≡ vec_len bytes.old)) }
 {
     if last < bytes.len() {
-        return (first, last);
+        return Ok((first, last));
+    }
+    if first == 0 {
+        grow(bytes)?;
+        return Ok((first, last));
     }
     to_front(bytes, first, last);
-    (0, last - first)
+    Ok((0, last - first))
 }
 
 impl Buffer {
-    /// An empty buffer with its full capacity.
+    /// An empty buffer, which allocates nothing before the first read.
+    pub fn new(alloc: Global) -> Buffer
+        ensures { result ≡ [] }
+    {
+        Buffer {
+            bytes: Vec::new(alloc),
+            first: 0,
+            last: 0,
+        }
+    }
+
+    /// An empty buffer with its largest capacity.
     ///
     /// # Errors
     ///
     /// `OutOfMemory` if the allocation fails.
-    pub fn new(alloc: Global) -> Result<Buffer, OutOfMemory>
+    pub fn with_all_room(alloc: Global) -> Result<Buffer, OutOfMemory>
         ensures { IfOk result (λ buffer. buffer ≡ []) }
     {
         Ok(Buffer {
-            bytes: vec![in alloc; 0; ROOM]?,
+            bytes: vec![in alloc; 0; MAX_ROOM]?,
             first: 0,
             last: 0,
         })
+    }
+
+    /// The capacity in bytes.
+    pub fn room(&self) -> usize {
+        self.bytes.len()
+    }
+
+    /// Whether a byte follows the last one, so that the last read took all that had arrived.
+    pub fn has_room_behind(&self) -> bool {
+        self.last < self.bytes.len()
+    }
+
+    /// Frees the memory of an empty buffer that has grown past its first capacity.
+    pub fn shrink(&mut self, alloc: Global)
+        ensures { self.new ≡ self.old }
+    {
+        if self.first == self.last && self.bytes.len() > FIRST_ROOM {
+            self.first = 0;
+            self.last = 0;
+            self.bytes = Vec::new(alloc);
+        }
     }
 
     /// The bytes that aren't consumed.
@@ -128,37 +196,11 @@ impl Buffer {
         ensures err { OnErr result ((self.new ≡ self.old)
             × Keeps (R.remaining reader.old) (R.remaining reader.new)) }
     {
-        let (first, last) = make_room(&mut self.bytes, self.first, self.last);
+        let (first, last) = make_room(&mut self.bytes, self.first, self.last)?;
         self.first = first;
         self.last = last;
         let count = read_into(&mut self.bytes, self.last, reader)?;
         self.last += count;
         Ok(count)
-    }
-}
-
-/// The memory for reading a connection, allocated before the first read.
-#[derive(Drop)]
-pub struct ReadBuffers {
-    /// The bytes that were read and not yet processed.
-    pub bytes: Buffer,
-    /// Room for the fields of a head.
-    pub headers: Vec<HeaderSpan>,
-}
-
-impl ReadBuffers {
-    /// An empty buffer with its full capacity, and room for the fields of every head within the
-    /// size limit.
-    ///
-    /// # Errors
-    ///
-    /// `OutOfMemory` if an allocation fails.
-    pub fn new(alloc: Global) -> Result<ReadBuffers, OutOfMemory>
-        ensures { IfOk result (λ buffers. buffers.bytes ≡ []) }
-    {
-        Ok(ReadBuffers {
-            bytes: Buffer::new(alloc)?,
-            headers: vec![in alloc; EMPTY_HEADER_SPAN; MAX_HEAD]?,
-        })
     }
 }

@@ -5,10 +5,15 @@
 
 mod answering;
 mod buffer;
+mod conversation;
+mod outbox;
 mod serving;
+mod workspace;
 mod writing;
 
+pub use conversation::{Conversation, Step};
 pub use reg_messages::bytes_of;
 pub use reg_routes::{Routes, command_of};
 pub use serving::{Ended, serve};
+pub use workspace::Workspace;
 pub use writing::write_whole;

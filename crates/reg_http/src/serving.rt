@@ -1,19 +1,13 @@
 //! A connection, from its first byte to its end.
 
-ghost use Rattle.std.specs.Prelude.{◌≡◌, ◌<◌, ◌+◌, [], length};
-ghost use Rattle.sqlite.specs.State.{HasCleanDisk};
-ghost use Rattle.reg_service.specs.Crashes.{ServesDurably};
-ghost use Rattle.reg_service.specs.Services.{state_in};
-ghost use Rattle.reg_messages.specs.Framing.{max_body};
-ghost use Rattle.reg_messages.specs.Messages.{max_head};
-ghost use Rattle.reg_http.specs.Transitions.{StoredTransition};
+ghost use Rattle.std.specs.Prelude.{◌≡◌, []};
+ghost use Rattle.reg_service.specs.Processing.{ProcessesEach, ServesEach};
 ghost use Rattle.reg_http.specs.Sessions.{Session};
-ghost use Rattle.reg_http.specs.Inside.Readings.{ReadsAs, end_of};
-ghost use Rattle.reg_http.specs.Inside.SessionSteps.{AnswersAs, IsIncompleteUntil, IsIncompleteIfWaiting};
+ghost use Rattle.reg_http.specs.Conversations.{IsSoFar, step_of};
+ghost use Rattle.reg_http.specs.Inside.Readings.{ReadsAs, WritesAs};
 
-use crate::answering::{Stop, answer_buffered};
-use crate::buffer::{Buffer, ReadBuffers};
-use reg_routes::Routes;
+use crate::conversation::{Conversation, Step};
+use crate::workspace::Workspace;
 use reg_service::Service;
 use sqlite::Alter;
 use std::alloc::Global;
@@ -44,12 +38,12 @@ enum ReadOutcome {
     Failed,
 }
 
-/// Reads once, and appends the bytes to the buffer.
-fn read_more<R: Read>(buffer: &mut Buffer, reader: &mut R) -> ReadOutcome
-    requires { length buffer.old < max_head + max_body }
-    ensures { ReadsAs (R.remaining reader.old) (R.remaining reader.new) buffer.old buffer.new result }
+/// Reads once.
+fn read_more<R: Read>(conversation: &mut Conversation, reader: &mut R) -> ReadOutcome
+    requires { step_of conversation.old ≡ Step.Receive }
+    ensures { ReadsAs (R.remaining reader.old) (R.remaining reader.new) conversation.old conversation.new result }
 {
-    match buffer.fill(reader) {
+    match conversation.receive(reader) {
         Ok(0) => ReadOutcome::End,
         Ok(_) => ReadOutcome::Bytes,
         Err(error) if error.kind() == ErrorKind::Interrupted => ReadOutcome::Bytes,
@@ -57,72 +51,49 @@ fn read_more<R: Read>(buffer: &mut Buffer, reader: &mut R) -> ReadOutcome
     }
 }
 
-/// How a connection ends at the end of its input, by the bytes that are left in the buffer.
-fn end_of(held: &[u8]) -> Ended
-    ensures { result ≡ end_of held.now }
+/// Writes once. Returns whether more can be written.
+fn write_more<W: Write>(conversation: &mut Conversation, writer: &mut W) -> bool
+    requires { step_of conversation.old ≡ Step.Send }
+    ensures { WritesAs (W.contents writer.old) (W.contents writer.new) conversation.old conversation.new result }
 {
-    if held.is_empty() {
-        Ended::Closed
-    } else {
-        Ended::Malformed
+    match conversation.send(writer) {
+        Ok(0) => false,
+        Ok(_) => true,
+        Err(error) if error.kind() == ErrorKind::Interrupted => true,
+        Err(_) => false,
     }
 }
 
-/// Processes the messages in the buffer if it has at least `needs` bytes. With fewer bytes there is
-/// no whole message: it does nothing and returns `Waiting(needs)`.
-fn answer_more<W: Write, S: Alter>(
-    alloc: Global,
-    routes: &Routes,
-    buffers: &mut ReadBuffers,
-    needs: usize,
-    writer: &mut W,
-    service: &mut Service<S>,
-) -> Stop
-    requires { length buffers.old.bytes < needs → IsIncompleteUntil buffers.old.bytes needs }
-    ensures clean { HasCleanDisk (state_in service.new) → HasCleanDisk (state_in service.old) }
-    ensures responses { HasCleanDisk (state_in service.new) → StoredTransition (state_in service.old) (state_in service.new)
-        (λ was now. AnswersAs (ServesDurably service.old service.new was now)
-        (W.contents writer.old) (W.contents writer.new) buffers.old.bytes buffers.new.bytes result) }
-    ensures waits { IsIncompleteIfWaiting buffers.new.bytes result }
-{
-    if buffers.bytes.held().len() < needs {
-        return Stop::Waiting(needs);
-    }
-    answer_buffered(alloc, routes, buffers, writer, service)
-}
-
-/// Reads messages and writes responses until the connection ends. While it reads, the buffer has
-/// less than one whole message.
+/// Takes the steps of a session until it ends.
 fn serve_with<R: Read, W: Write, S: Alter>(
     alloc: Global,
-    routes: &Routes,
-    mut buffers: ReadBuffers,
+    mut workspace: Workspace,
+    mut conversation: Conversation,
     reader: &mut R,
     writer: &mut W,
     service: &mut Service<S>,
 ) -> Ended
-    requires { buffers.bytes ≡ [] }
-    ensures clean { HasCleanDisk (state_in service.new) → HasCleanDisk (state_in service.old) }
-    ensures session { HasCleanDisk (state_in service.new) → StoredTransition (state_in service.old) (state_in service.new)
-        (λ was now. Session (ServesDurably service.old service.new was now)
-        (R.remaining reader.old) (R.remaining reader.new) (W.contents writer.old) (W.contents writer.new) result) }
+    requires { IsSoFar [] [] [] conversation }
+    ensures { Session (ProcessesEach service.old service.new)
+        (R.remaining reader.old) (R.remaining reader.new) (W.contents writer.old) (W.contents writer.new) result }
 {
-    let mut needs = 1;
     for _ in 0..u64::MAX {
-        match read_more(&mut buffers.bytes, reader) {
-            ReadOutcome::Bytes => {}
-            ReadOutcome::End => return end_of(buffers.bytes.held()),
-            ReadOutcome::Failed => return Ended::ReadFailed,
-        }
-        match answer_more(alloc, routes, &mut buffers, needs, writer, service) {
-            Stop::Waiting(more) => needs = more,
-            Stop::AtClose => return Ended::Closed,
-            Stop::AtFault => return Ended::Malformed,
-            Stop::NotWritten => return Ended::WriteFailed,
-            Stop::OutOfMemory => return Ended::Memory,
+        match conversation.next_step() {
+            Step::Receive => match read_more(&mut conversation, reader) {
+                ReadOutcome::Bytes => {}
+                ReadOutcome::End => return conversation.end_of_input(),
+                ReadOutcome::Failed => return Ended::ReadFailed,
+            },
+            Step::Answer => conversation.answer(alloc, &mut workspace, service),
+            Step::Send => {
+                if !write_more(&mut conversation, writer) {
+                    return Ended::WriteFailed;
+                }
+            }
+            Step::End(ended) => return ended,
         }
     }
-    Ended::ReadFailed
+    Ended::Memory
 }
 
 /// Serves a connection: processes each message as soon as it is complete, in order, and writes its
@@ -134,16 +105,14 @@ pub fn serve<R: Read, W: Write, S: Alter>(
     writer: &mut W,
     service: &mut Service<S>,
 ) -> Ended
-    ensures clean { HasCleanDisk (state_in service.new) → HasCleanDisk (state_in service.old) }
-    ensures session { HasCleanDisk (state_in service.new) → StoredTransition (state_in service.old) (state_in service.new)
-        (λ was now. Session (ServesDurably service.old service.new was now)
-        (R.remaining reader.old) (R.remaining reader.new) (W.contents writer.old) (W.contents writer.new) result) }
+    ensures session { Session (ServesEach service.old service.new)
+        (R.remaining reader.old) (R.remaining reader.new) (W.contents writer.old) (W.contents writer.new) result }
 {
-    let Ok(routes) = Routes::new(alloc) else {
+    let Ok(workspace) = Workspace::new(alloc) else {
         return Ended::Memory;
     };
-    let Ok(buffers) = ReadBuffers::new(alloc) else {
+    let Ok(conversation) = Conversation::with_all_room(alloc) else {
         return Ended::Memory;
     };
-    serve_with(alloc, &routes, buffers, reader, writer, service)
+    serve_with(alloc, workspace, conversation, reader, writer, service)
 }

@@ -6,7 +6,7 @@ use Rattle.sqlite.specs.State.{State, HasCleanDisk}
 use Rattle.sqlite_trees.specs.declared.store.Store.{Ghosts}
 use Rattle.reg_core.specs.Stored.{Stored, new_stored}
 use Rattle.reg_http.specs.declared.serving.Ended.{Ended}
-use Rattle.reg_service.specs.Services.{state_in}
+use Rattle.reg_service.specs.declared.service.Service.{Service}
 use Rattle.reg_jobs.specs.declared.job.Opened.{Opened}
 use Rattle.reg_jobs.specs.declared.job.Opened.TheVariants.{Nothing, Texts, Failed, NoContents, OrphanedLog, Fresh, Database}
 use Rattle.reg_store.specs.declared.error.StoreError.{StoreError}
@@ -23,14 +23,9 @@ use Rattle.reg_jobs.specs.declared.auditing.AuditOutcome.{AuditOutcome}
 use Rattle.reg_jobs.specs.Auditing.{AuditsAs}
 use Rattle.reg_jobs.specs.Listings.{IfUnread, ListsAs, listing_of}
 use Rattle.reg_jobs.specs.Databases.{RunsOnStore}
-use Rattle.reg_jobs.specs.Jobs.{AuditsOver, SessionStartsFrom, OpensRegistry, ListsOver, OpenedDatabaseSatisfies, RunsOver}
+use Rattle.reg_jobs.specs.Jobs.{AuditsOver, SessionStartsFrom, OpensRegistry, ListsOver, OpenedDatabaseSatisfies, BeginsOver, RunsOver}
 
--- the stored state when a session over the registry of what was opened begins
-record BeginsOver {S : Type 0} (g : Ghosts S) (opened : Opened S) (begun : State) : Type 0 where
-  was : Stored
-  begins : SessionStartsFrom g opened was
-  is_open : IsOpenOver begun was
-
+-- the stored state over which a service begins
 begins_over : {S : Type 0} (g : Ghosts S) (opened : Opened S) (begun : State) → OpensRegistry g opened begun → BeginsOver g opened begun
 begins_over g Nothing begun has = absurd has
 begins_over g (Texts texts) begun has = absurd has
@@ -40,18 +35,17 @@ begins_over g OrphanedLog begun has = absurd has
 begins_over g (Fresh old) begun has = record { was = new_stored; begins = (has.empty, refl); is_open = has.spells }
 begins_over g (Database old) begun has = record { was = has.stored; begins = has.spelled; is_open = has.spells }
 
--- a session over the registry of what was opened
-pub RunsOver-has : {S : Type 0} (g : Ghosts S) (opened : Opened S) (store : Store S g) (back : Held S) (reader reader' writer writer' : Option (List ℕ)) (ended : Ended)
-    → (HasCleanDisk (state g back) → OpensRegistry g opened (state_of store)) → RunsOnStore store back reader reader' writer writer' ended → RunsOver g opened (Some back) reader reader' writer writer' ended
-RunsOver-has {S} g opened store back reader reader' writer writer' ended has s = record {
+-- a service over the registry of what was opened
+pub RunsOver-has : {S : Type 0} (g : Ghosts S) (opened : Opened S) (store : Store S g) (back : Held S) (Served : Service S g → Service S g → Type 0)
+    → (HasCleanDisk (state g back) → OpensRegistry g opened (state_of store)) → RunsOnStore store back Served → RunsOver g opened (Some back) Served
+RunsOver-has {S} g opened store back Served has s = record {
   before = s.before;
   after = s.after;
   given = ap Some s.ends;
-  holds = λ clean.
+  begins = λ clean.
       let still : HasCleanDisk (state g back) = subst (λ (held : Held S). HasCleanDisk (state g held)) (sym s.ends) clean in
-      let b = begins_over g opened (state_of store) (has still) in
-      let over : IsOpenOver (state_in s.before) b.was = subst (λ (at : Store S g). IsOpenOver (state_of at) b.was) (sym s.begins) b.is_open in
-      record { was = b.was; begins = b.begins; is_open = over; leads = s.leads clean b.was (λ _. over) };
+      subst (λ (at : Store S g). BeginsOver g opened (state_of at)) (sym s.begins) (begins_over g opened (state_of store) (has still));
+  served = s.served;
 }
 
 -- an error whose cause is memory or the disk

@@ -1,6 +1,12 @@
 mod AuditLemmas
 mod JobLemmas
 mod LineLemmas
-mod ListeningLemmas
+mod SessionEnds
+mod ConnectionLemmas
+mod HistoryLemmas
+mod AdvanceLemmas
+mod ReportLemmas
+mod RunLemmas
+mod StartLemmas
 mod ListingLemmas
 mod NameLemmas

@@ -1,5 +1,5 @@
 -- The registry of a database, or why it has none.
-use Rattle.std.specs.Prelude.{◌≡◌, ◌≢◌, ◌⊎◌, ℕ, List, Option, Some, IsTrue}
+use Rattle.std.specs.Prelude.{◌≡◌, ◌≢◌, ◌⊎◌, Option, Some, IsTrue}
 use Rattle.sqlite.specs.Held.{Held, state}
 use Rattle.sqlite.specs.State.{State, HasCleanDisk}
 use Rattle.sqlite.specs.Tree.{Trees}
@@ -15,11 +15,7 @@ use Rattle.reg_store.specs.Stores.{KeepsConnection, connection_of}
 use Rattle.reg_store.specs.OpenFailures.{IsOpenFailure}
 use Rattle.reg_store.specs.declared.store.Store.{Store}
 use Rattle.reg_service.specs.declared.service.Service.{Service}
-use Rattle.reg_service.specs.Crashes.{ServesDurably}
-use Rattle.reg_service.specs.Services.{state_in, store_in}
-use Rattle.reg_http.specs.declared.serving.Ended.{Ended}
-use Rattle.reg_http.specs.Transitions.{StoredTransition}
-use Rattle.reg_http.specs.Sessions.{Session}
+use Rattle.reg_service.specs.Services.{store_in}
 
 -- a connection is returned, and if its disk is clean, P is true of its state
 pub record ReturnsConnection {S : Type 0} (g : Ghosts S) (returned : Option (Held S)) (P : State → Type 0) : Type 0 where
@@ -27,15 +23,13 @@ pub record ReturnsConnection {S : Type 0} (g : Ghosts S) (returned : Option (Hel
   pub given : returned ≡ Some connection
   pub holds : HasCleanDisk (state g connection) → P (state g connection)
 
--- A service over the store served a session, and then returned its connection. Let the disk be clean then. From each stored state that the tables
--- spelled, the session led to one that they spell, each while the connection is open (`StoredTransition`). `Session` says what was read and written,
--- `ServesDurably` what was stored.
-pub record RunsOnStore {S : Type 0} {g : Ghosts S} (store : Store S g) (returned : Held S) (reader reader' writer writer' : Option (List ℕ)) (ended : Ended) : Type 0 where
+-- A service over the store served, and then returned its connection. `Served` is true of the service before and after.
+pub record RunsOnStore {S : Type 0} {g : Ghosts S} (store : Store S g) (returned : Held S) (Served : Service S g → Service S g → Type 0) : Type 0 where
   pub before : Service S g
   pub after : Service S g
   pub begins : store_in before ≡ store
   pub ends : returned ≡ connection_of (store_in after)
-  pub leads : HasCleanDisk (state_in after) → StoredTransition (state_in before) (state_in after) (λ was now. Session (ServesDurably before after was now) reader reader' writer writer' ended)
+  pub served : Served before after
 
 -- the database was empty, and its tables now spell a new registry, without kept replies or evidence
 pub record IsCreatedIn (old new : State) : Type 0 where

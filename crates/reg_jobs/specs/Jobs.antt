@@ -12,11 +12,10 @@ use Rattle.reg_store.specs.Failures.{is_fault}
 use Rattle.reg_store.specs.Opening.{OpensOver}
 use Rattle.reg_store.specs.Spells.{IsOpenOver, SpellsUnopened, SpellsWhileOpen}
 use Rattle.reg_service.specs.declared.service.Service.{Service}
-use Rattle.reg_service.specs.Crashes.{ServesDurably}
+use Rattle.reg_service.specs.Processing.{ServesEach}
 use Rattle.reg_service.specs.Deliveries.{Serves, served}
 use Rattle.reg_service.specs.Services.{state_in, store_in}
 use Rattle.reg_store.specs.Stores.{connection_of}
-use Rattle.reg_http.specs.Transitions.{StoredSatisfies}
 use Rattle.reg_http.specs.declared.serving.Ended.{Ended}
 use Rattle.reg_jobs.specs.declared.files.TextOutcome.{TextOutcome}
 use Rattle.reg_jobs.specs.declared.files.CheckOutcome.{CheckOutcome}
@@ -33,6 +32,7 @@ use Rattle.reg_jobs.specs.Auditing.{AuditsAs}
 use Rattle.reg_jobs.specs.declared.auditing.AuditOutcome.{AuditOutcome}
 use Rattle.reg_jobs.specs.Databases.{ReturnsConnection, IsCreatedIn, CreatesNone, OpensNone}
 use Rattle.reg_jobs.specs.Files.{PrintsTextAs, ChecksAs}
+use Rattle.reg_jobs.specs.Listening.{ServesConnections}
 use Rattle.reg_jobs.specs.Listings.{IfUnread, ListsAs, listing_of}
 use Rattle.reg_jobs.specs.Migration.{MigratesAs}
 use Rattle.reg_jobs.specs.declared.listings.ListOutcome.{ListOutcome}
@@ -127,20 +127,20 @@ SessionStartsFrom g OrphanedLog was = ⊥
 SessionStartsFrom g (Fresh old) was = ¬ ((state g old).now.schema ≢ empty_schema) × (was ≡ new_stored)
 SessionStartsFrom g (Database old) was = SpellsUnopened (state g old).now was
 
--- A session of a service over what was opened; the connection was open at its start. It led from that stored state to one that the tables spell
--- while the connection is open. A crash preserves what was acknowledged, with or without one delivery in progress.
-pub record SessionFrom {S : Type 0} (g : Ghosts S) (opened : Opened S) (before after : Service S g) (reader reader' writer writer' : Option (List ℕ)) (ended : Ended) : Type 0 where
+-- A service begins over what was opened: its connection is open over this stored state.
+pub record BeginsOver {S : Type 0} (g : Ghosts S) (opened : Opened S) (begun : State) : Type 0 where
   pub was : Stored
   pub begins : SessionStartsFrom g opened was
-  pub is_open : IsOpenOver (state_in before) was
-  pub leads : StoredSatisfies (state_in after) (λ now. Session (ServesDurably before after was now) reader reader' writer writer' ended)
+  pub is_open : IsOpenOver begun was
 
--- A session over the database that was opened, whose connection is returned. If its disk is clean, `SessionFrom` is true of the session.
-pub record RunsOver {S : Type 0} (g : Ghosts S) (opened : Opened S) (returned : Option (Held S)) (reader reader' writer writer' : Option (List ℕ)) (ended : Ended) : Type 0 where
+-- A service over the database that was opened, whose connection is returned. `Served` is true of the service before and after. If the disk is clean
+-- at the end, the service began over what was opened.
+pub record RunsOver {S : Type 0} (g : Ghosts S) (opened : Opened S) (returned : Option (Held S)) (Served : Service S g → Service S g → Type 0) : Type 0 where
   pub before : Service S g
   pub after : Service S g
   pub given : returned ≡ Some (connection_of (store_in after))
-  pub holds : HasCleanDisk (state_in after) → SessionFrom g opened before after reader reader' writer writer' ended
+  pub begins : HasCleanDisk (state_in after) → BeginsOver g opened (state_in before)
+  pub served : Served before after
 
 -- no registry was opened, and nothing was read or written
 pub record RunsWithoutRegistry {S : Type 0} (g : Ghosts S) (opened : Opened S) (returned : Option (Held S)) (reader reader' writer writer' : Option (List ℕ)) (error : StoreError) : Type 0 where
@@ -150,7 +150,7 @@ pub record RunsWithoutRegistry {S : Type 0} (g : Ghosts S) (opened : Opened S) (
 
 -- the outcome of a session over what was opened
 abbrev pub RunsOn : {S : Type 0} (g : Ghosts S) → Opened S → Option (Held S) → Option (List ℕ) → Option (List ℕ) → Option (List ℕ) → Option (List ℕ) → Outcome → Type 0
-RunsOn g opened returned reader reader' writer writer' (SessionEnded ended) = RunsOver g opened returned reader reader' writer writer' ended
+RunsOn g opened returned reader reader' writer writer' (SessionEnded ended) = RunsOver g opened returned (λ before after. Session (ServesEach before after) reader reader' writer writer' ended)
 RunsOn g opened returned reader reader' writer writer' (Unopened error) = RunsWithoutRegistry g opened returned reader reader' writer writer' error
 RunsOn g opened returned reader reader' writer writer' (NotListening port) = ⊥
 RunsOn g opened returned reader reader' writer writer' (TextEnded printed) = ⊥
@@ -163,6 +163,20 @@ RunsOn g opened returned reader reader' writer writer' (AuditEnded audited) = �
 abbrev pub RunsJob : {S : Type 0} (g : Ghosts S) → Opened S → Bool → Option (Held S) → Option (List ℕ) → Option (List ℕ) → Option (List ℕ) → Option (List ℕ) → Outcome → Type 0
 RunsJob g opened false returned reader reader' writer writer' outcome = (returned ≡ connection_in opened) × RunsInMemory reader reader' writer writer' outcome
 RunsJob g opened true returned reader reader' writer writer' outcome = RunsOn g opened returned reader reader' writer writer' outcome
+
+-- The outcome of serving a network over what was opened. `Unopened`: no registry was opened or created, and the network is unchanged. A session's end:
+-- `ServesConnections` is true of the network and the service.
+abbrev pub ServesOn : {S I O N : Type 0} (g : Ghosts S) → (I → Option (List ℕ)) → (O → Option (List ℕ)) → (N → Option (List (I × O))) → (N → Option (List (I × O))) → ℕ
+    → Opened S → Option (Held S) → N → N → Outcome → Type 0
+ServesOn g remaining contents accepted closed most opened returned network network' (SessionEnded ended) =
+    RunsOver g opened returned (ServesConnections remaining contents most (accepted network) (accepted network') (closed network) (closed network'))
+ServesOn g remaining contents accepted closed most opened returned network network' (Unopened error) = (network' ≡ network) × OpensNoRegistry g opened returned error
+ServesOn g remaining contents accepted closed most opened returned network network' (NotListening port) = ⊥
+ServesOn g remaining contents accepted closed most opened returned network network' (TextEnded printed) = ⊥
+ServesOn g remaining contents accepted closed most opened returned network network' (CheckEnded checked) = ⊥
+ServesOn g remaining contents accepted closed most opened returned network network' (ListEnded listed) = ⊥
+ServesOn g remaining contents accepted closed most opened returned network network' (MigrateEnded migrated) = ⊥
+ServesOn g remaining contents accepted closed most opened returned network network' (AuditEnded audited) = ⊥
 
 -- What was opened is a `Database`, and P is true of the state in which it was opened. It may have no registry. False of anything else, also of `Fresh`.
 abbrev pub OpenedDatabaseSatisfies : {S : Type 0} (g : Ghosts S) → Opened S → (State → Type 0) → Type 0

@@ -9,3 +9,5 @@ pub mod Listening
 pub mod Listings
 pub mod Migration
 pub mod Opening
+pub mod Networks
+pub mod Connections

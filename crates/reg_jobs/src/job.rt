@@ -4,13 +4,15 @@ ghost use Rattle.std.specs.Prelude.{◌≡◌, IfOk, IfErr, false, option_map};
 ghost use Rattle.sqlite.specs.State.{HasCleanDisk};
 ghost use Rattle.reg_store.specs.Opening.{OpensOver};
 ghost use Rattle.reg_store.specs.Stores.{has_failed, state_of};
-ghost use Rattle.reg_jobs.specs.Jobs.{AuditsOn, DoesJob, OpensNoExistingRegistry, OpensRegistry, OpensNoRegistry, ListsOn, OpenedDatabaseSatisfies, RunsInMemory, RunsJob, RunsOn, MigratesOn, file_of, writer_schema_file_of};
+ghost use Rattle.reg_jobs.specs.Listening.{ReportsAcceptFailures};
+ghost use Rattle.reg_jobs.specs.Jobs.{AuditsOn, DoesJob, OpensNoExistingRegistry, OpensRegistry, OpensNoRegistry, ListsOn, OpenedDatabaseSatisfies, RunsInMemory, RunsJob, RunsOn, ServesOn, MigratesOn, file_of, writer_schema_file_of};
 
 use crate::auditing::audit_store;
-use crate::database::{create_in, open_in, run_on_store};
+use crate::database::{create_in, open_in, run_on_store, serve_on_store};
 use crate::errors::ErrorWriter;
 use crate::files::{check, print_text};
 use crate::line::report_result;
+use crate::listening::{Network, Output};
 use crate::listings::{list_store, listing_of};
 use crate::migration::migrate_in;
 use crate::outcome::{Outcome, result_of};
@@ -21,6 +23,7 @@ use reg_store::{Store, StoreError};
 use sqlite::{Alter, Connection};
 use std::alloc::Global;
 use std::io::{Read, Write};
+use std::time::Clock;
 
 /// What was opened for a job.
 #[derive(Drop)]
@@ -100,7 +103,7 @@ impl<S: Alter> Opened<S> {
 }
 
 /// Runs a session over a new registry in memory. If the registry can't be created, the outcome is
-/// `Session(Memory)`, and nothing was read.
+/// `Session(Memory)`.
 fn run_in_memory<R: Read, W: Write>(alloc: Global, reader: &mut R, writer: &mut W) -> Outcome
     ensures { RunsInMemory (R.remaining reader.old) (R.remaining reader.new)
         (W.contents writer.old) (W.contents writer.new) result }
@@ -175,6 +178,44 @@ fn run_on<S: Alter + Drop, R: Read, W: Write>(
     match open_store(alloc, opened) {
         Ok(store) => {
             let (ended, connection) = run_on_store(alloc, store, reader, writer);
+            (Outcome::Session(ended), Some(connection))
+        }
+        Err((error, connection)) => (Outcome::Unopened(error), connection),
+    }
+}
+
+/// Serves this number of connections of a network over what was opened, and returns the connection
+/// to the database. The outcome is `Session(Closed)`, `Session(Memory)` if memory for reading was
+/// missing at the start, or `Unopened` if there is no registry. Then nothing was accepted. If no
+/// connection can be accepted, it reports that on `errors`.
+pub fn serve_opened<
+    I: Read + Drop,
+    O: Output + Drop,
+    N: Network<I, O>,
+    C: Clock,
+    S: Alter + Drop,
+    E: Write + Drop,
+>(
+    alloc: Global,
+    clock: &C,
+    network: &mut N,
+    connections: u32,
+    opened: Opened<S>,
+    errors: &mut ErrorWriter<E>,
+) -> (Outcome, Option<Connection<S>>)
+    ensures serves { ServesOn S.Store I.remaining O.contents N.accepted N.closed connections opened result.1 network.old network.new result.0 }
+    ensures reports { ReportsAcceptFailures E.contents connections errors.old errors.new }
+{
+    match open_store(alloc, opened) {
+        Ok(store) => {
+            let (ended, connection) = serve_on_store(
+                alloc,
+                clock,
+                network,
+                connections,
+                store,
+                errors,
+            );
             (Outcome::Session(ended), Some(connection))
         }
         Err((error, connection)) => (Outcome::Unopened(error), connection),

@@ -55,9 +55,11 @@ KeepsCrashStates old new Disk = Unit {0}
 KeepsCrashStates old new Memory = AddsNoCrashState old new ⊎ MoreFaults old.faults new.faults
 KeepsCrashStates old new _ = AddsNoCrashState old new
 
--- What `migrate` keeps of the connection, for every result. On a clean disk, nothing has changed after an error. If the connection was open too,
--- a crash after an error leaves what `KeepsCrashStates` allows, and only a disk fault closes the connection.
-pub record KeepsConnection {T : Type 0} (old new : State) (result : Result T MigrateError) : Type 0 where
+-- What `migrate` keeps of the connection, for every result. The tests of what the disk returns stay in place (`IsShielded`). On a clean disk,
+-- nothing has changed after an error. If the connection was open too, a crash after an error leaves what `KeepsCrashStates` allows, and only a disk
+-- fault closes the connection.
+pub record MigrationKeeps {T : Type 0} (old new : State) (result : Result T MigrateError) : Type 0 where
+  pub shield : old.IsShielded → new.IsShielded
   pub nothing : HasCleanDisk new → OnErr result (OnlyReads old new)
   pub before : HasCleanDisk new → IfErr result (λ e. IsTrue old.is_open → KeepsCrashStates old new e)
   pub closes : HasCleanDisk new → IsTrue old.is_open → IsTrue new.is_open ⊎ MoreFaults old.faults new.faults

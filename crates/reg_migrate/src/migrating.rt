@@ -5,7 +5,7 @@ ghost use Rattle.sqlite.specs.Tree.{Trees};
 ghost use Rattle.sqlite.specs.Held.{state};
 ghost use Rattle.sqlite.specs.State.{HasCleanDisk, Survives};
 ghost use Rattle.reg_tables.specs.Reads.{OnlyReads};
-ghost use Rattle.reg_migrate.specs.Errors.{KeepsCrashStates, KeepsConnection, is_fault};
+ghost use Rattle.reg_migrate.specs.Errors.{KeepsCrashStates, MigrationKeeps, is_fault};
 ghost use Rattle.reg_migrate.specs.Inside.{HasLayoutOneIfOpen, IsMigratedOver, TreesHoldMigrated};
 ghost use Rattle.reg_migrate.specs.Migrations.{IsReasonOver, RecoversToMigrated, CrashKeepsStored, Migrates};
 
@@ -60,9 +60,10 @@ fn migrate_connection<S: Alter>(
 ///
 /// # Errors
 ///
-/// If the database has no view and `meta` names a layout above 1: `AlreadyNew` for layout 2,
-/// `NewerLayout` for a greater one, with any contents of other tables. Otherwise
-/// `NotARegistry`, if the tables spell no registry in layout 1 or the database has a view.
+/// If the database begins with the five tables of layout 1, has no view, and `meta` names a layout
+/// above 1: `AlreadyNew` for layout 2, `NewerLayout` for a greater one, with any contents of other
+/// tables. If it begins otherwise, that error or `NotARegistry`. Otherwise `NotARegistry`, if the
+/// tables spell no registry in layout 1 or the database has a view.
 /// `Memory` if an allocation fails. `Disk` if the disk fails, the file is damaged or reaches a limit,
 /// or the connection is closed.
 ///
@@ -79,7 +80,7 @@ pub fn migrate<S: Alter>(
         → IfErr result.0 (IsReasonOver (state S.Store connection) (state S.Store result.1)) }
     ensures idle { result.1.in_transaction ≡ false }
     ensures unlimited { result.1.step_limit ≡ None }
-    ensures leaves { KeepsConnection (state S.Store connection) (state S.Store result.1) result.0 }
+    ensures leaves { MigrationKeeps (state S.Store connection) (state S.Store result.1) result.0 }
 
     // After `Ok`, a crash leaves layout 2. After an error it leaves layout 2 or what it could leave
     // before; if layout 1 spelled no registry, only the latter. If the connection was open, a crash

@@ -25,6 +25,7 @@ pub record Keeps {S : Type 0} {g : Ghosts S} (old new : Store S g) : Type 0 wher
 opens_then : (a b c : State) → (HasCleanDisk c → HasCleanDisk b) → KeepsOpen a b → KeepsOpen b c → KeepsOpen a c
 opens_then a b c clean_before p q = record {
   counts = omega (arith, p.counts, q.counts);
+  shield = λ h. q.shield (p.shield h);
   stays_closed = λ clean is_open. p.stays_closed (clean_before clean) (q.stays_closed clean is_open);
   closes = λ clean is_open. elim (p.closes (clean_before clean) is_open) [
     | inl still ↦ elim (q.closes clean still) [ inl after ↦ inl after | inr more ↦ inr (omega (arith, p.counts, more)) ]
@@ -38,7 +39,7 @@ module _ {S : Type 0} {g : Ghosts S} where
   keeps_still settles s = record {
     failed = refl;
     clean = λ clean. clean;
-    connection = record { counts = omega arith; stays_closed = λ _ is_open. is_open; closes = λ _ is_open. inl is_open };
+    connection = record { counts = omega arith; shield = λ h. h; stays_closed = λ _ is_open. is_open; closes = λ _ is_open. inl is_open };
     settled = λ is_open db it. settles s.db.idle.conn.store db is_open it;
     same = λ _ was over. over;
     crash = λ _ db it. it;

@@ -12,7 +12,7 @@ use Rattle.reg_core.specs.Machine.{is_write, step}
 use Rattle.reg_core.specs.Replies.{ReplyView, fault}
 use Rattle.reg_core.specs.KeptReplies.{Kept, KeptEntry, kept_with, entry_with}
 use Rattle.reg_core.specs.Stored.{Stored, HasTrueEvidence}
-use Rattle.reg_store.specs.Spells.{RecoversTo, IsOpenOver, SpellsWhileOpen}
+use Rattle.reg_store.specs.Spells.{RecoversTo, SpellsWhileOpen}
 use Rattle.reg_store.specs.Stores.{StillSpells}
 use Rattle.reg_store.proofs.Committing.{leaves_if_open}
 use Rattle.reg_service.specs.Deliveries.{Exchange, key_of, is_first, kept_after, served, LeadsTo}

@@ -8,6 +8,7 @@ pub mod CrashLemmas
 pub mod OpenConnections
 pub mod RecoveredLists
 pub mod Chains
+pub mod DurableLists
 pub mod Examples
 pub mod AdmissionLemmas
 pub mod RestartLemmas

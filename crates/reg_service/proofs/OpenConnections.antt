@@ -1,5 +1,5 @@
 -- The connection after calls, and what calls of a service preserve, one after another.
-use Rattle.std.proofs.Common.{◌≡◌, inl, inr, sym, subst, Result, Ok, Err, IsTrue, ℕ, ◌+◌, ◌≤◌, ◌++◌, ◌∷◌, List, [], min, arith}
+use Rattle.std.proofs.Common.{◌≡◌, ◌∙◌, refl, inl, inr, sym, subst, Result, Ok, Err, IsTrue, ℕ, ◌+◌, ◌≤◌, ◌++◌, ◌∷◌, List, [], min, arith}
 use Rattle.std.specs.Prelude.{OnOk}
 use Rattle.std.proofs.lemmas.Bool.{cases_Bool, both_ways}
 use Rattle.std.proofs.lemmas.List.Elements.{All-push, All-same}
@@ -12,7 +12,7 @@ use Rattle.reg_store.specs.declared.store.Store.{Store}
 use Rattle.reg_core.specs.Stored.{Stored}
 use Rattle.reg_store.specs.Stores.{has_failed, state_of, KeepsOpen, KeepsStore, ReadsStore}
 use Rattle.reg_service.specs.declared.service.Service.{Service}
-use Rattle.reg_service.specs.Services.{store_in, state_in, PreservesStore, PreservesService, AreBackendFaults}
+use Rattle.reg_service.specs.Services.{state_in, PreservesStore, PreservesService, AreBackendFaults}
 
 -- a larger count stays larger
 still_more : (top a b c : ℕ) → min (a + 1) top ≤ b → b ≤ c → min (a + 1) top ≤ c
@@ -24,12 +24,13 @@ more_then top a b c before more = omega arith
 
 -- doing nothing closes and opens nothing
 pub keeps_open : (s : State) → KeepsOpen s s
-keeps_open s = record { counts = omega arith; stays_closed = λ _ is_open. is_open; closes = λ _ is_open. inl is_open }
+keeps_open s = record { counts = omega arith; shield = λ h. h; stays_closed = λ _ is_open. is_open; closes = λ _ is_open. inl is_open }
 
 -- two calls that each preserve this preserve it together
 pub keeps_then : (a b c : State) → (HasCleanDisk c → HasCleanDisk b) → KeepsOpen a b → KeepsOpen b c → KeepsOpen a c
 keeps_then a b c clean p q = record {
   counts = omega (arith, p.counts, q.counts);
+  shield = λ h. q.shield (p.shield h);
   stays_closed = λ h is_open. p.stays_closed (clean h) (q.stays_closed h is_open);
   closes = λ h was_open. elim (p.closes (clean h) was_open) [
     | inl is_open ↦ elim (q.closes h is_open) [ inl now ↦ inl now | inr more ↦ inr (more_then _ a.faults b.faults c.faults p.counts more) ]
@@ -41,7 +42,7 @@ module _ {S : Type 0} {g : Ghosts S} where
   -- a service that does nothing, and returns no reply of its own
   pub keeps_still : (s : Service S g) (OnlyFaultReplies : Type 0) → OnlyFaultReplies → PreservesService s s OnlyFaultReplies
   keeps_still s OnlyFaultReplies none = record {
-    failed = λ failed. (none, failed);
+    failed = λ failed. (none, refl);
     closed = λ _ _. (none, λ db it. it);
     clean = λ clean. clean;
     connection = keeps_open (state_in s);
@@ -54,7 +55,10 @@ module _ {S : Type 0} {g : Ghosts S} where
   -- one call after another
   pub keeps_both : {P Q R : Type 0} (old mid new : Service S g) → (P → Q → R) → PreservesService old mid P → PreservesService mid new Q → PreservesService old new R
   keeps_both old mid new none before one = record {
-    failed = λ failed. let was = before.failed failed in let is = one.failed was.1 in (none was.0 is.0, is.1);
+    failed = λ failed.
+        let was = before.failed failed in
+        let is = one.failed (subst (λ (s : Store S g). IsTrue (has_failed s)) (sym was.1) failed) in
+        (none was.0 is.0, is.1 ∙ was.1);
     closed = λ clean is_closed.
         let was = before.closed (one.clean clean) is_closed in
         let is = one.closed clean (λ is_open. is_closed (before.connection.stays_closed (one.clean clean) is_open)) in
@@ -88,7 +92,7 @@ goes_on keeps failed = let is = keeps.failed_now.1 failed in absurd (cc)
 module _ {S T : Type 0} {g : Ghosts S} {IsRightFor : Stored → T → Type 0} {OnlyFaultReplies : Type 0} {old new : Store S g} where
   pub keeps_reading : {r : Result T StoreError} → ReadsStore old new r IsRightFor → (OnOk r ⊥ → OnlyFaultReplies) → PreservesStore old new OnlyFaultReplies
   keeps_reading {r} reads none = record {
-    failed = λ failed. let was = reads.frame.failed_before failed in (none (subst (λ (q : Result T StoreError). OnOk q ⊥) (sym was.0) tt), subst (λ (s : Store S g). IsTrue (has_failed s)) (sym was.1) failed);
+    failed = λ failed. let was = reads.frame.failed_before failed in (none (subst (λ (q : Result T StoreError). OnOk q ⊥) (sym was.0) tt), was.1);
     closed = λ clean is_closed. (none (fails r (reads.frame.was_open clean) is_closed), (reads.tells clean).crash);
     clean = reads.frame.clean;
     connection = reads.frame.connection;

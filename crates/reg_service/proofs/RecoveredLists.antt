@@ -1,5 +1,5 @@
 -- What a crash leaves after a list of exchanges, one after another.
-use Rattle.std.proofs.Common.{◌≡◌, ◌⊎◌, inl, inr, ℕ, ◌+◌, ◌<◌, ◌∙◌, true, false, Bool, List, [], ◌∷◌, ◌++◌, length, take, zip, get_or, append_assoc, append-nil, IsTrue, refl, sym, ap, subst, arith}
+use Rattle.std.proofs.Common.{◌≡◌, ◌⊎◌, inl, inr, ℕ, ◌+◌, ◌<◌, ◌∙◌, true, false, List, [], ◌∷◌, ◌++◌, length, take, zip, get_or, append_assoc, append-nil, IsTrue, refl, sym, ap, subst, arith}
 use Rattle.std.proofs.lemmas.Bool.{cases_Bool, both_ways}
 use Rattle.std.proofs.lemmas.List.{take_more, length-take}
 use Rattle.sqlite.specs.Tree.{Trees}
@@ -17,7 +17,7 @@ use Rattle.reg_store.specs.Stores.{has_failed, AddsNoCrashState}
 use Rattle.reg_service.specs.declared.service.Service.{Service}
 use Rattle.reg_service.specs.Deliveries.{Exchange, is_first, reply_after, served, LeadsTo, Serves}
 use Rattle.reg_service.specs.Services.{store_in, state_in, FailsDuring, PreservesService, ServesOver, ServesTo, SplitAt}
-use Rattle.reg_service.specs.Crashes.{RecoversExchanges, RecoversSpelled, RecoversInFlight, RecoversAcknowledged, ServesDurably}
+use Rattle.reg_service.specs.Crashes.{RecoversExchanges, RecoversSpelled, RecoversAcknowledged, ServesDurably}
 use Rattle.reg_service.specs.Inside.Crashing.{RecoversOne}
 use Rattle.reg_service.proofs.CrashLemmas.{leaves_later, leaves_none}
 use Rattle.reg_service.proofs.ExchangeLists.{served-append, zip-push}

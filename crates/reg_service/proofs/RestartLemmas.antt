@@ -13,8 +13,9 @@ use Rattle.reg_store.specs.Spells.{IsOpenOver}
 use Rattle.reg_service.specs.declared.service.Service.{Service}
 use Rattle.reg_service.specs.Deliveries.{Exchange, key_of, is_first, is_new_key, kept_after, reply_after, served, IsDue, Answers, Serves}
 use Rattle.reg_service.specs.Services.{state_in}
-use Rattle.reg_service.specs.Crashes.{RecoversExchanges, RecoversAcknowledged, ServesDurably}
-use Rattle.reg_service.specs.Restarts.{IsInProgress, RestartsFrom}
+use Rattle.reg_service.specs.Crashes.{RecoversExchanges, RecoversAcknowledged, RecoversSpelled, ServesDurably}
+use Rattle.reg_service.specs.Restarts.{WasInProgress, RestartsFrom}
+use Rattle.reg_service.proofs.DurableLists.{durable_each}
 use Rattle.reg_service.proofs.DueReplies.{repeats_agree}
 use Rattle.reg_service.proofs.ExchangeLists.{served-append}
 use Rattle.reg_service.proofs.JoinedExchanges.{is_none-kept_after, split, serves-append}
@@ -57,47 +58,61 @@ answers_then was xs d reply p due before x after e = by (split xs ((d, reply) �
     by (inl u) = p before x u.0 u.1
     by (inr u) = last u.0 u.1 u.2
 
--- any exchanges after those that led to the state that a crash left continue them
-continued : (was : Stored) (xs between : List Exchange) (db : Trees) (had : RecoversExchanges was (served xs ++ between) db) → IsInProgress was (served xs) between → Answers was (served xs ++ between) → RestartsFrom was xs db
-continued was xs between db had in_progress answers = record {
-  left = had.now;
-  leaves = had.leaves;
-  continues = λ ys now next stays.
-      let P : List Exchange → Type 0 = λ zs. Serves was zs now in
-      let all = serves-append was had.now now (served xs ++ between) (served ys) (record { leads = had.leads; replies = answers }) next in
-      let serves = subst P (append_assoc (served xs) between (served ys)) all in
-      record {
-        between = between;
-        in_progress = in_progress;
-        serves = serves;
-        repeats = repeats_agree was (served xs ++ (between ++ served ys)) serves.replies;
-        stays_true = λ holds. stays (had.stays_true holds);
-      };
-}
+module _ {S : Type 0} {g : Ghosts S} (next last : Service S g) (spelled : RecoversSpelled (state_in next)) where
+  -- any exchanges after those that led to the state that a crash left continue them
+  continued : (was : Stored) (xs between : List Exchange) (db : Trees) (had : RecoversExchanges was (served xs ++ between) db)
+      → (between ≡ []) ⊎ ((one : Exchange) × (between ≡ one ∷ []) × WasInProgress was xs one) → Answers was (served xs ++ between) → RestartsFrom next last was xs db
+  continued was xs between db had in_progress answers = record {
+    left = had.now;
+    leaves = had.leaves;
+    continues = λ ys each clean over.
+        let it = durable_each next last ys spelled each clean had.now (λ _. over) in
+        let P : List Exchange → Type 0 = λ zs. Serves was zs it.stored in
+        let all = serves-append was had.now it.stored (served xs ++ between) (served ys) (record { leads = had.leads; replies = answers }) it.holds.serves in
+        let serves = subst P (append_assoc (served xs) between (served ys)) all in
+        record {
+          stored = it.stored;
+          spells = it.spells;
+          holds = record {
+            between = between;
+            in_progress = in_progress;
+            serves = serves;
+            repeats = repeats_agree was (served xs ++ (between ++ served ys)) serves.replies;
+            stays_true = λ holds. it.holds.stays_true (had.stays_true holds);
+          };
+        };
+  }
 
-module _ {S : Type 0} {g : Ghosts S} where
   -- each database that a crash may leave after exchanges has the acknowledged ones, and later exchanges continue them
   pub restarts : (old new : Service S g) (was now : Stored) (xs : List Exchange) → ServesDurably old new was now xs → IsOpenOver (state_in old) was
-      → (db : Trees) → (state_in new).may_leave db → RestartsFrom was xs db
+      → (db : Trees) → (state_in new).may_leave db → RestartsFrom next last was xs db
   restarts old new was now xs p over db it = by (p.crash over)
     where
-      acknowledged : RecoversExchanges was (served xs) db → RestartsFrom was xs db
+      acknowledged : RecoversExchanges was (served xs) db → RestartsFrom next last was xs db
       acknowledged left =
           let P : List Exchange → Type 0 = λ zs. RecoversExchanges was zs db in
           let Q : List Exchange → Type 0 = λ zs. Answers was zs in
           let same : served xs ≡ served xs ++ [] = sym (append-nil (served xs)) in
           continued was xs [] db (subst P same left) (inl refl) (subst Q same p.serves.replies)
 
-      with_one : (before : List Exchange) (d : Delivery) → served xs ≡ before → is_first was.replies before d ≡ true → RecoversExchanges was (before ++ (d, reply_after was before d.command) ∷ []) db → RestartsFrom was xs db
-      with_one before d same first left =
-          let F : List Exchange → Type 0 = λ zs. is_first was.replies zs d ≡ true in
-          let P : List Exchange → Type 0 = λ zs. RecoversExchanges was (zs ++ (d, reply_after was zs d.command) ∷ []) db in
-          let here = subst F (sym same) first in
-          let one = reply_after was (served xs) d.command in
-          continued was xs ((d, one) ∷ []) db (subst P (sym same) left) (inr (d, here, refl)) (answers_then was (served xs) d one p.serves.replies (due_in_progress was (served xs) d here))
+      with_one : (one : Exchange) (w : WasInProgress was xs one) → RecoversExchanges was (served w.before ++ (w.refused.0, reply_after was (served w.before) w.refused.0.command) ∷ []) db
+          → RestartsFrom next last was xs db
+      with_one one w left =
+          let d = w.refused.0 in
+          let reply = reply_after was (served w.before) d.command in
+          let same : served xs ≡ served w.before = ap served w.split ∙ served-append w.before (w.refused ∷ w.after) ∙ ap (λ zs. served w.before ++ zs) w.unserved ∙ append-nil (served w.before) in
+          let P : List Exchange → Type 0 = λ zs. RecoversExchanges was (zs ++ (d, reply) ∷ []) db in
+          let D : List Exchange → Type 0 = λ zs. IsDue was zs d reply in
+          let due : IsDue was (served xs) d reply = subst D (sym same) (due_in_progress was (served w.before) d w.first) in
+          continued was xs ((d, reply) ∷ []) db (subst P (sym same) left)
+          (inr ((d, reply), refl, record { before = w.before; refused = w.refused; after = w.after; split = w.split; unserved = w.unserved; first = w.first; is = refl }))
+          (answers_then was (served xs) d reply p.serves.replies due)
 
-      by : RecoversAcknowledged old new was xs → RestartsFrom was xs db
+      by : RecoversAcknowledged old new was xs → RestartsFrom next last was xs db
       by (inl leaves) = acknowledged (leaves db it)
       by (inr u) =
-          let same : served xs ≡ served u.at.before = ap served u.at.split ∙ served-append u.at.before (u.at.exchange ∷ u.at.after) ∙ ap (λ zs. served u.at.before ++ zs) u.at.unserved ∙ append-nil (served u.at.before) in
-          elim (u.leaves db it) [ inl left ↦ acknowledged left | inr left ↦ with_one (served u.at.before) u.at.exchange.0 same u.first left ]
+          let one : Exchange = (u.at.exchange.0, reply_after was (served u.at.before) u.at.exchange.0.command) in
+          elim (u.leaves db it) [
+            | inl left ↦ acknowledged left
+            | inr left ↦ with_one one (record { before = u.at.before; refused = u.at.exchange; after = u.at.after; split = u.at.split; unserved = u.at.unserved; first = u.first; is = refl }) left
+          ]

@@ -1,4 +1,4 @@
--- One delivery after another: the guarantees of `Service::answer` for one delivery, and a list as a chain of such steps.
+-- One delivery after another: the guarantees of `Service::answer` for one delivery, a list as a chain of such steps, and its guarantees as a whole.
 use Rattle.std.specs.Prelude.{◌≡◌, IsTrue, List, [], ◌∷◌}
 use Rattle.sqlite.specs.State.{HasCleanDisk}
 use Rattle.sqlite_trees.specs.declared.store.Store.{Ghosts}
@@ -11,12 +11,13 @@ use Rattle.reg_service.specs.declared.service.Service.{Service}
 use Rattle.reg_service.specs.Deliveries.{Exchange, served}
 use Rattle.reg_service.specs.Admissions.{AllAdmitted}
 use Rattle.reg_service.specs.Services.{store_in, state_in, ServesOver, PreservesService}
-use Rattle.reg_service.specs.Crashes.{RecoversAcknowledged, RecoversSpelled}
+use Rattle.reg_service.specs.Crashes.{RecoversAcknowledged, RecoversSpelled, ServesDurably}
+use Rattle.reg_service.specs.Transitions.{StoredTransition}
 
 -- This project's choice: the guarantees of one call of `Service::answer`. The call got the delivery `exchange.0`, took the service from `old` to
 -- `new`, and returned the reply `exchange.1`, which may be 50001.
 pub record Processes {S : Type 0} {g : Ghosts S} (old new : Service S g) (exchange : Exchange) : Type 0 where
-  -- If the store had failed, or on a clean disk the connection was closed, the reply is 50001. A failed store stays failed, and an unclean disk
+  -- If the store had failed, or on a clean disk the connection was closed, the reply is 50001. A failed store doesn't change, and an unclean disk
   -- stays unclean. On a clean disk, only a disk fault closes the connection.
   pub frame : PreservesService old new (exchange.1 ≡ fault BackendFault)
   -- if the store has failed now, the reply is 50001
@@ -37,3 +38,12 @@ pub record Processes {S : Type 0} {g : Ghosts S} (old new : Service S g) (exchan
 abbrev pub ProcessesEach : {S : Type 0} {g : Ghosts S} → Service S g → Service S g → List Exchange → Type 0
 ProcessesEach old new [] = new ≡ old
 ProcessesEach {S} {g} old new (x ∷ xs) = (mid : Service S g) × Processes old mid x × ProcessesEach mid new xs
+
+-- This project's choice: the service processed each delivery of a list, and the list is durable as a whole.
+pub record ServesEach {S : Type 0} {g : Ghosts S} (old new : Service S g) (xs : List Exchange) : Type 0 where
+  -- Each delivery was processed as by `Service::answer`. This is also true of a disk that is unclean at the end: the guarantees of `Processes` that
+  -- require a clean disk are true of each delivery up to the first one after which the disk is unclean. Once the store has failed, each later
+  -- reply is 50001.
+  pub each : ProcessesEach old new xs
+  -- if the disk is clean at the end
+  pub durably : HasCleanDisk (state_in new) → StoredTransition (state_in old) (state_in new) (λ was now. ServesDurably old new was now xs)

@@ -36,11 +36,11 @@ ServesOver old new xs = (was : Stored) → SpellsWhileOpen old was → ServesTo 
 abbrev pub AreBackendFaults : List ReplyView → Type 0
 AreBackendFaults replies = All (λ reply. reply ≡ fault BackendFault) replies
 
--- This project's choice: each call keeps a failed store failed and an unclean disk unclean. On a clean disk, a closed connection stays closed, and
--- only a disk fault closes one. The call may change the tables. `OnlyFaultReplies` says that every reply of the call is 50001.
+-- This project's choice: a call doesn't change a failed store, and keeps an unclean disk unclean. On a clean disk, a closed connection stays closed,
+-- and only a disk fault closes one. The call may change the tables of another store. `OnlyFaultReplies` says that every reply of the call is 50001.
 pub record PreservesStore {S : Type 0} {g : Ghosts S} (old new : Store S g) (OnlyFaultReplies : Type 0) : Type 0 where
-  -- if the store had failed, it still has, and every reply is 50001
-  pub failed : IsTrue (has_failed old) → OnlyFaultReplies × IsTrue (has_failed new)
+  -- if the store had failed, it is unchanged, and every reply is 50001
+  pub failed : IsTrue (has_failed old) → OnlyFaultReplies × (new ≡ old)
   -- on a clean disk, if the connection was closed, every reply is 50001, and a crash leaves only what it could leave before
   pub closed : HasCleanDisk (state_of new) → (IsTrue (state_of old).is_open → ⊥) → OnlyFaultReplies × AddsNoCrashState (state_of old) (state_of new)
   -- an unclean disk stays unclean

@@ -6,8 +6,10 @@
 mod delivery;
 mod error;
 mod kept;
+mod laws;
 mod schemas;
 mod service;
 
+pub use laws::lists_continue_after_crash;
 pub use reg_core::{Delivery, OutOfMemory};
 pub use service::Service;

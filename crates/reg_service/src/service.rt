@@ -9,7 +9,7 @@ ghost use Rattle.reg_store.specs.Stores.{has_failed, AddsNoCrashState, StillSpel
 ghost use Rattle.reg_service.specs.Deliveries.{served, RepeatsAgree, NoOtherAnswers};
 ghost use Rattle.reg_service.specs.Admissions.{AllAdmitted};
 ghost use Rattle.reg_service.specs.Crashes.{RecoversAcknowledged, RecoversSpelled, reply_or_fault};
-ghost use Rattle.reg_service.specs.Processing.{Processes, ProcessesEach};
+ghost use Rattle.reg_service.specs.Processing.{Processes, ServesEach};
 ghost use Rattle.reg_service.specs.Services.{store_in, state_in, ServesOver, AreBackendFaults, FailsDuring, PreservesService};
 ghost use Rattle.reg_service.specs.Inside.Crashing.{RecoversOne};
 ghost use Rattle.reg_service.specs.Inside.Steps.{IsDecisionOfStep, ExecutesCommand};
@@ -90,12 +90,13 @@ impl<S: Alter> Service<S> {
     pub fn run(&mut self, list: &[Delivery]) -> Result<Vec<Reply>, OutOfMemory>
         ensures count { IfOk result (λ replies. vec_len replies ≡ length list.now) }
 
-        // Each delivery is processed as by `answer`, in the state that the previous one left.
-        ensures each { IfOk result (λ replies. ProcessesEach self.old self.new (zip list.now replies.items)) }
+        // Each delivery is processed as by `answer`, in the state that the previous one left. On a
+        // clean disk, the list is durable as a whole.
+        ensures each { IfOk result (λ replies. ServesEach self.old self.new (zip list.now replies.items)) }
 
         // If the store had failed, every reply is 50001. The same is true on a clean disk if the
         // database connection was closed before the call; then a crash can leave nothing new. A
-        // failed store stays failed, an unclean disk stays unclean. On a clean disk, a closed
+        // failed store doesn't change, an unclean disk stays unclean. On a clean disk, a closed
         // connection stays closed, and only a disk fault closes one.
         ensures frame { PreservesService self.old self.new (IfOk result (λ replies. AreBackendFaults replies.items)) }
 

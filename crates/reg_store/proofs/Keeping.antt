@@ -25,7 +25,7 @@ module _ {S T : Type 0} {g : Ghosts S} (settles : Settles g) (old new : Store S 
         failed_now = (λ _. failed, λ _. refl);
         clean = λ clean. clean;
         was_open = λ _. tt;
-        connection = record { counts = omega arith; stays_closed = λ _ is_open. is_open; closes = λ _ is_open. inl is_open };
+        connection = record { counts = omega arith; shield = λ h. h; stays_closed = λ _ is_open. is_open; closes = λ _ is_open. inl is_open };
         settled = λ is_open db it. settles old.db.idle.conn.store db is_open it;
       }))
 
@@ -37,7 +37,7 @@ module _ {S T : Type 0} {g : Ghosts S} (settles : Settles g) (old new : Store S 
       failed_now = failed_now;
       clean = λ clean. omega (arith, survives.clean);
       was_open = was_open;
-      connection = record { counts = survives.counts; stays_closed = stays_closed; closes = survives.closes };
+      connection = record { counts = survives.counts; shield = survives.shield; stays_closed = stays_closed; closes = survives.closes };
       settled = λ is_open db it. settles new.db.idle.conn.store db is_open it;
     }
 

@@ -49,3 +49,4 @@ pub mod TextChecks
 pub mod VersionParts
 pub mod PartsPass
 pub mod VersionWalk
+pub mod OneState

@@ -116,6 +116,7 @@ only_reads old new stays settled = record { commit_stays = stays; settled = sett
 -- a call that did nothing leaves everything
 pub leaves_all : (s : State) (e : StoreError) → (IsTrue s.is_open → s.now ≡ s.committed) → RecoversLastCommit s → KeepsConnection s s e
 leaves_all s e settled commit = record {
+  shield = λ h. h;
   nothing = λ clean. only_reads s s (record { was_open = λ is_open. is_open; committed = λ is_open. refl }) settled;
   before = λ clean is_open. leaves_before s s e (λ db it. it);
   closes = λ clean is_open. inl is_open;
@@ -127,6 +128,7 @@ pub leaves_unlimited : {S : Type 0} (g : Ghosts S) (conn begun : Held S) → beg
 leaves_unlimited g conn begun is new e leaves =
     let it = subst (λ h. KeepsConnection (state g h) new e) is leaves in
     record {
+      shield = it.shield;
       nothing = λ clean.
           (let reads = it.nothing clean in
           only_reads (state g conn) new (record { was_open = reads.commit_stays.was_open; committed = reads.commit_stays.committed }) reads.settled);

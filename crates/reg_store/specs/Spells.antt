@@ -115,6 +115,10 @@ SpellsUnopened = SpellsIn IsOpenable IsSpelledLayoutTwo
 abbrev pub SpellsLayoutOne : Database → Stored → Type 0
 SpellsLayoutOne = SpellsIn IsLayoutOne IsSpelledLayoutOne
 
+-- a database spells at most one stored state
+abbrev pub SpellsAtMostOne : (Database → Stored → Type 0) → Type 0
+SpellsAtMostOne Spelled = (db : Database) (one other : Stored) → Spelled db one → Spelled db other → one ≡ other
+
 -- this project's choice: what a crash may leave: trees that, as tables of one of these schemas, spell the stored state
 pub record RecoversToIn (IsAllowed : Schema → Type 0) (Spelled : Contents → Stored → Type 0) (trees : Trees) (was : Stored) : Type 0 where
   pub schema : Schema

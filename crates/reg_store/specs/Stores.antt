@@ -41,15 +41,18 @@ KeepsCrashStates old new Disk = Unit {0}
 KeepsCrashStates old new Memory = AddsNoCrashState old new ⊎ MoreFaults old.faults new.faults
 KeepsCrashStates old new _ = AddsNoCrashState old new
 
--- SQLite, connections: the count of faults never falls; on a clean disk, a closed connection stays closed, and only a disk fault closes one
+-- SQLite, connections: the count of faults never falls; the tests of what the disk returns stay in place (`IsShielded`); on a clean disk, a closed
+-- connection stays closed, and only a disk fault closes one
 pub record KeepsOpen (old new : State) : Type 0 where
   pub counts : old.faults ≤ new.faults
+  pub shield : old.IsShielded → new.IsShielded
   pub stays_closed : HasCleanDisk new → IsTrue new.is_open → IsTrue old.is_open
   pub closes : HasCleanDisk new → IsTrue old.is_open → IsTrue new.is_open ⊎ MoreFaults old.faults new.faults
 
--- This project's choice: what a failed call leaves of the connection that it returns. On a clean disk, nothing has changed. If the connection was
--- open too, a crash leaves what `KeepsCrashStates` allows, and only a disk fault closes the connection.
+-- This project's choice: what a failed call leaves of the connection that it returns. The tests of what the disk returns stay in place. On a clean
+-- disk, nothing has changed. If the connection was open too, a crash leaves what `KeepsCrashStates` allows, and only a disk fault closes it.
 pub record KeepsConnection (old new : State) (e : StoreError) : Type 0 where
+  pub shield : old.IsShielded → new.IsShielded
   pub nothing : HasCleanDisk new → OnlyReads old new
   pub before : HasCleanDisk new → IsTrue old.is_open → KeepsCrashStates old new e
   pub closes : HasCleanDisk new → IsTrue old.is_open → IsTrue new.is_open ⊎ MoreFaults old.faults new.faults

@@ -10,6 +10,7 @@ mod changes;
 mod conn;
 mod error;
 mod keep;
+mod laws;
 mod layout;
 mod listing;
 mod open_connection;
@@ -19,5 +20,6 @@ mod table_checks;
 
 pub use error::StoreError;
 pub use keep::Keep;
+pub use laws::tables_spell_one_state;
 pub use listing::Listing;
 pub use store::{Lines, Store, check_first, create_first};

@@ -1,5 +1,7 @@
 -- How the length of the entries' texts changes with the entries.
-use Rattle.std.proofs.Common.{◌≡◌, ℕ, zero, suc, ◌+◌, ◌-◌, ◌≤◌, ◌<◌, Bool, true, false, List, [], ◌∷◌, length, take, slice_get, Option, Some, None, refl, arith, cond}
+use Rattle.std.proofs.Common.{◌≡◌, ℕ, zero, suc, ◌+◌, ◌-◌, ◌≤◌, ◌<◌, Bool, true, false, List, [], ◌∷◌, length, take, slice_get, Option, Some, None, refl, arith, cond, nat_eq, ◌≢◌, ap, sym, ◌∙◌}
+use Rattle.std.proofs.lemmas.Bool.{eqb-true, ne_eqb}
+use Rattle.std.proofs.lemmas.List.{take_all}
 use Rattle.std.specs.Option.{option_map_or}
 use Rattle.std.specs.Prelude.{option_map}
 use Rattle.std.specs.Map.{lookup, lookup_entry, remove_entry}
@@ -48,6 +50,29 @@ module _ (test : ℕ → Bool) where
       by : (o : Option (ℕ × EntryView)) → lookup_entry test es ≡ o → lookup test (option_map_or (λ e. e ∷ remove_entry test es) o es) ≡ lookup test es
       by None h = refl
       by (Some e) h = rw ((Contains-lookup_entry test es e h).1, lookup-by_entry es, h) refl
+
+  -- without an entry of another key, a look-up finds the same
+  pub lookup-other : (q : ℕ → Bool) → ((k : ℕ) → test k ≡ true → q k ≡ false) → (es : List (ℕ × EntryView)) → lookup q (remove_entry test es) ≡ lookup q es
+  lookup-other q apart [] = refl
+  lookup-other q apart (e ∷ es) = by (test e.0) refl (lookup-other q apart es)
+    where
+      by : (b : Bool) → test e.0 ≡ b → lookup q (remove_entry test es) ≡ lookup q es → lookup q (cond b es (e ∷ remove_entry test es)) ≡ cond (q e.0) (Some e.1) (lookup q es)
+      by true is later = rw (apart e.0 is) refl
+      by false is later = ap (cond (q e.0) (Some e.1)) later
+
+module _ (c : LruCache ℕ EntryView) (k : ℕ) (v : EntryView) (room : length c.entries < c.cap) where
+  one_test : (other key : ℕ) → other ≢ k → nat_eq k key ≡ true → nat_eq other key ≡ false
+  one_test other key apart is = ne_eqb other key (λ e. apart (e ∙ sym (eqb-true k key is)))
+
+  -- `push` changes the entry of no other key, if there is room for one more
+  pub lookup-put_other : (other : ℕ) → other ≢ k → lookup (nat_eq other) (put_entries nat_eq c k v) ≡ lookup (nat_eq other) c.entries
+  lookup-put_other other apart = by (lookup_entry (nat_eq k) c.entries) refl
+    where
+      by : (o : Option (ℕ × EntryView)) → lookup_entry (nat_eq k) c.entries ≡ o → lookup (nat_eq other) (option_map_or (λ e. (e.0, v) ∷ remove_entry (nat_eq k) c.entries) o ((k, v) ∷ take (c.cap - 1) c.entries)) ≡ lookup (nat_eq other) c.entries
+      by None h =
+          let few : length c.entries ≤ c.cap - 1 = omega arith in
+          rw (ne_eqb other k apart, take_all (c.cap - 1) c.entries few) refl
+      by (Some e) h = rw (one_test other e.0 apart (Contains-lookup_entry (nat_eq k) c.entries e h).1) (lookup-other (nat_eq k) (nat_eq other) (λ key is. one_test other key apart is) c.entries)
 
 module _ (eq : ℕ → ℕ → Bool) (c : LruCache ℕ EntryView) (k : ℕ) (v : EntryView) where
   -- `push` adds an entry, and returns the displaced one

@@ -1,5 +1,6 @@
 -- The results of a cache.
-use Rattle.std.specs.Prelude.{◌≡◌, ℕ, List, Option, Some, None}
+use Rattle.std.specs.Prelude.{◌≡◌, ℕ, nat_eq, List, Option, Some, None}
+use Rattle.std.specs.Map.{lookup, remove_entry}
 use Rattle.avro_nodes.specs.Nodes.{nodes_view}
 use Rattle.avro_nodes.specs.declared.node.Node.{Node}
 use Rattle.avro_schema.specs.DenotedNodes.{denoted_nodes}
@@ -17,3 +18,8 @@ abbrev pub IsSchemaOf : List ℕ → Option (List Node) → Option EntryView →
 IsSchemaOf text (Some schema) entry = denoted_nodes text ≡ Some (nodes_view schema)
 IsSchemaOf text None (Some entry) = entry.text ≡ text
 IsSchemaOf text None None = ⊥
+
+-- The result of taking the id's schema if it is cached with this text: the id's entry has the text, and it is removed; or nothing changes.
+abbrev pub IsTaken : ℕ → List ℕ → List (ℕ × EntryView) → List (ℕ × EntryView) → Option (List Node) → Type 0
+IsTaken id text old new (Some schema) = (lookup (nat_eq id) old ≡ Some (record { text = text; nodes = schema })) × (new ≡ remove_entry (nat_eq id) old)
+IsTaken id text old new None = ¬ IsSchemaOf text None (lookup (nat_eq id) old) × (new ≡ old)

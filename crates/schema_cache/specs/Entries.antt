@@ -1,5 +1,6 @@
 -- The entries of a cache, and their limits.
-use Rattle.std.specs.Prelude.{◌≡◌, ℕ, ◌+◌, ◌≤◌, List, [], ◌∷◌, length, Option, Some, None, refl}
+use Rattle.std.specs.Prelude.{◌≡◌, ◌≢◌, ℕ, nat_eq, ◌+◌, ◌<◌, ◌≤◌, List, [], ◌∷◌, length, Option, Some, None, refl}
+use Rattle.std.specs.Map.{lookup}
 use Rattle.std.specs.Coded.{Coded, code_by, coded×, coded_list, coded_ℕ}
 use Rattle.avro_nodes.specs.Nodes.{nodes_view}
 use Rattle.avro_nodes.specs.declared.node.Node.{Node}
@@ -36,6 +37,15 @@ max_total_bytes = 393216
 -- the maximum length of a text: 64 KiB
 abbrev pub max_cached_text : ℕ
 max_cached_text = 65536
+
+-- one more entry with a text of this many bytes fits
+pub record HasRoom (bytes : ℕ) (entries : List (ℕ × EntryView)) : Type 0 where
+  pub few : length entries < max_entries
+  pub small : text_bytes entries + bytes ≤ max_total_bytes
+
+-- every other id has the same entry as before, if any
+abbrev pub KeepsOthers : ℕ → List (ℕ × EntryView) → List (ℕ × EntryView) → Type 0
+KeepsOthers id old new = (other : ℕ) → other ≢ id → lookup (nat_eq other) new ≡ lookup (nat_eq other) old
 
 -- The text denotes these nodes, and is short enough to be cached.
 pub record IsCacheable (text : List ℕ) (nodes : List Node) : Type 0 where

@@ -1,12 +1,12 @@
 //! A cache of parsed schemas.
 
-ghost use Rattle.std.specs.Prelude.{◌≡◌, ◌≢◌, ◌≤◌, length, List, [], None, Some, IfOk, IfErr, IfSome, option_copied, nat_eq, IsTrue};
+ghost use Rattle.std.specs.Prelude.{◌≡◌, ◌≢◌, ◌≤◌, ◌<◌, ◌↔◌, length, List, [], None, Some, IfOk, IfErr, IfSome, option_copied, nat_eq, IsTrue};
 ghost use Rattle.std.specs.Map.{lookup};
 ghost use Rattle.avro_nodes.specs.Nodes.{NodeView, nodes_view};
 ghost use Rattle.avro_schema.specs.Texts.{TextDenotes};
 ghost use Rattle.avro_schema.specs.DenotedNodes.{denoted_nodes};
-ghost use Rattle.schema_cache.specs.Answers.{IsSchemaOf, found_schema};
-ghost use Rattle.schema_cache.specs.Entries.{text_bytes, max_entries, max_cached_text, max_total_bytes};
+ghost use Rattle.schema_cache.specs.Answers.{IsSchemaOf, IsTaken, found_schema};
+ghost use Rattle.schema_cache.specs.Entries.{text_bytes, max_entries, max_cached_text, max_total_bytes, HasRoom, KeepsOthers};
 
 use crate::cache_lookup::CacheLookup;
 use crate::entry::Entry;
@@ -32,7 +32,12 @@ impl EvictionPolicy {
     /// If either number exceeds the cache's limit, it is `NeverEvict`, since `EvictIfFull` could
     /// evict each schema before its next use. Otherwise it is `EvictIfFull`. Texts of more than
     /// 64 KiB count too, though they aren't cached.
-    pub fn for_scan(schemas: usize, bytes: usize) -> EvictionPolicy {
+    pub fn for_scan(schemas: usize, bytes: usize) -> EvictionPolicy
+        ensures fits { schemas ≤ max_entries → bytes ≤ max_total_bytes
+            → result ≡ EvictionPolicy.EvictIfFull }
+        ensures many { max_entries < schemas → result ≡ EvictionPolicy.NeverEvict }
+        ensures long { max_total_bytes < bytes → result ≡ EvictionPolicy.NeverEvict }
+    {
         if schemas > MAX_ENTRIES || bytes > MAX_TOTAL_BYTES {
             EvictionPolicy::NeverEvict
         } else {
@@ -86,11 +91,12 @@ impl SchemaCache {
     /// If a schema is cached under the id with this text, returns it and makes it the most recently
     /// used. Otherwise parses the text as `Schema::read` does, and caches the schema in place of an
     /// earlier one of the id. A text of more than 64 KiB isn't cached. Nor is any if the policy is
-    /// `NeverEvict` and there is no room, or if an allocation fails.
+    /// `NeverEvict` and there is no room, or if an allocation fails. No clause says which schemas are
+    /// cached.
     ///
     /// # Errors
     ///
-    /// The errors of `Schema::read`. The cache is then unchanged.
+    /// The errors of `Schema::read`.
     pub fn read(
         &mut self,
         alloc: Global,
@@ -116,7 +122,8 @@ impl SchemaCache {
     }
 
     /// Caches a schema that the text denotes, as `read` does after it has parsed the text. Drops
-    /// the schema if `read` wouldn't cache it.
+    /// the schema if `read` wouldn't cache it. If the policy is `NeverEvict`, the other ids keep
+    /// their schemas.
     pub fn put(
         &mut self,
         alloc: Global,
@@ -126,6 +133,7 @@ impl SchemaCache {
         eviction_policy: EvictionPolicy,
     )
         requires { denoted_nodes text.now ≡ Some (nodes_view schema) }
+        ensures { eviction_policy ≡ EvictionPolicy.NeverEvict → KeepsOthers id self.old self.new }
     {
         let _unremembered = self.insert(alloc, id, text, schema, eviction_policy);
     }
@@ -133,7 +141,8 @@ impl SchemaCache {
     /// If a schema is cached under the id with this text, removes and returns it. Otherwise returns
     /// `None`, and the cache is unchanged.
     pub fn take(&mut self, id: u32, text: &str) -> Option<Schema>
-        ensures { IfSome result (λ schema. denoted_nodes text.now ≡ Some (nodes_view schema)) }
+        ensures denotes { IfSome result (λ schema. denoted_nodes text.now ≡ Some (nodes_view schema)) }
+        ensures taken { IsTaken id text.now self.old self.new result }
     {
         if !self.is_cached(id, text) {
             return None;
@@ -180,7 +189,7 @@ impl SchemaCache {
 
     /// Whether the id has an entry with this text.
     fn is_cached(&self, id: u32, text: &str) -> bool
-        ensures { IsTrue result → IsSchemaOf text.now None (lookup (nat_eq id) self.now) }
+        ensures { IsTrue result ↔ IsSchemaOf text.now None (lookup (nat_eq id) self.now) }
     {
         match self.entry(id) {
             Some(entry) => entry.text() == text,
@@ -208,7 +217,8 @@ impl SchemaCache {
         eviction_policy: EvictionPolicy,
     ) -> Option<Schema>
         requires { denoted_nodes text.now ≡ Some (nodes_view schema) }
-        ensures { IsSchemaOf text.now result (lookup (nat_eq id) self.new) }
+        ensures schema { IsSchemaOf text.now result (lookup (nat_eq id) self.new) }
+        ensures kept { eviction_policy ≡ EvictionPolicy.NeverEvict → KeepsOthers id self.old self.new }
     {
         if !self.may_cache(text.len(), eviction_policy) || !self.ensure_allocated(alloc) {
             return Some(schema);
@@ -229,7 +239,9 @@ impl SchemaCache {
     /// Whether a text of this many bytes may be cached: it has at most 64 KiB, and if the policy is
     /// `NeverEvict`, there is room for one more entry.
     fn may_cache(&self, bytes: usize, eviction_policy: EvictionPolicy) -> bool
-        ensures { IsTrue result → bytes ≤ max_cached_text }
+        ensures short { IsTrue result → bytes ≤ max_cached_text }
+        ensures room { IsTrue result → eviction_policy ≡ EvictionPolicy.NeverEvict
+            → HasRoom bytes self.now }
     {
         if bytes > MAX_CACHED_TEXT {
             return false;
@@ -241,7 +253,9 @@ impl SchemaCache {
     }
 
     /// Allocates the entries, unless they are allocated. Returns whether they are.
-    fn ensure_allocated(&mut self, alloc: Global) -> bool {
+    fn ensure_allocated(&mut self, alloc: Global) -> bool
+        ensures { self.new ≡ self.old }
+    {
         if self.lru_entries.is_none() {
             match LruEntries::new(alloc) {
                 Ok(lru_entries) => self.lru_entries = Some(lru_entries),

@@ -1,9 +1,9 @@
 //! The entries of a cache, the most recently used first.
 
-ghost use Rattle.std.specs.Prelude.{◌≡◌, ◌+◌, ◌-◌, ◌≤◌, ◌<◌, [], IfOk, IfErr, OnOk, length, take, option_copied, nat_eq};
-ghost use Rattle.std.specs.Map.{lookup};
+ghost use Rattle.std.specs.Prelude.{◌≡◌, ◌+◌, ◌-◌, ◌≤◌, ◌<◌, [], IfOk, IfErr, OnOk, IsTrue, length, take, option_copied, nat_eq};
+ghost use Rattle.std.specs.Map.{lookup, remove_entry};
 ghost use Rattle.lru.specs.LruCache.{promoted};
-ghost use Rattle.schema_cache.specs.Entries.{entry_text_bytes, text_bytes, max_total_bytes, max_entries};
+ghost use Rattle.schema_cache.specs.Entries.{entry_text_bytes, text_bytes, max_total_bytes, max_entries, HasRoom, KeepsOthers};
 
 use crate::entry::Entry;
 use lru::LruCache;
@@ -86,7 +86,8 @@ impl LruEntries {
 
     /// Removes the entry of the id.
     pub fn remove(&mut self, id: u32) -> Option<Entry>
-        ensures { result ≡ lookup (nat_eq id) self.old }
+        ensures entry { result ≡ lookup (nat_eq id) self.old }
+        ensures rest { self.new ≡ remove_entry (nat_eq id) self.old }
     {
         let (_, entry) = self.cache.pop_entry(&id)?;
         self.bytes -= entry.text().len();
@@ -95,7 +96,9 @@ impl LruEntries {
 
     /// Whether an entry with a text of this many bytes can be added without evicting any. An entry
     /// that it would replace still counts.
-    pub fn has_room(&self, text_len: usize) -> bool {
+    pub fn has_room(&self, text_len: usize) -> bool
+        ensures { IsTrue result → HasRoom text_len self.now }
+    {
         self.cache.len() < MAX_ENTRIES && self.bytes.saturating_add(text_len) <= MAX_TOTAL_BYTES
     }
 
@@ -113,6 +116,7 @@ impl LruEntries {
         requires { text_len ≤ max_total_bytes }
         ensures text_bytes { text_bytes self.new + text_len ≤ max_total_bytes }
         ensures few { length self.new < max_entries }
+        ensures kept { HasRoom text_len self.old → self.new ≡ self.old }
     {
         while self.cache.len() >= MAX_ENTRIES || self.bytes > MAX_TOTAL_BYTES - text_len {
             self.evict();
@@ -125,6 +129,7 @@ impl LruEntries {
     pub fn add(&mut self, id: u32, entry: Entry) -> Result<(), Entry>
         ensures ok { OnOk result (lookup (nat_eq id) self.new ≡ Some entry) }
         ensures err { IfErr result (λ back. back ≡ entry) }
+        ensures kept { HasRoom (length entry.text) self.old → KeepsOthers id self.old self.new }
     {
         let text_len = entry.text().len();
         self.make_room(text_len);

@@ -1,22 +1,25 @@
 //! Serves connections, without the contracts of the server.
 
-use reg_jobs::{ErrorWriter, serve_on, serve_with_clock};
+use reg_jobs::{ErrorWriter, Sockets, serve_network, serve_on};
 use reg_service::Service;
 use sqlite::Alter;
 use std::alloc::Global;
 use std::io::sink;
-use std::net::TcpListener;
+use std::net::{Net, TcpListener};
+use std::test::Fail;
 use std::time::Clock;
 
 /// Serves this number of connections without a clock.
-pub(super) fn accept<S: Alter>(
+pub(super) fn accept<H: Net, S: Alter>(
     alloc: Global,
+    net: &H,
     listener: &TcpListener,
     count: u32,
     service: &mut Service<S>,
 ) {
     serve_on(
         alloc,
+        net,
         listener,
         count,
         service,
@@ -25,19 +28,26 @@ pub(super) fn accept<S: Alter>(
 }
 
 /// Serves this number of connections with a clock.
-pub(super) fn accept_by<C: Clock, S: Alter>(
+///
+/// # Errors
+///
+/// A failed test if the system reports no events, or memory is missing at the start.
+pub(super) fn accept_by<H: Net, C: Clock, S: Alter>(
     alloc: Global,
+    net: &H,
     clock: &C,
     listener: &TcpListener,
     count: u32,
     service: &mut Service<S>,
-) {
-    serve_with_clock(
+) -> Result<(), Fail> {
+    let mut network = Sockets::of(alloc, net, listener.try_clone()?)?;
+    serve_network(
         alloc,
         clock,
-        listener,
+        &mut network,
         count,
         service,
         &mut ErrorWriter::to(sink()),
-    );
+    )?;
+    Ok(())
 }

@@ -2,7 +2,9 @@
 //! send is in the system's buffers until it is served.
 
 use super::accepting::{accept, accept_by};
-use super::support::{FULL_SET, GET, IS_BACKWARD, IS_FULL, SET_FULL, ServiceTask, in_memory};
+use super::support::{
+    FULL_SET, GET, IS_BACKWARD, IS_FULL, SET_FULL, ServiceTask, in_memory, joined,
+};
 use reg_service::Service;
 use sqlite::Alter;
 use std::alloc::Global;
@@ -21,16 +23,17 @@ const TOO_LARGE: &str =
 /// The beginning of a message.
 const CUT: &str = "PUT /config HTTP/1.1\r\nHost: x\r\nRegist";
 
-/// A clock that advances by ten seconds each time it is read.
+/// A clock that advances by a number of seconds each time it is read.
 #[derive(Drop)]
 struct LeapingClock {
+    step: u64,
     looks: Cell<u64>,
 }
 
 impl Clock for LeapingClock {
     fn monotonic(&self) -> io::Result<Duration> {
         self.looks.set(self.looks.get().saturating_add(1));
-        Ok(Duration::from_secs(self.looks.get().saturating_mul(10)))
+        Ok(Duration::from_secs(self.looks.get().saturating_mul(self.step)))
     }
 
     fn since_1970(&self) -> io::Result<Duration> {
@@ -43,12 +46,13 @@ impl Clock for LeapingClock {
 enum ClockKind {
     None,
     Host,
-    LeapingClock,
+    /// It advances by this number of seconds each time it is read, which is once in each wait.
+    Leaping(u64),
 }
 
 /// What a client sends, the number of spaces after it, whether it then closes its writing half, and
-/// the response.
-type Client = (&'static str, usize, bool, &'static str);
+/// the responses.
+type Client = (&'static str, usize, bool, &'static [&'static str]);
 
 /// A clock, clients, the number of clients that each call serves, and bounds for the time. It takes
 /// at least the first number of milliseconds, and less than the second.
@@ -56,46 +60,65 @@ type Row = (ClockKind, &'static [Client], &'static [u32], u128, u128);
 
 /// The second message is cut and gets no response. The fourth is a retry of the third.
 const IN_TURN: [Client; 5] = [
-    (GET, 0, true, IS_BACKWARD),
-    (CUT, 0, true, ""),
-    (SET_FULL, 0, true, FULL_SET),
-    (SET_FULL, 0, true, FULL_SET),
-    (GET, 0, true, IS_FULL),
+    (GET, 0, true, &[IS_BACKWARD]),
+    (CUT, 0, true, &[]),
+    (SET_FULL, 0, true, &[FULL_SET]),
+    (SET_FULL, 0, true, &[FULL_SET]),
+    (GET, 0, true, &[IS_FULL]),
 ];
 
-/// The first client is idle after its response, and the server closes its connection.
-const IDLE: [Client; 2] = [(GET, 0, false, IS_BACKWARD), (SET_FULL, 0, true, FULL_SET)];
+/// The first client is idle after its response.
+const IDLE: [Client; 2] = [
+    (GET, 0, false, &[IS_BACKWARD]),
+    (SET_FULL, 0, true, &[FULL_SET]),
+];
 
 /// The response comes before the rest of the message, and is read in full.
-const ANSWERED_EARLY: [Client; 1] = [(LARGE, 300_000, false, TOO_LARGE)];
+const ANSWERED_EARLY: [Client; 1] = [(LARGE, 300_000, false, &[TOO_LARGE])];
 
-/// The rest of the message never comes. The server waits for it, and then sends no response.
-const LATE: [Client; 1] = [(CUT, 0, false, "")];
+/// The rest of the first message never comes. The second client gets its response.
+const LATE: [Client; 2] = [(CUT, 0, false, &[]), (GET, 0, true, &[IS_BACKWARD])];
 
-/// The first call accepts only the first client, although its turn is over and the second waits.
-const ONE_EACH: [Client; 2] = [(GET, 0, true, IS_BACKWARD), (GET, 0, true, IS_BACKWARD)];
+/// The first call accepts only the first client, although the second waits.
+const ONE_EACH: [Client; 2] = [
+    (GET, 0, true, &[IS_BACKWARD]),
+    (GET, 0, true, &[IS_BACKWARD]),
+];
 
 /// A write and two reads that arrive together.
 const TOGETHER: &str =
     "PUT /config HTTP/1.1\r\nContent-Length: 24\r\n\r\n{\"compatibility\":\"FULL\"}GET /config HTTP/1.1\r\n\r\nGET /config HTTP/1.1\r\n\r\n";
 
-/// The first of the messages that arrived together gets its response, and then the connection
-/// yields its turn.
-const MANY: [Client; 2] = [(TOGETHER, 0, true, FULL_SET), (GET, 0, true, IS_FULL)];
+/// Another write.
+const SET_NONE: &str =
+    "PUT /config HTTP/1.1\r\nContent-Length: 24\r\n\r\n{\"compatibility\":\"NONE\"}";
 
-const ROWS: [Row; 10] = [
+/// The response to `SET_NONE`.
+const NONE_SET: &str =
+    "HTTP/1.1 200 OK\r\nContent-Type: application/vnd.schemaregistry.v1+json\r\nContent-Length: 24\r\n\r\n{\"compatibility\":\"NONE\"}";
+
+/// The response to `GET` after `SET_NONE`.
+const IS_NONE: &str =
+    "HTTP/1.1 200 OK\r\nContent-Type: application/vnd.schemaregistry.v1+json\r\nContent-Length: 29\r\n\r\n{\"compatibilityLevel\":\"NONE\"}";
+
+/// The write of the second client comes after the first of the messages that arrived together, and
+/// before the others.
+const MANY: [Client; 2] = [
+    (TOGETHER, 0, true, &[FULL_SET, IS_NONE, IS_NONE]),
+    (SET_NONE, 0, true, &[NONE_SET]),
+];
+
+const ROWS: [Row; 8] = [
     (ClockKind::None, &IN_TURN, &[4, 1], 0, 1000),
     (ClockKind::Host, &IN_TURN, &[4, 1], 0, 1000),
-    // the server waits once for the idle connection
-    (ClockKind::None, &IDLE, &[2], 250, 500),
-    (ClockKind::Host, &IDLE, &[2], 250, 500),
-    // the server doesn't wait for a connection that has had its turn
-    (ClockKind::LeapingClock, &IDLE, &[2], 0, 250),
-    (ClockKind::None, &ANSWERED_EARLY, &[1], 0, 2000),
-    (ClockKind::Host, &ANSWERED_EARLY, &[1], 0, 2000),
-    (ClockKind::LeapingClock, &LATE, &[1], 250, 1000),
-    (ClockKind::LeapingClock, &ONE_EACH, &[1, 1], 0, 250),
-    (ClockKind::LeapingClock, &MANY, &[2], 0, 250),
+    // the server waits for events until this clock has advanced by 75 seconds
+    (ClockKind::Leaping(40), &IDLE, &[2], 250, 2000),
+    (ClockKind::None, &ANSWERED_EARLY, &[1], 0, 3000),
+    (ClockKind::Host, &ANSWERED_EARLY, &[1], 0, 3000),
+    // each look at this clock is ten seconds later
+    (ClockKind::Leaping(10), &LATE, &[2], 0, 2000),
+    (ClockKind::Leaping(1), &ONE_EACH, &[1, 1], 0, 250),
+    (ClockKind::Leaping(1), &MANY, &[2], 0, 250),
 ];
 
 /// How often a row is tried until its time is within the bounds: the machine may be busy.
@@ -118,13 +141,16 @@ impl<'a> ServiceTask for Serve<'a> {
     ) -> Result<(), Fail> {
         for count in self.counts {
             match self.by {
-                ClockKind::None => accept(alloc, self.listener, *count, service),
-                ClockKind::Host => accept_by(alloc, self.rt, self.listener, *count, service),
-                ClockKind::LeapingClock => {
+                ClockKind::None => accept(alloc, self.rt, self.listener, *count, service),
+                ClockKind::Host => {
+                    accept_by(alloc, self.rt, self.rt, self.listener, *count, service)?;
+                }
+                ClockKind::Leaping(step) => {
                     let clock = LeapingClock {
+                        step,
                         looks: Cell::new(0),
                     };
-                    accept_by(alloc, &clock, self.listener, *count, service);
+                    accept_by(alloc, self.rt, &clock, self.listener, *count, service)?;
                 }
             }
         }
@@ -144,14 +170,15 @@ fn sent(rt: &HostRuntime, listener: &TcpListener, client: &Client) -> Result<Tcp
     Ok(stream)
 }
 
-/// Checks that everything that came back over a connection is the text.
-fn expect(alloc: Global, stream: &mut TcpStream, text: &str) -> Result<(), Fail> {
+/// Checks that everything that came back over a connection is these responses.
+fn expect(alloc: Global, stream: &mut TcpStream, responses: &[&str]) -> Result<(), Fail> {
     let mut bytes = Vec::new(alloc);
     stream.read_to_end(&mut bytes)?;
-    if str::from_utf8(bytes.as_slice()) == Ok(text) {
+    let text = joined(alloc, responses)?;
+    if str::from_utf8(bytes.as_slice()) == Ok(text.as_str()) {
         return Ok(());
     }
-    Err(Fail::new(format_args!("another answer than {text}")))
+    Err(Fail::new(format_args!("another answer than {}", text.as_str())))
 }
 
 /// Serves the clients of a row, and checks their responses. Returns the milliseconds that serving
@@ -192,7 +219,7 @@ fn are_served(rt: &HostRuntime, row: &Row) -> Result<(), Fail> {
 }
 
 #[test]
-fn connections_are_served_in_turn(rt: HostRuntime) -> Result<(), Fail> {
+fn connections_are_served_at_once(rt: HostRuntime) -> Result<(), Fail> {
     for row in &ROWS {
         are_served(&rt, row)?;
     }

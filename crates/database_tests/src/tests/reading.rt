@@ -13,14 +13,17 @@ use std::net::{Ipv4Addr, Shutdown, TcpListener, TcpStream};
 use std::test::Fail;
 use std::time::{Clock, Duration, Instant};
 
-/// The number of requests that the client sends at once. The responses, of 100 KB each, are more
-/// than the system's buffers can take.
+/// A number of requests whose responses, of 100 KB each, are more than the system's buffers can
+/// take.
 const MANY: usize = 200;
+
+/// A smaller number of requests, for a client that reads all responses.
+const SOME: usize = 40;
 
 const GET_SCHEMA: &str = "GET /schemas/ids/1 HTTP/1.1\r\n\r\n";
 
 /// The maximum number of bytes that the client reads at once.
-const ROOM: usize = 16_384;
+const ROOM: usize = 65_536;
 
 /// What a client has read of the same response, sent many times.
 #[derive(Drop)]
@@ -37,24 +40,36 @@ impl<'a> Taken<'a> {
         let mut stream = self.stream;
         let mut room = [0u8; ROOM];
         let count = stream.read(&mut room)?;
-        for byte in room.iter().take(count) {
-            let at = self.count.get();
-            if self.response.get(at % self.response.len().max(1)) != Some(byte) {
-                self.is_due.set(false);
+        let mut begun = 0usize;
+        for _ in 0..count {
+            if begun >= count {
+                break;
             }
-            self.count.set(at.saturating_add(1));
+            begun = begun.saturating_add(self.compare(room.get(begun..count).unwrap_or(&[])));
         }
         Ok(count)
     }
 
-    /// Reads up to the end.
-    fn take_rest(&self) -> io::Result<()> {
+    /// Compares these bytes with the response, at most up to its end. Returns the number of bytes
+    /// that were compared.
+    fn compare(&self, bytes: &[u8]) -> usize {
+        let at = self.count.get() % self.response.len().max(1);
+        let rest = self.response.get(at..).unwrap_or(&[]);
+        let size = rest.len().min(bytes.len());
+        if rest.get(..size) != bytes.get(..size) {
+            self.is_due.set(false);
+        }
+        self.count.set(self.count.get().saturating_add(size));
+        size
+    }
+
+    /// Reads until the connection ends or has failed.
+    fn take_rest(&self) {
         for _ in 0..u64::MAX {
-            if self.take()? == 0 {
+            if self.take().unwrap_or(0) == 0 {
                 break;
             }
         }
-        Ok(())
     }
 }
 
@@ -83,15 +98,13 @@ impl<'a, 'b> Clock for Reading<'a, 'b> {
 }
 
 /// Whether the client reads while it is served, the milliseconds by which the clock advances, the
-/// number of connections, and bounds for the time. It takes at least the first number of
-/// milliseconds, and less than the second.
-type Row = (bool, u64, u32, u128, u128);
+/// number of its requests, and a bound in milliseconds for the time.
+type Row = (bool, u64, usize, u128);
 
 const ROWS: [Row; 2] = [
-    // the client takes nothing of a response for thirty seconds of this clock
-    (false, 10_000, 1, 250, 1000),
-    // the turn is over after a second of this clock
-    (true, 100, 2, 0, 500),
+    // the client takes nothing of a response for ten seconds of this clock
+    (false, 10_000, MANY, 5000),
+    (true, 100, SOME, 10_000),
 ];
 
 /// How often a row is tried until its time is within the bounds: the machine may be busy.
@@ -135,7 +148,7 @@ impl<'a> Serve<'a> {
         Ok(stream)
     }
 
-    /// Serves the connections of the row.
+    /// Serves two connections.
     fn serve_row<S: Alter + Drop>(
         &mut self,
         alloc: Global,
@@ -143,7 +156,7 @@ impl<'a> Serve<'a> {
         taken: &Taken<'_>,
         service: &mut Service<S>,
     ) -> Result<(), Fail> {
-        let (reads, step, connections, _, _) = self.row;
+        let (reads, step, _, _) = self.row;
         let clock = Reading {
             taken,
             step,
@@ -151,7 +164,7 @@ impl<'a> Serve<'a> {
             looks: Cell::new(0),
         };
         let begun = Instant::now(self.rt)?;
-        accept_by(alloc, &clock, listener, connections, service);
+        accept_by(alloc, self.rt, &clock, listener, 2, service)?;
         self.took = begun.elapsed(self.rt)?.as_millis();
         Ok(())
     }
@@ -165,7 +178,8 @@ impl<'a> ServiceTask for Serve<'a> {
     ) -> Result<(), Fail> {
         let response = large_response(alloc, service)?;
         let listener = TcpListener::bind(self.rt, (Ipv4Addr::LOCALHOST, 0))?;
-        let requests = GET_SCHEMA.repeat(alloc, MANY)?;
+        let (reads, _, size, _) = self.row;
+        let requests = GET_SCHEMA.repeat(alloc, size)?;
         let first = self.sent(&listener, requests.as_str())?;
         let mut second = self.sent(&listener, GET)?;
         let taken = Taken {
@@ -177,28 +191,25 @@ impl<'a> ServiceTask for Serve<'a> {
         first.set_nonblocking(true)?;
         self.serve_row(alloc, &listener, &taken, service)?;
         first.set_nonblocking(false)?;
-        taken.take_rest()?;
+        taken.take_rest();
         let count = taken.count.get();
-        if !taken.is_due.get() || count == 0 || count >= response.len().saturating_mul(MANY) {
+        let all = response.len().saturating_mul(size);
+        if !taken.is_due.get() || count == 0 || reads != (count == all) {
             return Err(Fail::new(format_args!("{count} bytes came")));
-        }
-        if self.row.2 == 1 {
-            return Ok(());
         }
         let mut other = Vec::new(alloc);
         second.read_to_end(&mut other)?;
-        if count % response.len().max(1) != 0 || other.as_slice() != IS_BACKWARD.as_bytes() {
-            return Err("a response was cut, or the other client had none".into());
+        if other.as_slice() != IS_BACKWARD.as_bytes() {
+            return Err("the other client had another response".into());
         }
         Ok(())
     }
 }
 
-/// The server closes the connection of a client that reads nothing of a response in its time. The
-/// connection of a client that reads slowly yields its turn: this client has whole responses, and
-/// another client has its own.
+/// The server closes the connection of a client that takes nothing of a response for too long. A
+/// client that reads gets all responses. Another client gets its own.
 #[test]
-fn slow_readers_hold_up_others_for_a_turn(rt: HostRuntime) -> Result<(), Fail> {
+fn slow_readers_hold_up_nobody(rt: HostRuntime) -> Result<(), Fail> {
     for row in ROWS {
         let mut task = Serve {
             rt: &rt,
@@ -207,11 +218,11 @@ fn slow_readers_hold_up_others_for_a_turn(rt: HostRuntime) -> Result<(), Fail> {
         };
         for _ in 0..TRIES {
             in_memory(rt.alloc(), &mut task)?;
-            if row.3 <= task.took && task.took < row.4 {
+            if task.took < row.3 {
                 break;
             }
         }
-        if task.took < row.3 || row.4 <= task.took {
+        if row.3 <= task.took {
             return Err(Fail::new(format_args!("it took {} ms", task.took)));
         }
     }

@@ -13,7 +13,7 @@ use Rattle.reg_messages.specs.Framing.{max_body}
 use Rattle.reg_messages.specs.Messages.{max_head, Follows, Part, Faulty}
 use Rattle.reg_messages.specs.Closing.{closes}
 use Rattle.reg_messages.specs.Responses.{fault_response}
-use Rattle.reg_http.specs.Output.{AnsweredMessage, NoneCloses, LastCloses, responses, IsPrefix, IsCutShort}
+use Rattle.reg_http.specs.Output.{AnsweredMessage, NoneCloses, response_to, responses, IsPrefix}
 use Rattle.reg_http.specs.Sessions.{ProcessesMessages}
 
 -- There are fewer than `needs` bytes, and the buffer has room for that many. Any bytes may be added: until there are `needs` bytes in all, they
@@ -23,38 +23,49 @@ pub record IsIncompleteUntil (bytes : List ℕ) (needs : ℕ) : Type 0 where
   pub fits : needs ≤ max_head + max_body
   pub part : (more : List ℕ) → length (bytes ++ more) < needs → (bytes ++ more ≡ []) ⊎ Follows (bytes ++ more) Part
 
--- The facts at each stop. `rest` follows the processed messages xs, `buffered` is in the buffer, and `out` was written.
-abbrev pub StopsAs : List AnsweredMessage → List ℕ → List ℕ → List ℕ → Stop → Type 0
--- no message ends the connection, and each got its response; the rest is in the buffer, and has no whole message before it has `needs` bytes
-StopsAs xs rest buffered out (Waiting needs) = NoneCloses xs × (rest ≡ buffered) × IsIncompleteUntil rest needs × (out ≡ responses xs)
--- only the last message ends the connection, and each got its response; any bytes may follow
-StopsAs xs rest buffered out AtClose = LastCloses xs × (out ≡ responses xs)
--- no message ends the connection, and each got its response; a fault follows them, and got its response, too
-StopsAs xs rest buffered out AtFault = (code : Code) × NoneCloses xs × Follows rest (Faulty code) × (out ≡ responses xs ++ fault_response code)
--- each earlier response was written in full; of the last one, or of that to a fault, a beginning was written, perhaps none or all of it
-StopsAs xs rest buffered out NotWritten = IsCutShort xs rest out
--- no message ends the connection, and each got its response; or the output is cut short as for `NotWritten`
-StopsAs xs rest buffered out OutOfMemory = (NoneCloses xs × (out ≡ responses xs)) ⊎ IsCutShort xs rest out
-
--- The messages at the front of the bytes were processed, up to a stop. `old` and `new` are what the writer had before and after; `buffered` are
--- the bytes in the buffer.
-pub record AnswersAs (AreServed : List Exchange → Type 0) (old new : Option (List ℕ)) (bytes buffered : List ℕ) (stop : Stop) : Type 0 where
-  pub answered : List AnsweredMessage
-  pub rest : List ℕ
-  pub out : List ℕ
-  pub processes : ProcessesMessages AreServed old new bytes answered rest out
-  pub stops : StopsAs answered rest buffered out stop
-
 -- One message of `size` bytes got its response, and the connection stays open.
 pub record AnswersOne (AreServed : List Exchange → Type 0) (old new : Option (List ℕ)) (bytes : List ℕ) (size : ℕ) : Type 0 where
   pub answered : AnsweredMessage
   pub stays : closes answered.0 ≡ false
   pub processes : ProcessesMessages AreServed old new bytes (answered ∷ []) (drop size bytes) (responses (answered ∷ []))
 
+-- One message got its response, and ends the connection.
+pub record AnswersLast (AreServed : List Exchange → Type 0) (old new : Option (List ℕ)) (bytes : List ℕ) : Type 0 where
+  pub answered : AnsweredMessage
+  pub rest : List ℕ
+  pub closes_it : closes answered.0 ≡ true
+  pub processes : ProcessesMessages AreServed old new bytes (answered ∷ []) rest (responses (answered ∷ []))
+
+-- A fault is at the front of the bytes, and a beginning of its response was written.
+pub record AnswersFault (AreServed : List Exchange → Type 0) (old new : Option (List ℕ)) (bytes : List ℕ) : Type 0 where
+  pub code : Code
+  pub part : List ℕ
+  pub none : AreServed []
+  pub follows : Follows bytes (Faulty code)
+  pub front : IsPrefix part (fault_response code)
+  pub writes : Appends old new part
+
+-- One message was processed, and a beginning of its response was written.
+pub record AnswersPart (AreServed : List Exchange → Type 0) (old new : Option (List ℕ)) (bytes : List ℕ) : Type 0 where
+  pub answered : AnsweredMessage
+  pub rest : List ℕ
+  pub part : List ℕ
+  pub front : IsPrefix part (response_to answered.0 answered.1)
+  pub processes : ProcessesMessages AreServed old new bytes (answered ∷ []) rest part
+
+-- no message was processed, and nothing was written
+abbrev pub DoesNothing : (List Exchange → Type 0) → Option (List ℕ) → Option (List ℕ) → Type 0
+DoesNothing AreServed old new = AreServed [] × Appends old new []
+
 -- the outcome of one step over these bytes: the first message got its response, or processing stopped
 abbrev pub NextAs : (List Exchange → Type 0) → Option (List ℕ) → Option (List ℕ) → List ℕ → StepOutcome → Type 0
 NextAs AreServed old new bytes (AnsweredStep size) = AnswersOne AreServed old new bytes size
-NextAs AreServed old new bytes (Stopped stop) = AnswersAs AreServed old new bytes bytes stop
+NextAs AreServed old new bytes (Stopped (Waiting needs)) = DoesNothing AreServed old new × IsIncompleteUntil bytes needs
+NextAs AreServed old new bytes (Stopped AtClose) = AnswersLast AreServed old new bytes
+-- a fault got its response in full
+NextAs AreServed old new bytes (Stopped AtFault) = (code : Code) × AreServed [] × Follows bytes (Faulty code) × Appends old new (fault_response code)
+NextAs AreServed old new bytes (Stopped NotWritten) = AnswersPart AreServed old new bytes ⊎ AnswersFault AreServed old new bytes
+NextAs AreServed old new bytes (Stopped OutOfMemory) = DoesNothing AreServed old new ⊎ (AnswersPart AreServed old new bytes ⊎ AnswersFault AreServed old new bytes)
 
 -- if the stop is `Waiting needs`, the bytes are incomplete until there are `needs` of them (`IsIncompleteUntil`); at any other stop this says nothing
 abbrev pub IsIncompleteIfWaiting : List ℕ → Stop → Type 0

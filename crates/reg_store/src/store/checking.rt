@@ -19,9 +19,10 @@ use std::alloc::Global;
 ///
 /// # Errors
 ///
-/// `NewerLayout` if the database has no view and `meta` names a layout above 1, with any contents
-/// of other tables. Otherwise `NotARegistry`, if the tables spell no registry in layout 1 or
-/// the database has a view. `Memory` if an allocation fails, `Disk` if the disk fails, the file is
+/// `NewerLayout` if the database begins with the five tables of layout 1, has no view, and `meta`
+/// names a layout above 1, with any contents of other tables. If it begins otherwise, that error or
+/// `NotARegistry`. Otherwise `NotARegistry`, if the tables spell no registry in layout 1 or the
+/// database has a view. `Memory` if an allocation fails, `Disk` if the disk fails, the file is
 /// damaged or the connection is closed.
 pub fn check_first<S: Alter>(
     alloc: Global,

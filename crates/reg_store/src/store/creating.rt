@@ -41,6 +41,8 @@ impl<S: Alter> Store<S> {
         ensures done { IfOk result (λ store. HasCleanDisk (state_of store)
             → IsOpenOver (state_of store) new_stored) }
         ensures unfailed { IfOk result (λ store. has_failed store ≡ false) }
+        ensures shield { IfOk result (λ store. (state S.Store connection).IsShielded
+            → (state_of store).IsShielded) }
         ensures full { (state S.Store connection).now.schema ≢ empty_schema
             → IsErrAnd result (λ e. e.0 ≡ StoreError.NotARegistry) }
         ensures idle { IfErr result (λ e. e.1.in_transaction ≡ false) }

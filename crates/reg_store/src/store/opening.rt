@@ -29,12 +29,13 @@ impl<S: Alter> Store<S> {
     ///
     /// # Errors
     ///
-    /// `OldLayout` or `NewerLayout` if the database has no view and `meta` names a layout below or
-    /// above 2, with any contents of other tables. Otherwise `NotARegistry`, if the tables
-    /// spell no registry in layout 2 or the database has a view. `Memory` if an allocation fails,
-    /// `Disk` if the disk fails, the file is damaged or the connection is closed. The database stays
-    /// as it was. But after `Disk`, or after `Memory` if the disk failed too, a crash may leave the
-    /// index in addition.
+    /// `OldLayout` or `NewerLayout` if the database begins with the five tables of layout 1, has no
+    /// view, and `meta` names a layout below or above 2, with any contents of other tables. If it
+    /// begins otherwise, that error or `NotARegistry`. Otherwise `NotARegistry`, if the tables spell
+    /// no registry in layout 2 or the database has a view. `Memory` if an allocation fails, `Disk` if
+    /// the disk fails, the file is damaged or the connection is closed. The database stays as it was.
+    /// But after `Disk`, or after `Memory` if the disk failed too, a crash may leave the index in
+    /// addition.
     pub fn open(
         alloc: Global,
         mut connection: Connection<S>,
@@ -43,6 +44,8 @@ impl<S: Alter> Store<S> {
         ensures done { IfOk result (λ store. HasCleanDisk (state_of store)
             → OpensOver (state S.Store connection) (state_of store)) }
         ensures unfailed { IfOk result (λ store. has_failed store ≡ false) }
+        ensures shield { IfOk result (λ store. (state S.Store connection).IsShielded
+            → (state_of store).IsShielded) }
         ensures fails { IfErr result (λ e. HasCleanDisk (state S.Store e.1)
             → IsOpenFailure (state S.Store connection) (state S.Store e.1) e.0) }
         ensures idle { IfErr result (λ e. e.1.in_transaction ≡ false) }

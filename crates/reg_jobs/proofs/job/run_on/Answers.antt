@@ -4,7 +4,7 @@ use Rattle.reg_jobs.proofs.job.run_on.Goals as goal
 
 pub returns-in-Ok : goal.returns-in-Ok
 returns-in-Ok g c =
-    RunsOver-has g.S.Store c.args.opened c.in-Ok.store c.run_on_store-ended.result.1 _ _ _ _ c.run_on_store-ended.result.0
+    RunsOver-has g.S.Store c.args.opened c.in-Ok.store c.run_on_store-ended.result.1 _
     (λ clean. c.in-Ok.ensures.opens (c.run_on_store-ended.ensures.clean clean)) c.run_on_store-ended.ensures.session
 
 pub returns-in-Err : goal.returns-in-Err

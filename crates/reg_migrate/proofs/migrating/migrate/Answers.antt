@@ -44,6 +44,7 @@ returns-in-Ok-clause-leaves g c =
     let migrated = c.migrate_connection.ensures in
     let frame = c.check_first-counted.ensures.frame in
     record {
+      shield = λ h. migrated.survives.shield (frame.survives.shield h);
       nothing = λ clean.
           let early : HasCleanDisk mid = omega (arith, migrated.survives.clean) in
           let reads = unlimited_reads g.S.Store c.args.connection mid (frame.only_reads early) in
@@ -112,6 +113,7 @@ returns-in-Err-clause-leaves g c =
     let new = state g.S.Store c.check_first-counted.result.1 in
     let frame = c.check_first-counted.ensures.frame in
     record {
+      shield = λ h. frame.survives.shield h;
       nothing = λ clean. unlimited_reads g.S.Store c.args.connection new (frame.only_reads clean);
       before = λ clean is_open. leaves_before old new c.from.result (no_more old new (frame.survives.crash clean));
       closes = λ clean is_open. frame.survives.closes clean is_open;

@@ -7,8 +7,9 @@ use Rattle.reg_core.specs.declared.delivery.Delivery.{Delivery}
 use Rattle.reg_store.specs.Stores.{has_failed}
 use Rattle.reg_service.specs.Deliveries.{Exchange, served}
 use Rattle.reg_service.specs.Crashes.{RecoversAcknowledged}
-use Rattle.reg_service.specs.Processing.{ProcessesEach}
+use Rattle.reg_service.specs.Processing.{ProcessesEach, ServesEach}
 use Rattle.reg_service.proofs.Chains.{processes_next}
+use Rattle.reg_service.proofs.DurableLists.{serves_each}
 use Rattle.reg_service.proofs.DueReplies.{repeats_agree, no_other_answers}
 use Rattle.reg_service.specs.Services.{store_in, state_in, AreBackendFaults, FailsDuring, PreservesService}
 use Rattle.reg_service.proofs.OverTables.{none_over, next_over}
@@ -64,7 +65,9 @@ returns-clause-exactly_once g c clean was over =
 pub returns-clause-each : goal.returns-clause-each
 returns-clause-each g c =
     let all : take c.loop-delivery.delivery-index c.args.list.now ≡ c.args.list.now = take_all c.loop-delivery.delivery-index c.args.list.now c.loop-delivery-test.false in
-    subst (λ (list : List Delivery). ProcessesEach c.args.self.now c.loop-delivery.self (zip list c.loop-delivery.replies.items)) all c.loop-delivery.invariant.each
+    let spelled = leaves_open (state_in c.args.self.now) (g.met.S.Store.settled c.args.self.now.store.db.idle.conn.store) in
+    let each = serves_each c.args.self.now c.loop-delivery.self _ spelled c.loop-delivery.invariant.each in
+    subst (λ (list : List Delivery). ServesEach c.args.self.now c.loop-delivery.self (zip list c.loop-delivery.replies.items)) all each
 
 pub returns-clause-repeats : goal.returns-clause-repeats
 returns-clause-repeats g c clean was over =

@@ -21,6 +21,10 @@ returns-in-Ok-clause-crash_after g c clean db it =
     let last = state g.S.Store c.create_in-made.new.db.idle.conn in
     left_if_spelled db last.now new_stored (g.met.S.Store.settled c.create_in-made.new.db.idle.conn.store db over.is_open it ∙ ap (λ (d : Database). d.trees) over.settled) over.spells
 
+pub returns-in-Ok-clause-shield : goal.returns-in-Ok-clause-shield
+returns-in-Ok-clause-shield g c =
+    subst (λ h. (state g.S.Store h).IsShielded → (state g.S.Store c.create_in-made.new.db.idle.conn).IsShielded) c.set_step_limit.ensures c.in-Ok.ensures.survives.shield
+
 pub returns-in-Err-clause-fails : goal.returns-in-Err-clause-fails
 returns-in-Err-clause-fails g c =
     let idle : IsTrue c.is_autocommit-idle-2.result = search rules in
@@ -30,6 +34,7 @@ returns-in-Err-clause-fails g c =
     record {
       fault = λ clean none. subst₂ (λ h e. IsFaultBy (state g.S.Store h) new e) c.set_step_limit.ensures (sym c.from.ensures) (c.in-Err.ensures.fault clean empty);
       leaves = leaves_unlimited g.S.Store c.args.connection begun c.set_step_limit.ensures new c.from.result (subst (KeepsConnection (state g.S.Store begun) new) (sym c.from.ensures) (record {
+        shield = c.in-Err.ensures.survives.shield;
         nothing = λ clean. only_reads (state g.S.Store begun) new (c.in-Err.ensures.nothing clean) (c.is_autocommit-idle-2.ensures.settled idle);
         before = c.in-Err.ensures.before;
         closes = c.in-Err.ensures.survives.closes;

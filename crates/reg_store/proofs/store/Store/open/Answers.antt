@@ -10,6 +10,10 @@ returns-in-Ok-clause-done g c clean =
     let it = subst (λ h. OpensOver (state g.S.Store h) (state g.S.Store c.make_ready.new.db.idle.conn)) c.set_step_limit.ensures (c.in-Ok.ensures.done clean) in
     record { stored = it.stored; spelled = it.spelled; spells = it.spells }
 
+pub returns-in-Ok-clause-shield : goal.returns-in-Ok-clause-shield
+returns-in-Ok-clause-shield g c =
+    subst (λ h. (state g.S.Store h).IsShielded → (state g.S.Store c.make_ready.new.db.idle.conn).IsShielded) c.set_step_limit.ensures c.in-Ok.ensures.survives.shield
+
 pub returns-in-Ok-clause-crash_after : goal.returns-in-Ok-clause-crash_after
 returns-in-Ok-clause-crash_after g c clean db it =
     subst (λ h. (state g.S.Store h).may_leave db ⊎ IsIndexed (state g.S.Store h).now db) c.set_step_limit.ensures (c.in-Ok.ensures.survives.crash clean db it)

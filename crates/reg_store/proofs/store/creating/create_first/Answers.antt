@@ -30,6 +30,7 @@ returns-in-Err-clause-fails g c =
     record {
       fault = λ clean none. subst₂ (λ h e. IsFaultBy (state g.S.Store h) new e) c.set_step_limit.ensures (sym c.from.ensures) (c.in-Err.ensures.fault clean empty);
       leaves = leaves_unlimited g.S.Store c.args.connection begun c.set_step_limit.ensures new c.from.result (subst (KeepsConnection (state g.S.Store begun) new) (sym c.from.ensures) (record {
+        shield = c.in-Err.ensures.survives.shield;
         nothing = λ clean. only_reads (state g.S.Store begun) new (c.in-Err.ensures.nothing clean) (c.is_autocommit-idle-2.ensures.settled idle);
         before = c.in-Err.ensures.before;
         closes = c.in-Err.ensures.survives.closes;

@@ -71,6 +71,7 @@ returns-then-not-is_unindexed_two-clause-leaves g c =
     let both = survives_both old mid new frame.survives asked.survives in
     let early = λ (clean : HasCleanDisk new). (let it : HasCleanDisk mid = omega (arith, asked.survives.clean) in it) in
     if_err_each c.require_open.result (λ e. record {
+      shield = both.shield;
       nothing = λ clean. reads_then old mid new (frame.only_reads (early clean)) (asked.only_reads clean);
       before = λ clean is_open. before_if_undone old new e both clean;
       closes = both.closes;
@@ -160,6 +161,7 @@ returns-in_err-made-clause-leaves g c =
     let early = λ (clean : HasCleanDisk new). (let it : HasCleanDisk mid = omega (arith, made.clean) in it) in
     passed (KeepsConnection old new) c.from_residual-in_err-made.result (failure_of e) c.from_residual-in_err-made.ensures.1
     (record {
+      shield = (returns-in_err-made-clause-survives g c).shield;
       nothing = λ clean. only_reads old new (keeps_then old mid new (frame.only_reads (early clean)).commit_stays (c.in_err-made.ensures.nothing clean)) (c.is_autocommit-settled.ensures.settled idle_after);
       before = λ clean is_open. elim (frame.survives.closes (early clean) is_open) [
         | inl mid_open ↦ before_then old mid new (failure_of e) frame.survives (early clean) made.counts (c.in_err-made.ensures.before clean mid_open)
@@ -187,6 +189,7 @@ returns-in_err-check_layout_two-clause-leaves g c =
     let frame = c.in_err-check_layout_two.ensures.tests.frame in
     passed (KeepsConnection old new) c.from_residual.result e c.from_residual.ensures.1
     (record {
+      shield = frame.survives.shield;
       nothing = frame.only_reads;
       before = λ clean is_open. before_if_undone old new e frame.survives clean;
       closes = frame.survives.closes;

@@ -1,6 +1,6 @@
-use Rattle.std.proofs.Common.{◌≡◌, ◌+◌, ap, ◌∙◌, sym, arith, length, ℕ, nat_eq}
+use Rattle.std.proofs.Common.{ap, ◌∙◌, sym, arith, length, ℕ, nat_eq}
 use Rattle.std.specs.Prelude.{option_map}
-use Rattle.schema_cache.specs.Entries.{entry_text_bytes, text_bytes, EntryView}
+use Rattle.schema_cache.specs.Entries.{entry_text_bytes, EntryView}
 use Rattle.schema_cache.proofs.TextBytes.{text_bytes-remove_entry, lookup-by_entry}
 use Rattle.schema_cache.proofs.lru_entries.LruEntries.remove.Goals as goal
 
@@ -31,14 +31,14 @@ invariant_of-self-2 c =
     let small = kept.small in
     rw c.pop_entry.ensures.entries (record { counted = omega arith; small = omega arith; capacity = kept.capacity })
 
-pub returns-in_err-entry : goal.returns-in_err-entry
-returns-in_err-entry c =
+pub returns-in_err-entry-clause-entry : goal.returns-in_err-entry-clause-entry
+returns-in_err-entry-clause-entry c =
     let found = ap (option_map (λ (e : ℕ × EntryView). e.1)) c.in_err-entry.ensures.value in
     let by_entry = lookup-by_entry (nat_eq c.args.id) c.self.inside.cache.entries in
     c.from_residual.ensures ∙ rw (← c.self.view_is) (found ∙ sym by_entry)
 
-pub returns : goal.returns
-returns c =
+pub returns-clause-entry : goal.returns-clause-entry
+returns-clause-entry c =
     let found = ap (option_map (λ (e : ℕ × EntryView). e.1)) c.in_ok-entry.ensures.value in
     let by_entry = lookup-by_entry (nat_eq c.args.id) c.self.inside.cache.entries in
     rw (← c.self.view_is) (found ∙ sym by_entry)
