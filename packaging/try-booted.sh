@@ -9,7 +9,14 @@ pid() { systemctl show -P MainPID "$1"; }
 property() { [ "$(systemctl show -P "$2" "$1")" = "$3" ] || { systemctl show "$1" -p "$2"; return 1; }; }
 
 check "the package is installed" dpkg -i /root/avroreg.deb
+check "it starts nothing" bash -c '! systemctl is-active avroreg && ! systemctl is-enabled avroreg'
+check "it makes no registry" test ! -e /var/lib/avroreg/registry.db
+check "a start without a registry is refused" bash -c '! systemctl start avroreg'
+check "the guard names init" bash -c "journalctl -u avroreg -o cat | grep -qx 'guard: next: avroreg-admin init'"
+check "init makes a registry, and starts it" avroreg-admin init
 check "the service is active" systemctl is-active avroreg
+check "a boot starts it and its timers" systemctl is-enabled avroreg avroreg-backup.timer avroreg-watch.timer
+check "a second init is refused" bash -c '! avroreg-admin init'
 check "it answers" answers 200 BACKWARD "$url/config"
 check "a write is acknowledged" write k1 orders
 check "it runs as its own user" test "$(ps -o user= -p "$(pid avroreg)")" = avroreg
@@ -26,28 +33,30 @@ check "systemd started it again" test "$(pid avroreg)" != "$before"
 check "the acknowledged write is kept" answers 200 '[1]' "$url/subjects/orders/versions"
 check "its retry gets the first reply" write k1 orders
 check "it stops" systemctl stop avroreg
+check "the mark says so" grep -q '"state": "stopped"' /var/lib/avroreg/registry.mark
 check "stopped, the file is readable" runuser -u avroreg -- avroreg list --db /var/lib/avroreg/registry.db versions
 check "it starts again" systemctl start avroreg
 check "the service answers at once" answers 200 '["orders"]' "$url/subjects"
 
-echo AVROREG_PORT=8082 >/etc/default/avroreg-payments
-check "a second registry starts" systemctl start avroreg@payments
+check "a taken port is refused" bash -c '! avroreg-admin init --registry payments --port 8081'
+check "a second registry starts" avroreg-admin init --registry payments --port 8082
 check "it accepts a write" write k1 payments http://127.0.0.1:8082
 check "it has its own file" test -s /var/lib/avroreg-payments/registry.db
 check "the first registry doesn't have its subject" answers 200 '["orders"]' "$url/subjects"
 
 check "a backup is made while the server runs" systemctl start avroreg-backup
 check "the backup passed its audit" test -s /var/lib/avroreg-backup/last-good.json
-backup=$(ls /var/lib/avroreg-backup/registry-*.db)
-restore() { /usr/share/avroreg/restore "$backup" /var/lib/avroreg/registry.db /var/lib/avroreg/old-1 2>&1; }
-check "a restore is refused while the server runs" grep -q 'stop avroreg' <(restore)
+mkdir -p /root/far
+echo "AVROREG_AFTER_BACKUP='cp \"\$AVROREG_BACKUP\" \"\$AVROREG_RECORD\" \"\$AVROREG_SETTINGS\" /root/far/'" >>/etc/default/avroreg
+check "root copies the next backup elsewhere" bash -c 'systemctl start avroreg-backup && test -s /root/far/registry-*.db && test -s /root/far/registry-*.json'
+check "with the settings" bash -c 'tar -tf /root/far/settings-*.tar | grep -qx etc/default/avroreg'
+sed -i /AVROREG_AFTER_BACKUP/d /etc/default/avroreg
 check "a write after the backup is acknowledged" answers 200 '{"id":2}' -d '{"schema":"\"int\""}' "$url/subjects/later/versions"
-systemctl stop avroreg
-check "the backup is restored" restore
-check "it starts with the restored file" systemctl start avroreg
+check "the backup is restored" avroreg-admin restore --registry default --yes
 check "the registry is that of the backup" answers 200 '["orders"]' "$url/subjects"
 check "its user owns the restored file" test "$(stat -c '%a %U %G' /var/lib/avroreg/registry.db)" = "600 avroreg avroreg"
-check "the old files are kept" test -s /var/lib/avroreg/old-1/registry.db-wal
+check "the old files are kept" bash -c 'test -s /var/lib/avroreg/jobs/*/old/registry.db-wal'
+check "the lost id stays used up" answers 200 '{"id":3}' -d '{"schema":"\"long\""}' "$url/subjects/third/versions"
 check "metrics are written" systemctl start avroreg-watch
 check "the metrics report that the server is up" grep -qx 'avroreg_up 1' /var/lib/avroreg-metrics/avroreg.prom
 check "the timers start" systemctl start avroreg-backup.timer avroreg-watch.timer
@@ -57,6 +66,27 @@ check "metrics of the second registry are written" systemctl start avroreg-watch
 check "these metrics have the second registry's name" grep -qx 'avroreg_up{registry="payments"} 1' /var/lib/avroreg-metrics/avroreg-payments.prom
 check "the metrics of its backup have the name too" grep -qE '^avroreg_backup_schemas\{registry="payments"\} 1$' /var/lib/avroreg-metrics/avroreg-payments.prom
 check "the second registry's timers start" systemctl start avroreg-backup@payments.timer avroreg-watch@payments.timer
+
+check "another port" avroreg-admin port 8091 --registry payments --yes
+check "the second registry is there" answers 200 '["payments"]' http://127.0.0.1:8091/subjects
+check "and back" avroreg-admin port 8082 --registry payments --yes
+check "logs show its starts" grep -q 'Started avroreg@payments' <(avroreg-admin logs --registry payments)
+mkdir /srv/new
+mount -t tmpfs -o mode=755 new /srv/new
+mount --bind /srv/new /mnt
+check "a move to a larger disk stops halfway" bash -c 'avroreg-admin move /mnt --registry payments --yes; [ $? = 3 ]'
+check "meanwhile nothing starts" bash -c '! systemctl start avroreg@payments'
+check "it doesn't go on without the mount" bash -c 'avroreg-admin continue --registry payments; [ $? = 3 ]'
+umount /mnt
+mount --bind /srv/new /var/lib/avroreg-payments
+check "after the mount it goes on" avroreg-admin continue --registry payments
+check "the registry is served from the new disk" answers 200 '["payments"]' http://127.0.0.1:8082/subjects
+check "the old files are kept" bash -c 'test -s /var/lib/avroreg-payments-before-*/registry.db'
+check "the unit needs its disk" grep -q /var/lib/avroreg-payments <(systemctl show -P RequiresMountsFor avroreg@payments)
+mount --bind /srv/new /mnt
+check "a move to the disk that it is on is refused" bash -c '! avroreg-admin move /mnt --registry payments --yes'
+umount /mnt
+check "a move to a folder is refused" bash -c '! avroreg-admin move /srv --registry payments --yes'
 
 cp /etc/default/avroreg /root/default
 sed -i 's/^AVROREG_PORT=.*/AVROREG_PORT=none/' /etc/default/avroreg
@@ -69,7 +99,6 @@ cp /root/default /etc/default/avroreg
 systemctl reset-failed avroreg
 systemctl stop avroreg
 cp -a /var/lib/avroreg /root/kept
-rm -f /var/lib/avroreg/registry.db-wal
 head -c 5000 /dev/urandom >/var/lib/avroreg/registry.db
 systemctl start avroreg 2>/dev/null
 check "a damaged file is a failure" eventually 120 property avroreg ActiveState failed
@@ -81,23 +110,27 @@ check "with the file restored, it starts" systemctl start avroreg
 check "the versions are there" answers 200 '[1]' "$url/subjects/orders/versions"
 check "an upgrade restarts it" bash -c "dpkg -i /root/avroreg.deb && curl -s -f $url/config"
 
-cat >>/etc/default/avroreg <<'SETTINGS'
-AVROREG_DB=/var/lib/avroreg/moved.db
-SETTINGS
-check "another file is served" bash -c "systemctl stop avroreg && runuser -u avroreg -- avroreg list --db /var/lib/avroreg/registry.db versions &&
-  mv /var/lib/avroreg/registry.db /var/lib/avroreg/moved.db && systemctl start avroreg && curl -s -f $url/subjects/orders/versions"
-sleep 1 # the next backup needs another name, which has the time in seconds
-check "the backup copies that file" systemctl start avroreg-backup
+# as an earlier release left it, which had no avroreg-admin
+systemctl stop avroreg avroreg@payments
+rm -r /var/lib/avroreg-admin /var/lib/avroreg*/registry.mark
+mv /var/lib/avroreg/registry.db /var/lib/avroreg/moved.db
+mv /var/lib/avroreg/registry.db-wal /var/lib/avroreg/moved.db-wal
+echo AVROREG_DB=/var/lib/avroreg/moved.db >>/etc/default/avroreg
+check "an upgrade adopts both registries" dpkg -i /root/avroreg.deb
+check "the first one is served, and its file is registry.db" answers 200 '[1]' "$url/subjects/orders/versions"
+check "the second one is served" answers 200 '[1]' http://127.0.0.1:8082/subjects/payments/versions
+check "the settings name no other file" bash -c '! grep -q ^AVROREG_DB /etc/default/avroreg'
+check "the adopted registry is backed up" systemctl start avroreg-backup
 check "a removal stops both registries" bash -c "dpkg -r avroreg && ! curl -s $url/config && ! curl -s http://127.0.0.1:8082/config"
 check "a removal stops the timers of both" bash -c "! systemctl is-active avroreg-backup.timer && ! systemctl is-active avroreg-watch@payments.timer"
 check "the package is purged" dpkg -P avroreg
 
 check "the sources install it without a package" env AVROREG=/root/program /root/sources/packaging/install
 check "the program is the one that its record names" sha256sum -c /usr/share/avroreg/program
-mv /var/lib/avroreg/moved.db /var/lib/avroreg/registry.db
-check "the service is enabled and starts" systemctl enable --now avroreg
+check "the registry of before starts" systemctl enable --now avroreg
 check "it serves the registry" answers 200 '[1]' "$url/subjects/orders/versions"
 check "the template starts the second registry" bash -c "echo AVROREG_PORT=8082 >/etc/default/avroreg-payments && systemctl start avroreg@payments"
+check "a registry of another name is made" avroreg-admin init --registry later --port 8084
 check "a backup is made without the package" systemctl start avroreg-backup
 echo AVROREG_PORT=8083 >>/etc/default/avroreg
 check "installed again, it keeps the settings" bash -c "AVROREG=/root/program /root/sources/packaging/install && grep -qx AVROREG_PORT=8083 /etc/default/avroreg"

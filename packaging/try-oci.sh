@@ -79,6 +79,12 @@ check "the containers are read-only, without capabilities" are_closed
 check "the image of avroreg has its licence" has_file avroreg-registry /usr/share/doc/avroreg/LICENSE "$here/../LICENSE"
 licences=${COPYRIGHTS:-/usr/share/doc}
 check "the image of nginx has nginx's licence" has_file avroreg-nginx /usr/share/doc/nginx/copyright "$licences/nginx/copyright"
+check "the page is there" answers 200 '<html' "$url/page/"
+if [ -f /usr/lib/nginx/modules/ngx_http_js_module.so ]; then
+  check "the gateway is there" answers 200 '{}' "$url/"
+else
+  skip_check "the gateway, because this machine has no libnginx-mod-http-js"
+fi
 check "other machines don't reach it" is_closed_port "http://$other:8080/config"
 check "nobody reaches avroreg without nginx" is_closed_port http://127.0.0.1:8081/config
 check "a write is acknowledged" answers 200 '{"id":1}' -d '{"schema":"\"int\""}' "$url/subjects/orders/versions"
@@ -86,10 +92,12 @@ volume=$(podman volume inspect -f '{{.Mountpoint}}' avroreg)
 check "the registry is in the volume" test -s "$volume/registry.db-wal"
 check "the volume belongs to the image's user" test "$(stat -c %u "$volume")" = 10001
 mkdir "$scratch/backup"
-check "the host copies it while it runs" "$here/../examples/backup/hot-copy" "$volume/registry.db" "$scratch/backup/registry.db"
+admin=$here/../admin/avroreg-admin
+program=$(realpath "${AVROREG:-$here/../crates/avroreg/out/avroreg}")
+check "the host copies it while it runs" "$admin" folder backup "$volume/registry.db" "$scratch/backup/registry.db" --program "$program"
 check "the image audits the copy" podman run --rm --user 0 --network none -v "$scratch/backup:/backup" "localhost/avroreg:$version" audit --db /backup/registry.db
-restore() { "$here/../examples/backup/restore" "$scratch/backup/registry.db" "$volume/registry.db" "$volume/old-1" 2>&1; }
-check "a restore is refused while the pod runs" grep -q 'stop avroreg' <(restore)
+restore() { "$admin" folder restore "$scratch/backup/registry.db" "$volume/registry.db" --program "$program" --yes 2>&1; }
+check "a restore is refused while the pod runs" grep -q 'stop it' <(restore)
 check "the image sets the variable of the C library" grep -qx GLIBC_TUNABLES=glibc.malloc.tcache_count=2000 \
   <(podman inspect -f '{{range .Config.Env}}{{println .}}{{end}}' avroreg-registry)
 process=$(pid_of avroreg-registry)
@@ -103,8 +111,8 @@ check "nginx returns 502 meanwhile" answers 502 '' "$url/config"
 settings=$scratch/settings
 tls=https://127.0.0.1:8443
 sed "s,path: /etc/avroreg-nginx,path: $settings," "$here/oci/pod-tls.yaml" >"$scratch/pod-tls.yaml"
-block "$here/../docs/running.md" "### TLS and passwords in a container" |
-  sed "/^curl /d; s,/var/tmp,$scratch,; s,/etc/avroreg-nginx,$settings,g; s,/root/registry,$scratch/registry,; s,packaging/oci/pod-tls,$scratch/pod-tls," >"$scratch/set-up.sh"
+block "$here/../docs/containers.md" "## TLS and passwords" |
+  sed "/^curl /d; s/registry.example.org/$other/; s,/var/tmp,$scratch,; s,/etc/avroreg-nginx,$settings,g; s,/root/registry,$scratch/registry,; s,packaging/oci/pod-tls,$scratch/pod-tls," >"$scratch/set-up.sh"
 export -f podman
 # certify: makes a certificate and its key.
 certify() {
@@ -116,12 +124,12 @@ set_up() { (cd "$here/.." && bash -eu "$scratch/set-up.sh" >"$scratch/passwords"
 as() { secure "${@:2}" -u "$1:$(sed -n "s/^$1 //p" "$scratch/passwords")"; }
 secure() { answers "$@" --cacert "$scratch/registry.crt"; }
 watched() {
-  "$here/../examples/watch/watch" "${@:2}" "$url" "$volume/registry.db" "$scratch/avroreg.prom" && grep -qx "avroreg_up $1" "$scratch/avroreg.prom"
+  "$here/../admin/avroreg-admin" folder watch "$volume/registry.db" "$scratch/avroreg.prom" --url "$url" "${@:2}" && grep -qx "avroreg_up $1" "$scratch/avroreg.prom"
 }
 # are_kept: whether nginx can't write the settings, and other users can't read them.
 are_kept() {
   grep -E ' /etc/avroreg-nginx ro,' "/proc/$(pid_of avroreg-nginx)/mountinfo" &&
-    [ "$(stat -c '%U:%g %a' "$settings" "$settings"/*)" = "root:10002 750"$'\n'"$(printf 'root:10002 640\n%.0s' 1 2 3 4)" ]
+    [ "$(stat -c '%U:%g %a' "$settings" "$settings"/*)" = "root:10002 750"$'\n'"$(printf 'root:10002 640\n%.0s' 1 2 3 4 5)" ]
 }
 reload() { podman kill -s HUP avroreg-nginx; }
 logs_error() { podman logs avroreg-nginx 2>&1 | grep emerg; }
@@ -131,6 +139,7 @@ check "the commands of the page start pod-tls.yaml" set_up
 check "a probe needs no user" eventually 120 answers 200 BACKWARD "$url/config"
 check "with TLS too" eventually 60 secure 200 BACKWARD "$tls/config"
 check "and on another machine" secure 200 BACKWARD "https://$other:8443/config"
+check "another name gets 421" secure 421 '"error_code":421' -H 'Host: evil.example' "$tls/config"
 check "a wrong password is refused there too" secure 401 '"error_code":401' -u admin:wrong "$tls/config"
 check "the containers are read-only, without capabilities" are_closed
 check "other machines don't reach the port without TLS" is_closed_port "http://$other:8080/config"

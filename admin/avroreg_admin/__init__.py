@@ -1,0 +1,1 @@
+"""The operator's command of avroreg. `admin/README.md` describes the modules."""
