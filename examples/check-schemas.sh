@@ -5,7 +5,7 @@
 #   examples/check-schemas.sh DIR URL
 #
 # A file's name without `.avsc` is its subject: orders-value.avsc is for orders-value. Write %2F for a slash and %25 for a
-# percent sign. Subfolders of DIR aren't read.
+# percent sign. schema_files.py says which files it reads, and which make it stop; register-schemas reads the same.
 #
 # A schema that a live version of its subject has is accepted. Any other is compared with the versions that the subject's
 # level names: all live ones for a TRANSITIVE level, none for NONE, else the latest.
@@ -14,11 +14,11 @@
 # the schemas compatible, a line reports this.
 #
 # Status 0 if each schema would be accepted, 1 if one wouldn't. Status 2 if the registry doesn't respond, returns another error
-# (such as 401 or 413), or there is no schema. Status 64 for wrong arguments. The script ignores modes: a read-only subject
-# rejects new schemas that pass here. curl reads the user and the password from ~/.netrc, and its own environment
-# (CURL_CA_BUNDLE, https_proxy). Needs curl and jq.
+# (such as 401), a file can't be used, or there is no schema. Status 64 for wrong arguments. The script ignores modes: a read-only
+# subject rejects new schemas that pass here. curl reads the user and the password from ~/.netrc, and its own environment
+# (CURL_CA_BUNDLE, https_proxy). Needs curl, jq and python3.
 set -u
-why=$(cd "$(dirname "$0")" && pwd)/why.py
+here=$(cd "$(dirname "$0")" && pwd)
 scratch=$(mktemp -d)
 trap 'rm -rf "$scratch"' EXIT
 
@@ -48,7 +48,7 @@ get() {
 # opinion READER WRITER DIRECTION: prints python3-avro's reasons for two files, with a mark. Status 1 if it has none.
 opinion() {
   local lines status
-  lines=$(timeout 20 /usr/bin/python3 "$why" "$scratch/$1" "$scratch/$2" 2>&1)
+  lines=$(timeout 20 /usr/bin/python3 "$here/why.py" "$scratch/$1" "$scratch/$2" 2>&1)
   status=$?
   [ $status != 1 ] || return 1
   [ $status != 124 ] || lines="python3-avro took over 20 seconds"
@@ -62,7 +62,7 @@ explain() {
     echo "    no second opinion: install python3-avro for reasons"
     return
   }
-  cp "$path" "$scratch/new"
+  jq -j .text <<<"$schema" >"$scratch/new"
   get .schema GET "/subjects/$quoted/versions/$1"
   printf '%s' "$found" >"$scratch/old"
   case $level in BACKWARD* | FULL*) opinion new old "the new schema reads version $1" && silent=0 ;; esac
@@ -93,12 +93,13 @@ compare() {
   return "$against"
 }
 
-# check FILE: checks whether the registry would accept the file's schema.
+# check SCHEMA: checks whether the registry would accept a schema, which is a line of schema_files.py.
 check() {
-  local file=${1##*/} subject quoted body
-  subject=$(sed 's/%2F/\//g; s/%25/%/g' <<<"${file%.avsc}")
-  quoted=$(jq -rn --arg name "$subject" '$name | @uri')
-  body=$(jq -Rsc '{schema: .}' "$1") || stop "$1 can't be read"
+  local schema=$1 file subject quoted body
+  file=$(jq -r .name <<<"$schema")
+  subject=$(jq -r .subject <<<"$schema")
+  quoted=$(jq -r '.subject | @uri' <<<"$schema")
+  body=$(jq -c '{schema: .text}' <<<"$schema")
   ask POST "/subjects/$quoted" "$body"
   case $status/$code in
   200/*) echo "$file: already version $(jq .version <<<"$answer") of $subject" ;;
@@ -106,6 +107,10 @@ check() {
   404/40403) compare ;;
   422/42201)
     echo "$file: not a schema that the registry accepts"
+    return 1
+    ;;
+  413/*)
+    echo "$file: too large for the registry"
     return 1
     ;;
   *) stop "$url/subjects/$quoted answers $status: $answer" ;;
@@ -116,15 +121,13 @@ check() {
   echo "usage: check-schemas.sh DIR URL" >&2
   exit 64
 }
-for command in curl jq; do
+for command in curl jq python3; do
   command -v "$command" >/dev/null || stop "there is no $command here"
 done
-shopt -s nullglob
 url=${2%/}
-files=("$1"/*.avsc)
-[ ${#files[@]} != 0 ] || stop "no .avsc in $1"
+schemas=$("$here/schema_files.py" "$1" 2>"$scratch/refused") || stop "$(cat "$scratch/refused")"
 rejected=0
-for path in "${files[@]}"; do
-  check "$path" || rejected=1
-done
+while read -r line <&3; do
+  check "$line" || rejected=1
+done 3<<<"$schemas"
 exit "$rejected"

@@ -29,6 +29,9 @@ avroreg gives numbers and ids in order. To make a gap in the version numbers, th
 it softly and registers it again. Later it deletes the first one permanently. It writes versions under the level NONE, and
 sets levels and modes last. At the end it reads TO, and compares it with the expected contents.
 
+It reads at most a million versions, and 256 MiB in a response that is complete within five minutes. So a broken registry can't
+keep it busy without an end. If a response has another form than that of a schema registry, it prints the path, and ends.
+
 Before it writes, it prints the number of writes. On a terminal a bar shows the progress and the remaining time. It repeats
 a request that gets 429 or 5xx until --patience is used up. It waits as long as Retry-After says, but at most a minute. It
 sends a request without any response six times.
@@ -47,7 +50,7 @@ Passwords come from the environment: FROM_PASSWORD for --from-user, TO_PASSWORD 
 Status: 0  everything is copied, or with --dry-run: can be
         1  it can't be copied with these options, or TO isn't a new, writable avroreg; it prints the reasons and the options
            to use, and writes nothing
-        2  a registry can't be read, or FROM keeps changing; run it again
+        2  a registry can't be read, gives a response of an unknown form, or FROM keeps changing; run it again
         3  TO gave another response than expected, or differs at the end: use a new file
         64 wrong arguments
 """
@@ -63,6 +66,7 @@ import itertools
 import json
 import os
 import shutil
+import signal
 import ssl
 import sys
 import time
@@ -80,7 +84,10 @@ BUSY = {429, 500, 502, 503, 504}
 PAGE = 1000  # versions in the list of one request
 READINGS = 5  # of FROM, until two in a row are equal
 BODY = 1_048_576  # the most bytes of a request's body that avroreg accepts
-MOST = 1_000_000  # the most unused numbers before a version, and the most unused ids in all
+MOST = 1_000_000  # the most unused numbers before a version, the most unused ids in all, and the most versions
+MOST_BYTES = 268_435_456  # of a response
+LONGEST_ANSWER = 300  # seconds until a response must be complete
+LARGEST = 2_147_483_647  # the largest number of a version, and the largest id
 SKIP, FILL, USED, NEW, MODELESS = "--skip", "--fill-ids", "--used-ids", "--new-ids", "--without-modes"
 CANNOT, UNREADABLE, DIFFERS, USAGE = 1, 2, 3, 64
 
@@ -100,6 +107,25 @@ class Changed(Stop):
         super().__init__(UNREADABLE, f"{where} changed while it was read")
 
 
+class Malformed(Stop):
+    """The registry gave a response that no schema registry gives."""
+
+    def __init__(self, where: str, what: str):
+        super().__init__(UNREADABLE, f"{where} gave a response of an unknown form: {what}")
+
+
+# Printing
+
+
+def shown(text: object) -> str:
+    """The text with escapes for control characters: they come from a registry, and a terminal obeys them."""
+    return "".join(letter if letter.isprintable() else letter.encode("unicode_escape").decode() for letter in str(text))
+
+
+def say(text: str):
+    print(shown(text), flush=True)
+
+
 # Progress
 
 
@@ -115,7 +141,7 @@ class Progress:
     current: Progress | None = None
 
     def __init__(self, verb: str, total: int, noun: str, every: int):
-        self.verb, self.total, self.noun, self.every = verb, total, noun, every
+        self.verb, self.total, self.noun, self.every = verb, total, shown(noun), every
         self.done, self.begun, self.drawn = 0, time.monotonic(), 0.0
         self.is_terminal = sys.stdout.isatty()
         Progress.current = self
@@ -165,9 +191,9 @@ class Progress:
 def print_pause(server: str, problem: object, pause: float):
     """Prints the reason of a pause."""
     if Progress.current and Progress.current.is_terminal:
-        Progress.current.draw(f", {problem}, again in {clock(pause)}")
+        Progress.current.draw(shown(f", {problem}, again in {clock(pause)}"))
     elif pause >= 1:
-        print(f"{server}: {problem}, again in {clock(pause)}", flush=True)
+        say(f"{server}: {problem}, again in {clock(pause)}")
 
 
 # Requests
@@ -185,7 +211,10 @@ class Answer:
         return self.value.get("error_code") if isinstance(self.value, dict) else None
 
     def __str__(self):
-        return f"{self.status} {json.dumps(self.value, ensure_ascii=False)[:300]}"
+        try:
+            return f"{self.status} {json.dumps(self.value, ensure_ascii=False)[:300]}"
+        except RecursionError:
+            return f"{self.status} and a deeply nested value"
 
 
 def pause_of(retry_after: str | None) -> float | None:
@@ -196,8 +225,45 @@ def pause_of(retry_after: str | None) -> float | None:
         return float(retry_after)
     try:
         return email.utils.parsedate_to_datetime(retry_after).timestamp() - time.time()
-    except (TypeError, ValueError):
+    except (TypeError, ValueError, OverflowError):
         return None
+
+
+def too_late(*_):
+    raise TimeoutError(f"the response isn't complete after {LONGEST_ANSWER} s")
+
+
+@dataclass(frozen=True)
+class Part:
+    """A part of a response. Each method returns what the part must be, or raises Malformed."""
+    value: object
+    where: str
+
+    def check(self, is_right: bool, what: str):
+        if not is_right:
+            found = "a deeply nested value" if isinstance(self.value, (list, dict)) else repr(self.value)[:100]
+            raise Malformed(self.where, f"{what} was expected, and {found} came")
+
+    def text(self) -> str:
+        self.check(isinstance(self.value, str), "a text")
+        self.check(not any("\ud800" <= letter <= "\udfff" for letter in self.value), "a text without half characters")
+        return self.value
+
+    def number(self, least: int) -> int:
+        """A whole number: for Python, true is one too."""
+        self.check(type(self.value) is int and least <= self.value <= LARGEST, f"a number from {least:,} to {LARGEST:,}")
+        return self.value
+
+    def parts(self) -> list[Part]:
+        self.check(isinstance(self.value, list), "a list")
+        return [Part(each, self.where) for each in self.value]
+
+    def members(self) -> dict:
+        self.check(isinstance(self.value, dict), "an object")
+        return self.value
+
+    def member(self, name: str) -> Part:
+        return Part(self.members().get(name), f"{self.where} in {name}")
 
 
 class Server:
@@ -248,25 +314,35 @@ class Server:
         if body is not None:
             fields["Content-Type"] = "application/vnd.schemaregistry.v1+json"
             body = body_of(body)
-        self.connection.request(method, self.path + path, body, fields)
-        answer = self.connection.getresponse()
-        data = answer.read()
+        signal.signal(signal.SIGALRM, too_late)
+        signal.alarm(LONGEST_ANSWER)
+        try:
+            self.connection.request(method, self.path + path, body, fields)
+            answer = self.connection.getresponse()
+            data = answer.read(MOST_BYTES)
+            if answer.length and len(data) < MOST_BYTES:
+                raise http.client.IncompleteRead(data, answer.length)
+            if answer.read(1):
+                self.connection.close()
+                raise Malformed(f"{self.url}{path}", f"more than {MOST_BYTES:,} bytes")
+        finally:
+            signal.alarm(0)
         retry_after = answer.headers["Retry-After"]
         try:
             return Answer(answer.status, json.loads(data), retry_after)
-        except ValueError:
+        except (ValueError, RecursionError):
             return Answer(answer.status, data.decode(errors="replace"), retry_after)
 
-    def find(self, path: str) -> object:
+    def find(self, path: str) -> Part | None:
         """The JSON at a path, or None if the registry returns 404 with an error code."""
         answer = self.ask("GET", path)
         if answer.status == 404 and answer.code is not None:
             return None
         if answer.status != 200 or isinstance(answer.value, str):
             raise Stop(UNREADABLE, f"{self.url}{path}: {answer}")
-        return answer.value
+        return Part(answer.value, f"{self.url}{path}")
 
-    def get(self, path: str) -> object:
+    def get(self, path: str) -> Part:
         found = self.find(path)
         if found is None:
             raise Stop(UNREADABLE, f"{self.url}{path}: 404")
@@ -295,7 +371,7 @@ def versions_of(name: str) -> str:
 # Reading
 
 
-@dataclass(frozen=True)
+@dataclass(frozen=True, slots=True)
 class Version:
     number: int
     id: int
@@ -332,18 +408,20 @@ class Registry:
                 f"{sum(it.mode is not None for it in subjects)} own modes")
 
 
-def more_of_schema(shown: dict) -> Iterator[str]:
-    if shown.get("schemaType") not in (None, "AVRO"):
-        yield f"schemaType {shown['schemaType']}"
-    yield from (member for member in ("references", "metadata", "ruleSet") if shown.get(member))
+def more_of_schema(schema: Part) -> Iterator[str]:
+    if schema.members().get("schemaType") not in (None, "AVRO"):
+        yield f"schemaType {schema.member('schemaType').text()}"
+    yield from (member for member in ("references", "metadata", "ruleSet") if schema.members().get(member))
 
 
-def more_of_level(shown: dict | None) -> tuple[str, ...]:
-    return tuple(member for member, value in sorted((shown or {}).items()) if value and member != "compatibilityLevel")
+def more_of_level(level: Part | None) -> tuple[str, ...]:
+    members = level.members() if level else {}
+    return tuple(member for member, value in sorted(members.items()) if value and member != "compatibilityLevel")
 
 
-def version_of(shown: dict, deleted: bool) -> Version:
-    return Version(shown["version"], shown["id"], shown["schema"], deleted, tuple(more_of_schema(shown)))
+def version_of(schema: Part, deleted: bool) -> Version:
+    return Version(schema.member("version").number(1), schema.member("id").number(0), schema.member("schema").text(), deleted,
+                   tuple(more_of_schema(schema)))
 
 
 def list_path(deleted: bool, offset: int, limit: int) -> str:
@@ -352,43 +430,53 @@ def list_path(deleted: bool, offset: int, limit: int) -> str:
     return "/schemas?" + urllib.parse.urlencode(query)
 
 
-def list_versions(server: Server, deleted: bool) -> dict[str, dict[int, dict]] | None:
-    """All versions by subject and number, read page by page. None if the registry ignores the offset."""
-    found: dict[str, dict[int, dict]] = {}
+def list_versions(server: Server, deleted: bool, names: set[str]) -> dict[str, dict[int, Version]] | None:
+    """All versions of these subjects by number, read page by page. None if the registry ignores the offset."""
+    found: dict[str, dict[int, Version]] = {}
     offset = 0
-    while page := server.get(list_path(deleted, offset, PAGE)):
-        for shown in page:
-            name, number = shown["subject"], shown["version"]
-            if number in found.setdefault(name, {}):
-                if shown is page[0] and next(iter(found)) == name and next(iter(found[name])) == number:
+    while page := server.get(list_path(deleted, offset, PAGE)).parts():
+        for schema in page:
+            name, version = schema.member("subject").text(), version_of(schema, False)
+            if version.number in found.setdefault(name, {}):
+                if schema is page[0] and next(iter(found)) == name and next(iter(found[name])) == version.number:
                     return None
-                raise Changed(f"{server.url}{versions_of(name)}/{number}")
-            found[name][number] = shown
+                raise Changed(f"{server.url}{versions_of(name)}/{version.number}")
+            if name not in names:
+                raise Changed(f"{server.url}{versions_of(name)}")
+            found[name][version.number] = version
         offset += len(page)
+        if offset > MOST:
+            raise Malformed(f"{server.url}/schemas", f"more than {MOST:,} versions")
     return found
 
 
-def read_list(server: Server) -> dict[str, tuple[Version, ...]]:
+def read_list(server: Server, names: set[str]) -> dict[str, tuple[Version, ...]]:
     """The versions of each subject, read in pages. Empty if the registry can't list them."""
     if not server.offers(list_path(True, 0, 1)):
         return {}
-    every = list_versions(server, True)
-    live = list_versions(server, False) if every else None
+    every = list_versions(server, True, names)
+    live = list_versions(server, False, names) if every else None
     if every is None or live is None:
         return {}
-    return {name: tuple(version_of(versions[number], number not in live.get(name, {})) for number in sorted(versions))
+    return {name: tuple(replace(versions[number], deleted=number not in live.get(name, {})) for number in sorted(versions))
             for name, versions in every.items()}
+
+
+def read_numbers(server: Server, path: str) -> list[int]:
+    found = server.find(path)
+    return sorted({number.number(1) for number in found.parts()}) if found else []
 
 
 def read_versions(server: Server, name: str) -> tuple[Version, ...]:
     """The versions of a subject, read with one request for each."""
-    live = set(server.find(versions_of(name)) or [])
+    live = set(read_numbers(server, versions_of(name)))
     found = []
-    for number in sorted(server.find(f"{versions_of(name)}?deleted=true") or []):
-        shown = server.find(f"{versions_of(name)}/{number}?deleted=true")
-        if shown is None:
+    for number in read_numbers(server, f"{versions_of(name)}?deleted=true"):
+        schema = server.find(f"{versions_of(name)}/{number}?deleted=true")
+        if schema is None:
             raise Changed(f"{server.url}{versions_of(name)}/{number}")
-        found.append(version_of(shown, number not in live))
+        schema.member("version").check(schema.members().get("version") == number, f"the number {number}")
+        found.append(version_of(schema, number not in live))
     return tuple(found)
 
 
@@ -397,19 +485,19 @@ def read_subject(server: Server, name: str, versions: tuple[Version, ...] | None
         versions = read_versions(server, name)
     level = server.find(f"/config/{quote(name)}")
     mode = server.find(f"/mode/{quote(name)}") if modes else None
-    return Subject(versions, level and level["compatibilityLevel"], mode and mode["mode"], more_of_level(level),
-                   contexts and name.startswith(":."))
+    return Subject(versions, level and level.member("compatibilityLevel").text(), mode and mode.member("mode").text(),
+                   more_of_level(level), contexts and name.startswith(":."))
 
 
 def read(server: Server) -> Registry:
-    names = sorted(server.get("/subjects?deleted=true"))
+    names = sorted({name.text() for name in server.get("/subjects?deleted=true").parts()})
     modes, contexts = server.offers("/mode"), server.offers("/contexts")
-    level, mode = server.get("/config"), server.get("/mode")["mode"] if modes else None
-    lists = read_list(server)
+    settings, mode = server.get("/config"), server.get("/mode").member("mode").text() if modes else None
+    level = settings.member("compatibilityLevel").text()
+    lists = read_list(server, set(names))
     progress = Progress("read", len(names), f"subjects of {server.url}", 1000)
     subjects = {name: read_subject(server, name, lists.get(name), modes, contexts) for name in progress.over(names)}
-    return Registry({name: subject for name, subject in subjects.items() if subject.versions},
-                    level["compatibilityLevel"], mode, more_of_level(level))
+    return Registry({name: subject for name, subject in subjects.items() if subject.versions}, level, mode, more_of_level(settings))
 
 
 def read_at_one_moment(server: Server) -> Registry:
@@ -420,8 +508,6 @@ def read_at_one_moment(server: Server) -> Registry:
             found = read(server)
         except Changed:
             found = None
-        except (KeyError, TypeError) as fault:
-            raise Stop(UNREADABLE, f"{server.url} gave a response of an unknown form: {fault!r}") from fault
         if found is not None and found == last:
             return found
         last = found
@@ -516,39 +602,94 @@ class Step:
         return hashlib.sha256(json.dumps(named).encode()).hexdigest()
 
 
+def register(name: str, number: int, text: str, identifier: int) -> Step:
+    return Step(name, number, "register", "POST", versions_of(name), {"schema": text}, {"id": identifier})
+
+
+def delete(name: str, number: int) -> Step:
+    return Step(name, number, "delete", "DELETE", f"{versions_of(name)}/{number}", None, number)
+
+
+def remove(name: str, number: int) -> Step:
+    return Step(name, number, "remove", "DELETE", f"{versions_of(name)}/{number}?permanent=true", None, number)
+
+
+@dataclass(frozen=True)
+class VersionSteps:
+    """The writes of a version after the last one of its subject. Its own schema uses up the numbers between them."""
+    name: str
+    last: int
+    version: Version
+
+    def __len__(self) -> int:
+        return 3 * (self.version.number - self.last - 1) + 1 + self.version.deleted
+
+    def __iter__(self) -> Iterator[Step]:
+        name, version, gap = self.name, self.version, range(self.last + 1, self.version.number)
+        for number in gap:
+            yield register(name, number, version.text, version.id)
+            yield delete(name, number)
+        yield register(name, version.number, version.text, version.id)
+        if version.deleted:
+            yield delete(name, version.number)
+        for number in gap:
+            yield remove(name, number)
+
+
+@dataclass(frozen=True)
+class FillerSteps:
+    """The writes that use up the ids from `first` to `last`, as versions of a spare subject, `filled` versions after its first."""
+    spare: str
+    filled: int
+    first: int
+    last: int
+    texts: dict[int, str] = field(repr=False)
+
+    def __len__(self) -> int:
+        return self.last - self.first + 1
+
+    def __iter__(self) -> Iterator[Step]:
+        for number, identifier in enumerate(range(self.first, self.last + 1), self.filled + 1):
+            yield register(self.spare, number, self.texts.get(identifier) or placeholder(identifier), identifier)
+
+
+@dataclass(frozen=True)
+class RemovalSteps:
+    """The writes that remove a subject with `count` versions."""
+    name: str
+    count: int
+
+    def __len__(self) -> int:
+        return 2
+
+    def __iter__(self) -> Iterator[Step]:
+        numbers, path = list(range(1, self.count + 1)), f"/subjects/{quote(self.name)}"
+        yield Step(self.name, 0, "delete", "DELETE", path, None, numbers)
+        yield Step(self.name, 0, "remove", "DELETE", f"{path}?permanent=true", None, numbers)
+
+
 @dataclass
 class Plan:
-    steps: list[Step] = field(default_factory=list)
+    """What will be written. A gap of a million numbers takes millions of writes, so each one is made when it is sent."""
+    parts: list[Iterable[Step]] = field(default_factory=list)  # each part has a length, and makes its writes
     troubles: list[Trouble] = field(default_factory=list)
     source_texts: dict[str, str] = field(default_factory=dict)  # by identity text, the source's text
     renumbered: dict[int, int] = field(default_factory=dict)
     fillers: int = 0  # writes that use up an id, or assign it early
     wanted: Registry | None = None  # the target's expected contents
 
+    def __len__(self) -> int:
+        return sum(map(len, self.parts))
+
+    def steps(self) -> Iterator[Step]:
+        return itertools.chain.from_iterable(self.parts)
+
     def trouble(self, flag: str, where: str, what: str):
         self.troubles.append(Trouble(flag, where, what))
 
-    def step(self, *members):
-        self.steps.append(Step(*members))
-
-    def register(self, name: str, number: int, text: str, identifier: int):
-        body = {"schema": self.source_texts.get(text, text)}
-        self.step(name, number, "register", "POST", versions_of(name), body, {"id": identifier})
-
-    def delete(self, name: str, number: int):
-        self.step(name, number, "delete", "DELETE", f"{versions_of(name)}/{number}", None, number)
-
-    def remove(self, name: str, number: int):
-        self.step(name, number, "remove", "DELETE", f"{versions_of(name)}/{number}?permanent=true", None, number)
-
-    def remove_subject(self, name: str, count: int):
-        numbers = list(range(1, count + 1))
-        self.step(name, 0, "delete", "DELETE", f"/subjects/{quote(name)}", None, numbers)
-        self.step(name, 0, "remove", "DELETE", f"/subjects/{quote(name)}?permanent=true", None, numbers)
-
     def put(self, kind: str, name: str, member: str, value: str):
         path = f"/{kind}/{quote(name)}" if name else f"/{kind}"
-        self.step(name, 0, kind, "PUT", path, {member: value}, {member: value})
+        self.parts.append([Step(name, 0, kind, "PUT", path, {member: value}, {member: value})])
 
 
 def spare_subject(registry: Registry) -> str:
@@ -686,19 +827,6 @@ def renumber(registry: Registry) -> tuple[Registry, dict[int, int]]:
     return replace(registry, subjects=subjects), becomes
 
 
-def plan_version(plan: Plan, name: str, version: Version, last: int):
-    """Plans a version after the last one of its subject. Its own schema uses up the numbers between them."""
-    gap = range(last + 1, version.number)
-    for number in gap:
-        plan.register(name, number, version.text, version.id)
-        plan.delete(name, number)
-    plan.register(name, version.number, version.text, version.id)
-    if version.deleted:
-        plan.delete(name, version.number)
-    for number in gap:
-        plan.remove(name, number)
-
-
 def placeholder(identifier: int) -> str:
     """A schema for an id that no version has."""
     return compact({"name": f"from_confluent.unused_{identifier}", "size": 0, "type": "fixed"})
@@ -706,17 +834,17 @@ def placeholder(identifier: int) -> str:
 
 def plan_versions(plan: Plan, registry: Registry, spare: str, used: int):
     """Plans all versions, and under the spare subject the schemas of ids that avroreg wouldn't assign by itself."""
-    texts = {version.id: version.text for _, version in registry.versions()}
+    texts = {version.id: plan.source_texts.get(version.text, version.text) for _, version in registry.versions()}
     given, filled, last = used, 0, {}
     for name, version in in_order_of_ids(registry):
-        for missing in range(given + 1, version.id):
-            filled += 1
-            plan.register(spare, filled, texts.get(missing) or placeholder(missing), missing)
+        if version.id > given + 1:
+            plan.parts.append(FillerSteps(spare, filled, given + 1, version.id - 1, texts))
+            filled += version.id - given - 1
         given = max(given, version.id)
-        plan_version(plan, name, version, last.get(name, 0))
+        plan.parts.append(VersionSteps(name, last.get(name, 0), replace(version, text=texts[version.id])))
         last[name] = version.number
     if filled:
-        plan.remove_subject(spare, filled)
+        plan.parts.append(RemovalSteps(spare, filled))
     plan.fillers = filled
 
 
@@ -732,13 +860,15 @@ def plan_settings(plan: Plan, registry: Registry):
     plan.put("mode", "", "mode", registry.mode)
 
 
-def make_steps(plan: Plan, spare: str, used: int):
-    """Makes the steps of the plan. The key of the first step has a hash of all of them."""
+def plan_steps(plan: Plan, spare: str, used: int):
+    """Plans the writes. The key of the first one has a hash of all of them."""
     plan_versions(plan, plan.wanted, spare, used)
     plan_settings(plan, plan.wanted)
-    steps = json.dumps([vars(step) for step in plan.steps])
+    every = hashlib.sha256()
+    for part in plan.parts:
+        every.update(repr(part).encode() + b"\n")
     level = {"compatibility": "NONE"}
-    plan.steps.insert(0, Step("", 0, f"begin {hashlib.sha256(steps.encode()).hexdigest()}", "PUT", "/config", level, level))
+    plan.parts.insert(0, [Step("", 0, f"begin {every.hexdigest()}", "PUT", "/config", level, level)])
 
 
 def plan_of(source: Registry, target: Server, spare: str, flags: argparse.Namespace) -> Plan:
@@ -760,7 +890,7 @@ def plan_of(source: Registry, target: Server, spare: str, flags: argparse.Namesp
 def check_flags(plan: Plan, flags: argparse.Namespace):
     given = {SKIP: flags.skip, FILL: flags.fill_ids, NEW: flags.new_ids, MODELESS: flags.without_modes}
     for trouble in plan.troubles:
-        print(f"{trouble.where}: {trouble.what}")
+        say(f"{trouble.where}: {trouble.what}")
     missing = {trouble.flag for trouble in plan.troubles if not given[trouble.flag]}
     if NEW in missing:
         missing.discard(FILL)  # new ids need no other flag for ids
@@ -781,11 +911,11 @@ def unused_before(registry: Registry, used: int) -> str:
 
 def print_cost(plan: Plan, target: Server):
     """Prints the number of writes, and the time that they take at 100 to 1,000 writes a second."""
-    writes = len(plan.steps)
+    writes = len(plan)
     fillers = f", {plan.fillers:,} of them for ids that wouldn't be given otherwise" if plan.fillers else ""
-    print(f"{target.url} will get {plan.wanted}, in {writes} writes{fillers}", flush=True)
+    say(f"{target.url} will get {plan.wanted}, in {writes} writes{fillers}")
     if writes > 5000:
-        print(f"At 100 to 1,000 writes a second this takes {clock(writes / 1000)} to {clock(writes / 100)}", flush=True)
+        say(f"At 100 to 1,000 writes a second this takes {clock(writes / 1000)} to {clock(writes / 100)}")
 
 
 def check_retry_keys(target: Server):
@@ -800,12 +930,12 @@ def check_retry_keys(target: Server):
 def check_target(target: Server, plan: Plan, source: str, run: str, dry: bool):
     """Checks that the target is empty, or that this run has begun there. In that case the target knows the first key, and
     rejects another command with it."""
-    if target.get("/subjects?deleted=true"):
+    if target.get("/subjects?deleted=true").parts():
         if dry:
-            print(f"{target.url} isn't empty: a copy continues only in the file in which it has begun")
-        elif target.ask("PUT", "/config", NO_LEVEL, plan.steps[0].key(source, run)).code != 42290:
+            say(f"{target.url} isn't empty: a copy continues only in the file in which it has begun")
+        elif target.ask("PUT", "/config", NO_LEVEL, next(plan.steps()).key(source, run)).code != 42290:
             raise Stop(CANNOT, f"{target.url} isn't empty, and this copy (--run {run}) hasn't begun there: use a new file")
-    elif target.get("/mode")["mode"] != "READWRITE":
+    elif target.get("/mode").member("mode").text() != "READWRITE":
         raise Stop(CANNOT, f"{target.url} is read-only: first set its mode to READWRITE")
 
 
@@ -813,7 +943,7 @@ def check_target(target: Server, plan: Plan, source: str, run: str, dry: bool):
 
 
 def write(target: Server, plan: Plan, source: str, run: str):
-    for step in Progress("written", len(plan.steps), "writes", 100).over(plan.steps):
+    for step in Progress("written", len(plan), "writes", 100).over(plan.steps()):
         answer = target.ask(step.method, step.path, step.body, step.key(source, run))
         if answer != Answer(200, step.wanted):
             wanted = Answer(200, step.wanted)
@@ -833,7 +963,7 @@ def compare(wanted: Registry, target: Server):
     wanted, found = members(wanted), members(read(target))
     differences = [name for name in sorted(wanted.keys() | found.keys()) if wanted.get(name) != found.get(name)]
     for name in differences[:20]:
-        print(f"{name}: wanted {wanted.get(name)}, found {found.get(name)}")
+        say(f"{name}: wanted {wanted.get(name)}, found {found.get(name)}")
     if differences:
         raise Stop(DIFFERS, f"{len(differences)} differences: {target.url} hasn't the expected contents")
 
@@ -889,31 +1019,32 @@ def move(flags: argparse.Namespace):
     target = Server(flags.target, flags.to_user, os.environ.get("TO_PASSWORD", ""), flags.to_ca, flags.patience)
     check_retry_keys(target)
     registry = read_at_one_moment(source)
-    print(f"{source.url} has {registry}", flush=True)
+    say(f"{source.url} has {registry}")
     spare = spare_subject(registry)
     plan = plan_of(registry, target, spare, flags)
     check_flags(plan, flags)
-    make_steps(plan, spare, flags.used_ids)
+    plan_steps(plan, spare, flags.used_ids)
     check_target(target, plan, source.url, flags.run, flags.dry_run)
     for old, new in sorted(plan.renumbered.items()):
         if old != new:
-            print(f"id {old} becomes {new}")
+            say(f"id {old} becomes {new}")
     print_cost(plan, target)
     if not flags.dry_run:
         write(target, plan, source.url, flags.run)
         compare(plan.wanted, target)
-        print(f"{target.url} now has {plan.wanted}, as expected")
+        say(f"{target.url} now has {plan.wanted}, as expected")
 
 
 def main():
     flags = parse_arguments()
+    sys.stdout.reconfigure(errors="backslashreplace")
     try:
         move(flags)
     except Stop as stop:
         if Progress.current:
             Progress.current.end()
         sys.stdout.flush()
-        print(f"from-confluent.py: {stop}", file=sys.stderr)
+        print(f"from-confluent.py: {shown(stop)}", file=sys.stderr)
         sys.exit(stop.status)
 
 

@@ -82,23 +82,23 @@ start_server() {
 }
 
 # start_nginx NAME PORT [EDIT]: starts nginx in front of PORT, with the configuration of examples/nginx. sed's EDIT changes the
-# configuration first. It sets $front to nginx's port and $nginx to the process. In $scratch/NAME, avroreg.log is the log of
-# that configuration, and access.log has status, method and target.
+# configuration first: `s/#gateway //` switches the gateway on. It sets $front to nginx's port and $nginx to the process. In
+# $scratch/NAME, avroreg.log is the log of that configuration, and access.log has status, method and target.
+# $worker_connections replaces the number of connections.
 start_nginx() {
-  local folder=$scratch/$1 user="" _
+  local folder=$scratch/$1 user="" module="" _
   [ "$(id -u)" != 0 ] || user='user root;'
   front=$(free_port)
-  mkdir "$folder"
-  sed "${3:-}" "$examples/nginx/roles.conf" >"$folder/avroreg-roles.conf"
-  sed "${3:-};s/127.0.0.1:8081/127.0.0.1:$2/; s/\\(127.0.0.1\\|localhost\\):8080/\\1:$front/; s,/var/lib/nginx/avroreg,cache,
-    s,access_log /var/log/nginx/avroreg.log,access_log access.log answered; access_log avroreg.log," \
-    "$examples/nginx/avroreg.conf" >"$folder/avroreg.conf"
+  write_nginx_files "$folder" "$2" "${3:-}"
+  ! grep -q '^ *include .*/gateway/maps.conf' "$folder/avroreg.conf" || module='load_module /usr/lib/nginx/modules/ngx_http_js_module.so;'
   cat >"$folder/nginx.conf" <<CONF
 daemon off;
 $user
+$module
 worker_processes 1;
+worker_rlimit_nofile 16384;
 pid nginx.pid;
-events { }
+events { worker_connections ${worker_connections:-4096}; }
 http {
     log_format answered "\$status \$request_method \$request_uri";
     client_body_temp_path bodies;
@@ -117,6 +117,19 @@ CONF
     sleep 0.1
   done
   fail "nginx doesn't listen: $(cat "$folder/error.log")"
+}
+
+# write_nginx_files FOLDER PORT EDIT: writes the configuration, its roles and the gateway, each changed by EDIT.
+write_nginx_files() {
+  local file
+  mkdir "$1" "$1/gateway"
+  sed "$3" "$examples/nginx/roles.conf" >"$1/avroreg-roles.conf"
+  for file in "$examples/../gateway"/*.{conf,js}; do
+    sed "$3; s,/usr/share/avroreg-nginx,$1," "$file" >"$1/gateway/${file##*/}"
+  done
+  sed "$3; s/127.0.0.1:8081/127.0.0.1:$2/; s/127.0.0.1:8080/127.0.0.1:$front/; s,/var/lib/nginx/avroreg,cache,; s,/run/avroreg,$1/run,
+    s,access_log /var/log/nginx/avroreg.log,access_log access.log answered; access_log avroreg.log,
+    s,/usr/share/avroreg-nginx/gateway,$1/gateway," "$examples/nginx/avroreg.conf" >"$1/avroreg.conf"
 }
 
 # stop_server [SIGNAL]: kills the last started server.

@@ -1,11 +1,12 @@
 #!/usr/bin/env bash
 # Runs check-schemas.sh on the schemas next to this script, with a server whose subjects have earlier versions of them. Compares
-# the output and the status. Then registers folders with register-schemas, and runs the commands of the CI workflow.
+# the output and the status. Then registers folders with register-schemas, gives both folders with files that can't be used, and
+# runs the commands of the CI workflow.
 #
 #   AVROREG=PROGRAM examples/check-schemas/try.sh
 set -u
 source "$(dirname "$0")/../serving.sh"
-packages curl jq python3-avro
+packages curl jq python3-avro python3-yaml
 schemas=$examples/check-schemas/schemas
 
 # send METHOD PATH BODY: sends a write, which must be accepted.
@@ -141,13 +142,125 @@ register 1 "$scratch/mixed" "$url" --commit def456 --keep-going
 check_versions zones-value '[1]'
 cat "$scratch/table"
 
-# The commands of the workflow.
+# unusable TEXT [FILE]: checks that both stop at the folder $scratch/odd with this reason, and that nothing is registered. Then
+# makes the folder anew, with one good schema.
+unusable() {
+  local tool
+  for tool in check-schemas.sh register-schemas; do
+    arguments=("$scratch/odd" "$url")
+    [ $tool = check-schemas.sh ] || arguments+=(--commit "odd")
+    timeout 20 "$examples/$tool" "${arguments[@]}" >"$scratch/table" 2>"$scratch/errors"
+    [ $? = 2 ] || fail "$tool: another status than 2, not \"$1\": $(cat "$scratch/table" "$scratch/errors")"
+    [ "$(cat "$scratch/errors")" = "$tool: $1" ] || fail "$tool doesn't say \"$1\": $(cat "$scratch/errors")"
+    [ ! -s "$scratch/table" ] || fail "$tool printed: $(cat "$scratch/table")"
+  done
+  cmp -s <(curl -s "$url/subjects?deleted=true") "$scratch/subjects" || fail "something was registered: $1"
+  make_odd
+}
+
+make_odd() {
+  rm -rf "$scratch/odd"
+  mkdir -p "$scratch/odd/sub.folder"
+  echo '"int"' >"$scratch/odd/aaa.avsc"
+}
+
+# Both read the same files, and stop at one that can't be used.
+curl -s "$url/subjects?deleted=true" >"$scratch/subjects"
+echo '"int"' >"$scratch/outside.avsc"
+make_odd
+echo '"long"' >"$scratch/odd/.hidden.avsc"
+unusable '.hidden.avsc is hidden'
+printf '{"type":"string","doc":"\xff"}' >"$scratch/odd/latin.avsc"
+unusable "latin.avsc isn't UTF-8"
+echo '"int"' >"$scratch/odd/"$'b\xff.avsc'
+unusable "b\\udcff.avsc has a name that isn't UTF-8"
+echo '"int"' >"$scratch/odd/"$'orders\n.avsc'
+unusable 'orders\n.avsc has a control character in its name'
+echo '"int"' >"$scratch/odd/"$'\e[2J.avsc'
+unusable '\x1b[2J.avsc has a control character in its name'
+ln -s ../outside.avsc "$scratch/odd/out.avsc"
+unusable 'out.avsc is a link out of the folder'
+ln -s /dev/zero "$scratch/odd/zero.avsc"
+unusable 'zero.avsc is a link out of the folder'
+ln -s nowhere.avsc "$scratch/odd/dangling.avsc"
+unusable "dangling.avsc can't be read: No such file or directory"
+mkfifo "$scratch/odd/pipe.avsc"
+unusable "pipe.avsc isn't a regular file"
+mkdir "$scratch/odd/folder.avsc"
+unusable "folder.avsc isn't a regular file"
+truncate -s 1G "$scratch/odd/large.avsc"
+unusable 'large.avsc has more than 1,048,576 bytes'
+echo '"int"' | tee "$scratch/odd/a%.avsc" >"$scratch/odd/a%25.avsc"
+unusable 'a%25.avsc has the subject of a%.avsc'
+rm "$scratch/odd/aaa.avsc"
+unusable "no .avsc in $scratch/odd"
+if [ "$(id -u)" = 0 ]; then # only root makes a device
+  mknod "$scratch/odd/device.avsc" c 1 5
+  unusable "device.avsc isn't a regular file"
+fi
+
+# A link inside the folder, lines of a Windows editor, and a request that is too large: both read the same.
+ln -s aaa.avsc "$scratch/odd/linked.avsc"
+printf '{"type":"fixed",\r\n"name":"Windows","size":1}\r\n' >"$scratch/odd/windows.avsc"
+register 0 "$scratch/odd" "$url" --commit abc123
+check 0 'aaa.avsc: already version 1 of aaa
+linked.avsc: already version 1 of linked
+windows.avsc: already version 1 of windows' "$scratch/odd" "$url"
+head -c 1040000 /dev/zero | tr '\0' '\n' >"$scratch/odd/zz.avsc" # escaped, it is a request of 2 MB
+check 1 'aaa.avsc: already version 1 of aaa
+linked.avsc: already version 1 of linked
+windows.avsc: already version 1 of windows
+zz.avsc: too large for the registry' "$scratch/odd" "$url"
+register 1 "$scratch/odd" "$url" --commit abc124
+
+# A key has something that only the job knows. So nobody else can use it up. A repeated job uses the same keys.
+export HOME=$scratch/home
+mkdir "$HOME"
+(umask 077 && echo 'machine 127.0.0.1 login job password secret' >"$HOME/.netrc")
+key=$(printf 'abc125\n%s' "$scratch/good/orders-value.avsc" | sha256sum | cut -d ' ' -f 1)
+curl -s -o /dev/null -H "$key_field: $key" -X PUT -d '{"compatibility":"NONE"}' "$url/config/burnt"
+send DELETE /subjects/orders-value/versions/3 ''
+register 0 "$scratch/good" "$url" --commit abc125
+check_versions orders-value '[1,4]'
+send DELETE /subjects/orders-value/versions/4 ''
+register 0 "$scratch/good" "$url" --commit abc125
+check_versions orders-value '[1]'
+(umask 077 && echo 'machine 127.0.0.1 login job password another' >"$HOME/.netrc")
+register 0 "$scratch/good" "$url" --commit abc125
+check_versions orders-value '[1,5]'
+chmod 644 "$HOME/.netrc"
+register 2 "$scratch/good" "$url" --commit abc126
+grep -q 'too permissive' "$scratch/errors" || fail "a password that all can read: $(cat "$scratch/errors")"
+rm "$HOME/.netrc"
+
+# A repeated request prints one body.
+port=$(free_port)
+python3 "$examples/check-schemas/busy.py" "$port" &
+started+=("$!")
+for _ in $(seq 100); do
+  (exec 3<>"/dev/tcp/127.0.0.1/$port") 2>/dev/null && break
+  sleep 0.1
+done
+rm -rf "$scratch/odd"/{linked,windows,zz}.avsc
+register 0 "$scratch/odd" "http://127.0.0.1:$port" --commit abc123
+[ "$(cat "$scratch/table")" = "$(printf '%-30s %-30s registered  {"id":7,"more":"\\x1b[2J"}' aaa.avsc aaa)" ] ||
+  fail "after a repeated request: $(cat "$scratch/table")"
+
+# The workflow: a pull request gets another secret than the registration, which has an environment. Its commands.
 workflow=$examples/ci/schemas.yml
 [ "$(wc -l <"$workflow")" -le 30 ] || fail "the workflow is longer than 30 lines"
+/usr/bin/python3 - "$workflow" <<'PYTHON' || fail "the workflow's secrets are wrong"
+import re, sys, yaml
+jobs = yaml.safe_load(open(sys.argv[1]))["jobs"]
+secrets = {name: set(re.findall(r"secrets\.(\w+)", str(job))) for name, job in jobs.items()}
+assert secrets == {"check": {"NETRC_READ"}, "register": {"NETRC_REGISTER"}}, secrets
+assert "environment" in jobs["register"] and "environment" not in jobs["check"]
+assert jobs["check"]["if"] == "github.event_name == 'pull_request'" and jobs["register"]["if"] == "github.event_name == 'push'"
+PYTHON
 mkdir "$scratch/job"
 ln -s "$scratch/good" "$scratch/job/schemas"
 ln -s "$examples" "$scratch/job/tools"
-sed -n "s/^ *run: \(tools.*\)/\1/p" "$workflow" | sed "s,\\\${{ vars.REGISTRY_URL }},$url," >"$scratch/job/commands"
+sed -n "s/^ *- run: \(tools.*\)/\1/p" "$workflow" | sed "s,\\\${{ vars.REGISTRY_URL }},$url," >"$scratch/job/commands"
 [ "$(wc -l <"$scratch/job/commands")" = 2 ] || fail "the workflow hasn't two commands"
 (cd "$scratch/job" && GITHUB_SHA=fed789 bash -e commands) || fail "a command of the workflow failed"
 

@@ -1,7 +1,7 @@
 #!/usr/bin/env python3
 """Makes the usual calls of both clients of Confluent's Python package, and compares each response.
 
-    /usr/bin/python3 examples/clients/confluent.py URL [PREFIX]     PREFIX of the subjects, which must be unused
+    /usr/bin/python3 examples/clients/confluent.py URL [PREFIX [gateway]]     PREFIX of the subjects, which must be unused
 """
 import logging
 import sys
@@ -60,7 +60,16 @@ def set_mode(url, subject, mode):
     check_equal({"mode": mode}, requests.get(f"{url}/mode/{subject}").json())
 
 
-def test_client(url, prefix):
+def check_version_minus_one(client, subject, latest, is_gateway):
+    """`-1` is the latest version through the gateway, otherwise it is refused."""
+    if is_gateway:
+        found = client.get_version(subject, -1)
+        check_equal((latest, 2), (found.schema_id, found.version))
+    else:
+        check_rejected(422, 42202, client.get_version, subject, -1)
+
+
+def test_client(url, prefix, is_gateway):
     """Tests `SchemaRegistryClient`, which the serializers of the newer interface use."""
     subject, other = f"{prefix}orders-value", f"{prefix}a/b ü"
     first, second, third = (Schema(record(f"{prefix}Order", ID, *more), "AVRO") for more in ((), (NOTE,), (TOTAL,)))
@@ -84,7 +93,7 @@ def test_client(url, prefix):
         check_equal(1, client.lookup_schema(subject, first).version)
         check_rejected(404, 40403, client.lookup_schema, subject, third)
         check_rejected(404, 40402, client.get_version, subject, 7)
-        check_rejected(422, 42202, client.get_version, subject, -1)
+        check_version_minus_one(client, subject, two, is_gateway)
 
         check_equal(two, client.register_schema(other, second))
         check_equal([1], client.get_versions(other))
@@ -160,7 +169,7 @@ def test_producer_without_registration(url, prefix):
 def main():
     url, prefix = sys.argv[1], sys.argv[2] if len(sys.argv) > 2 else ""
     logging.disable()
-    test_client(url, prefix)
+    test_client(url, prefix, "gateway" in sys.argv[3:])
     test_cached_client(url, prefix)
     test_producer_without_registration(url, prefix)
     print(f"confluent-kafka {confluent_kafka.version()[0]}: both clients got the right responses")

@@ -2,7 +2,7 @@
 # Copies a stand-in for Confluent's registry (standin.py) into avroreg with from-confluent.py, which is killed five times on the
 # way, and compares all responses of both. Further cases: a registry that is busy, or lists no schemas; ids that begin late; a
 # terminal; versions that avroreg doesn't accept; lost ids, and two ids of one schema; https and a password; a copy of an
-# avroreg. The status is 0 if no response differs.
+# avroreg; broken registries (malformed.py). The status is 0 if no response differs.
 #
 #   AVROREG=PROGRAM examples/from-confluent/try.sh [VERSIONS] [SUBJECTS]     default: 2,000 and 300
 set -u
@@ -220,5 +220,10 @@ check_new "$url"
 move 0 --fill-ids "$first" "$url"
 tail -n 1 "$scratch/moved"
 compare "$first" "$url" "$avroreg"
+
+printf '\nBroken registries: malformed responses, endless lists, gaps of a million\n'
+start_server "$scratch/broken.db"
+python3 "$here/malformed.py" "$url" || fail "a broken registry isn't handled"
+check_new "$url"
 
 printf '\nNo response differs.\n'

@@ -10,31 +10,7 @@ source "$(dirname "$0")/../serving.sh"
 need wrk curl /usr/sbin/nginx
 rounds=${1:-7}
 seconds=${2:-2}
-
-cat >"$scratch/requests.lua" <<'LUA'
--- A client's requests. Argument 1 is their kind: id, latest, lookup, known or new. Argument 2 makes the names of a run unique.
-local kind, run, number, failed = nil, nil, 0, 0
-local function schema(name)
-  local fields = {}
-  for at = 1, 20 do fields[at] = string.format([[{\"name\":\"field_%d\",\"type\":[\"null\",\"string\"],\"default\":null}]], at) end
-  return string.format([[{"schema":"{\"type\":\"record\",\"name\":\"%s\",\"fields\":[%s]}"}]], name, table.concat(fields, ","))
-end
-function init(arguments)
-  kind, run = arguments[1], arguments[2]
-end
-function request()
-  number = number + 1
-  if kind == "id" then return wrk.format("GET", "/schemas/ids/1") end
-  if kind == "latest" then return wrk.format("GET", "/subjects/orders/versions/latest") end
-  if kind == "lookup" then return wrk.format("POST", "/subjects/orders", nil, schema("Order")) end
-  if kind == "known" then return wrk.format("POST", "/subjects/orders/versions", nil, schema("Order")) end
-  return wrk.format("POST", "/subjects/" .. run .. "_" .. number .. "/versions", nil, schema("R" .. run .. "_" .. number))
-end
-function done(summary)
-  local wrong = summary.errors.status + summary.errors.read + summary.errors.write + summary.errors.timeout + summary.errors.connect
-  io.write(string.format("RATE %.0f %d\n", summary.requests / summary.duration * 1e6, wrong))
-end
-LUA
+requests=$examples/nginx/requests.lua
 
 start_server "$scratch/registry.db"
 alone=$url
@@ -46,14 +22,14 @@ runs=0
 measure() {
   local found
   runs=$((runs + 1))
-  found=$(wrk -t 1 -c "$3" -d "${seconds}s" --timeout 30s -s "$scratch/requests.lua" "$2" -- "$1" "r$runs" | grep '^RATE ')
+  found=$(wrk -t 1 -c "$3" -d "${seconds}s" --timeout 30s -s "$requests" "$2" -- "$1" "r$runs" | grep '^RATE ')
   [ "${found##* }" = 0 ] || fail "$1 at $2 with $3 clients: $found"
   found=${found#RATE }
   echo "${found% *}" >>"$scratch/$1-$4"
 }
 median() { sort -n "$1" | sed -n "$(((rounds + 1) / 2))p"; }
 
-wrk -t 1 -c 1 -d 1s -s "$scratch/requests.lua" "$alone" -- known first >/dev/null
+wrk -t 1 -c 1 -d 1s -s "$requests" "$alone" -- known first >/dev/null
 echo "load: $(cut -d' ' -f1-3 /proc/loadavg)"
 for _ in $(seq "$rounds"); do
   for kind in id latest lookup known new; do

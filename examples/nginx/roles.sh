@@ -11,7 +11,7 @@ here=$examples/nginx
 for user in admin:a ci:c viewer:v nobody:n Admin:y; do
   echo "${user%:*}:$(openssl passwd -apr1 "${user#*:}")"
 done >"$scratch/avroreg.users"
-users="s,# \(auth_\),\1,; s,/etc/nginx/avroreg.users,$scratch/avroreg.users,"
+users="s/#users //; s,/etc/nginx/avroreg.users,$scratch/avroreg.users,"
 
 # bypass NAME EDIT OPTION..: runs bypass.py with a configuration that sed's EDIT changes first. Its output is $scratch/NAME.out.
 bypass() {
@@ -76,7 +76,7 @@ check_raw() {
 try_bypass() {
   bypass plain "" --share "$1" || fail "a message got past the roles: $(cat "$scratch/plain.out")"
   cat "$scratch/plain.out"
-  check_detected roles_of_decoded_paths 's/request_uri" \$registry_action/uri" $registry_action/; s/request_uri" \$is_own_subject/uri" $is_own_subject/'
+  check_detected roles_of_decoded_paths 's/registry_target" \$registry_action/uri" $registry_action/; s/registry_target" \$is_own_subject/uri" $is_own_subject/'
   check_detected any_subject_is_registered 's/"~^register:register:1\$"/"~^register:register:"/'
   check_detected the_prefix_is_looked_for_anywhere 's, /subjects/\\1", /subjects/[^/]*\\1",'
   check_detected unknown_requests_are_reads 's/default  *other;/default read;/'
@@ -201,7 +201,7 @@ try_limit_of_connections() {
   start_nginx connections "${url##*:}" "$users; s/connections 50/connections 3/; s/\(client_body_timeout *\)10s/\160s/"
   for _ in 1 2 3; do
     exec {wire}<>"/dev/tcp/127.0.0.1/$front"
-    printf 'POST /subjects/other HTTP/1.1\r\nHost: x\r\nAuthorization: Basic %s\r\nContent-Length: 10\r\n\r\n' "$(printf viewer:v | base64)" >&"$wire"
+    printf 'POST /subjects/other HTTP/1.1\r\nHost: 127.0.0.1\r\nAuthorization: Basic %s\r\nContent-Length: 10\r\n\r\n' "$(printf viewer:v | base64)" >&"$wire"
     wires+=("$wire")
   done
   sleep 1
@@ -214,7 +214,7 @@ try_limit_of_connections() {
 }
 
 try_errors() {
-  local close='Host: x\r\nConnection: close\r\n\r\n' long
+  local close='Host: 127.0.0.1\r\nConnection: close\r\n\r\n' long
   long=$(head -c 9000 /dev/zero | tr '\0' x)
   check_raw 400 'hello\r\n\r\n'
   check_raw 400 'GET /config HTTP/1.1\r\nConnection: close\r\n\r\n'

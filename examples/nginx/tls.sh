@@ -14,7 +14,7 @@ tls=$(free_port)
 
 start_server "$scratch/tls.db"
 start_nginx tls "${url##*:}" \
-  "s,# \(listen\|ssl_\|auth_\),\1,; s,listen 443,listen 127.0.0.1:$tls,; s,/etc/nginx/avroreg,$scratch/avroreg,"
+  "s/#tls //; s/#users //; s,listen 443,listen 127.0.0.1:$tls,; s,/etc/nginx/avroreg,$scratch/avroreg,"
 
 answer=$(curl -s -o /dev/null -w '%{http_code}' --cacert "$scratch/avroreg.crt" "https://127.0.0.1:$tls/subjects")
 [ "$answer" = 401 ] || fail "without a password, the status was $answer"

@@ -1,5 +1,5 @@
 #!/usr/bin/env bash
-# Boots three trees of Debian 12 under systemd, and sets them up with the commands of docs/running.md and README.md. Tests the
+# Boots three trees of Debian 12 under systemd, and sets them up with the commands of docs/install.md and README.md. Tests the
 # units and the operations on them. Prints a line for each check. The last line is 'N passed, M failed'.
 #
 #   AVROREG=PROGRAM examples/replicas/booted.sh
@@ -19,7 +19,7 @@ flock -n 9 || fail "this script runs already on this machine"
 rmdir "$scratch"
 scratch=$(mktemp -d /var/tmp/avroreg-booted.XXXXXX)
 bridge=avrboot
-packages=systemd,systemd-sysv,dbus,curl,procps,iproute2,python3,etcd-server,openssl,nginx-light
+packages=systemd,systemd-sysv,dbus,curl,procps,iproute2,python3,python3-h11,etcd-server,openssl,nginx-light
 declare -A leaders=() containers=()
 container=
 
@@ -41,7 +41,7 @@ tree() {
   echo "$node" >"$scratch/$node/etc/hostname"
   mkdir -p "$to/crates/avroreg/out"
   cp "$program" "$to/crates/avroreg/out/avroreg"
-  cp -r "$top/packaging" "$top/examples" "$scratch/tls" "$to/"
+  cp -r "$top/packaging" "$top/admin" "$top/examples" "$scratch/tls" "$to/"
   cat >"$to/etcd.env" <<ENV
 NODE=$node
 PEER=https://10.78.0.${node#n}:2380
@@ -50,7 +50,7 @@ STATE=new
 ENV
   {
     echo "set -eux; cd /root/avroreg; ip addr add 10.78.0.${node#n}/24 dev host0; ip link set host0 up"
-    block "$top/docs/running.md" "**Another Linux with systemd.**" | sed 's/^curl /curl --retry 9 --retry-connrefused -s -f /'
+    block "$top/docs/install.md" "## Another Linux"
     block "$top/examples/replicas/README.md" "## Set up three nodes" |
       sed "s,tls/n1\.,tls/$node.,g; s,^editor \(.*\),cp etcd.env \1,; s,\(/etc/avroreg/\)  .*,\1 \&\& sed -i 's/^node = .*/node = \"$node\"/' /etc/avroreg/relay.toml," |
       sed '/^avroreg-cluster/d'
@@ -94,6 +94,13 @@ cluster() {
 }
 is_healthy() { on "$1" curl -s -f -m 10 http://127.0.0.1:8082/health; }
 user_of() { [ "$(on "$1" ps -o user:20= -p "$(on "$1" systemctl show -P MainPID "$2")")" = "$3" ]; }
+# owner_and_mode NODE PATH USER: whether the file is this user's alone.
+owner_and_mode() { [ "$(on "$1" stat -c '%U %a' "$2")" = "$3 600" ]; }
+# fails_to_start NODE: whether avroreg doesn't start without its file, and starts with it again.
+fails_to_start() {
+  on "$1" bash -c 'cd /var/lib/avroreg && systemctl stop avroreg && mkdir /root/aside && mv registry.db* /root/aside/ && ! timeout 20 systemctl start avroreg &&
+    [ ! -e registry.db ]; outcome=$?; systemctl stop avroreg; mv /root/aside/* . && rmdir /root/aside; systemctl reset-failed avroreg; systemctl start avroreg && exit $outcome'
+}
 fingerprints() {
   local found
   found=$(for node in n1 n2 n3; do on "$node" avroreg-cluster fingerprint || echo none; done | tee /dev/stderr | sort -u)
@@ -124,6 +131,8 @@ for node in n1 n2 n3; do
     check "$node: ${pair%=*} runs as its own user" user_of "$node" "${pair%=*}" "${pair#*=}"
   done
   check "$node: nginx may read from avroreg" eventually 30 on "$node" runuser -u www-data -- test -f /run/avroreg-relay/local-reads
+  check "$node: etcd has no port for clients" on "$node" bash -c '! ss -ltn | grep -q ":2379 "'
+  check "$node: others can't use its socket" on "$node" bash -c '[ -S /run/avroreg-etcd/client:0 ] && ! runuser -u www-data -- curl -s -m 5 --unix-socket /run/avroreg-etcd/client:0 http://etcd/version'
   check "$node: the relay starts after both" on "$node" bash -c '[[ " $(systemctl show -P After avroreg-relay) " == *" etcd.service "*"avroreg.service "* || " $(systemctl show -P After avroreg-relay) " == *" avroreg.service "*"etcd.service "* ]]'
 done
 check "a write at n1" eventually 60 register n1 a 1
@@ -133,6 +142,11 @@ for service in etcd avroreg avroreg-relay; do
   check "$service of n1 is killed, and systemd starts it" on n1 systemctl kill -s KILL "$service"
   check "n1 is healthy again" eventually 120 is_healthy n1
 done
+check "a relay that hangs is killed, and nginx reads from avroreg no more" on n1 bash -c 'before=$(systemctl show -P MainPID avroreg-relay)
+  kill -STOP "$before"; for _ in $(seq 300); do [ "$(systemctl show -P MainPID avroreg-relay)" = "$before" ] || exit 0; sleep 0.1; done; exit 1'
+check "n1 is healthy again" eventually 120 is_healthy n1
+check "avroreg of n1 doesn't start without its file" fails_to_start n1
+check "n1 is healthy with it" eventually 120 is_healthy n1
 off n1
 check "n1 has no power, and n2 accepts a write" eventually 60 register n2 c 3
 check "n1 boots" boot n1 || exit 1
@@ -145,6 +159,8 @@ check "n1 is healthy after it" eventually 120 is_healthy n1
 cp -r "$scratch/n1/root/backup" "$scratch/n2/root/"
 check "n2 is rebuilt from it" cluster n2 restore /root/backup
 check "n2 is healthy after it" eventually 120 is_healthy n2
+check "the restored database is avroreg's alone" owner_and_mode n2 /var/lib/avroreg/registry.db avroreg
+check "its position is the relay's alone" owner_and_mode n2 /var/lib/avroreg-relay/position avroreg-relay
 check "writes are paused" cluster n3 pause
 for node in n1 n2 n3; do
   # The same program with one more byte, so that the check sees which one runs.

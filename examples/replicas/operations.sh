@@ -8,7 +8,7 @@ source "$(dirname "$0")/../serving.sh"
 source "$examples/replicas/breaks.sh"
 here=$examples/replicas
 python=/usr/bin/python3
-packages python3 etcd-server openssl nginx
+packages python3 python3-h11 etcd-server openssl curl nginx
 [ -x "$avroreg" ] || fail "there is no program $avroreg; build it, or name it in AVROREG"
 
 if [ "${1:-}" = breaks ]; then

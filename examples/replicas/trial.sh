@@ -13,7 +13,7 @@ source "$(dirname "$0")/../serving.sh"
 source "$examples/replicas/breaks.sh"
 here=$examples/replicas
 python=/usr/bin/python3
-packages python3 etcd-server openssl curl iproute2 e2fsprogs
+packages python3 python3-h11 etcd-server openssl curl iproute2 e2fsprogs
 [ -x "$avroreg" ] || fail "there is no program $avroreg; build it, or name it in AVROREG"
 [ "$(id -u)" = 0 ] || fail "network namespaces and mounts need root"
 exec 9>/run/avroreg-trial.lock

@@ -7,7 +7,7 @@ set -u
 source "$(dirname "$0")/../serving.sh"
 here=$examples/replicas
 python=/usr/bin/python3
-packages python3 etcd-server openssl curl
+packages python3 python3-h11 etcd-server openssl curl
 [ -x "$avroreg" ] || fail "there is no program $avroreg; build it, or name it in AVROREG"
 cluster=$scratch/cluster
 local_nodes() { "$python" "$here/trial/local.py" "$cluster" "$@" || fail "local.py $* failed"; }

@@ -29,18 +29,19 @@ import org.codehaus.jackson.node.DoubleNode;
  * methods, paths, parameters, fields and bodies come from the client's documentation and source; the client itself isn't run.
  * Avro's own Java library makes and parses the schemas, and encodes and decodes the messages.
  *
- * <pre>java -cp avro.jar:jackson-core-asl.jar:jackson-mapper-asl.jar:slf4j-api.jar examples/clients/java/Confluent.java URL [PREFIX [nginx]]</pre>
+ * <pre>java -cp avro.jar:jackson-core-asl.jar:jackson-mapper-asl.jar:slf4j-api.jar examples/clients/java/Confluent.java URL [PREFIX [nginx|gateway]]</pre>
  */
 public final class Confluent {
     private static final String TYPE = "application/vnd.schemaregistry.v1+json";
     private static final ObjectMapper JSON = new ObjectMapper();
 
     private final String url;
-    private final boolean isBehindNginx;
+    private final String front;
 
-    private Confluent(String url, boolean isBehindNginx) {
+    /** `front` is `nginx`, `gateway`, or empty for avroreg alone. */
+    private Confluent(String url, String front) {
         this.url = url;
-        this.isBehindNginx = isBehindNginx;
+        this.front = front;
     }
 
     /** A response: its status and its body as JSON. */
@@ -141,13 +142,13 @@ public final class Confluent {
                 == SchemaCompatibility.SchemaCompatibilityType.COMPATIBLE;
             JsonNode response = call("POST", check + "/latest?normalize=false&verbose=false", bodyOf(schema)).json();
             checkEqual(isCompatible, response.get("is_compatible").asBoolean());
-            // avroreg sends no messages for a verbose check, so the client would accept every schema: nginx rejects such a check
-            if (!isBehindNginx) {
-                response = call("POST", check + "?normalize=false&verbose=true", bodyOf(schema)).json();
-                checkEqual("{\"is_compatible\":" + isCompatible + "}", response.toString());
-            }
+            checkVerbose(check, schema, isCompatible);
         }
-        checkRejected(404, call("POST", check + "/?normalize=false&verbose=false", bodyOf(second)));
+        if (front.equals("gateway")) {
+            checkReads(subject);
+        } else {
+            checkRejected(404, call("POST", check + "/?normalize=false&verbose=false", bodyOf(second)));
+        }
         checkRejected(409, call("POST", "/subjects/" + subject + "/versions?normalize=false", bodyOf(incompatible)));
 
         checkEqual("FULL", call("PUT", "/config/" + subject, "{\"compatibility\":\"FULL\"}").json().get("compatibility").asText());
@@ -162,6 +163,36 @@ public final class Confluent {
         checkEqual("[1,2]", call("GET", "/subjects/" + subject + "/versions?deleted=true", null).json().toString());
         checkEqual("[2]", call("DELETE", "/subjects/" + subject + "?permanent=false", null).json().toString());
         checkEqual("[1,2]", call("DELETE", "/subjects/" + subject + "?permanent=true", null).json().toString());
+    }
+
+    /**
+     * The client's `testCompatibilityVerbose`, which the Maven plugin calls too: a schema is compatible if there are no messages.
+     * avroreg alone sends none, so the client would accept every schema. nginx rejects such a check.
+     */
+    private void checkVerbose(String check, Schema schema, boolean isCompatible) throws IOException {
+        Response response = call("POST", check + "?normalize=false&verbose=true", bodyOf(schema));
+        if (front.isEmpty()) {
+            checkEqual("{\"is_compatible\":" + isCompatible + "}", response.json().toString());
+        } else if (front.equals("nginx")) {
+            checkRejected(422, response);
+        } else {
+            for (String path : new String[] {check + "/", check + "/latest", check}) {
+                JsonNode found = call("POST", path + "?normalize=false&verbose=true", bodyOf(schema)).json();
+                checkEqual(isCompatible, found.get("messages").size() == 0);
+                checkEqual(isCompatible, found.get("is_compatible").asBoolean());
+            }
+        }
+    }
+
+    /** Reads that only the gateway serves: `getAllSubjectsById`, `getSchemas`, `getAllSubjectsByPrefix`, `getAllContexts` and others. */
+    private void checkReads(String subject) throws IOException {
+        int id = call("GET", "/subjects/" + subject + "/versions/1", null).json().get("id").asInt();
+        checkEqual("[\"" + subject + "\"]", call("GET", "/schemas/ids/" + id + "/subjects?deleted=false", null).json().toString());
+        checkEqual(2, call("GET", "/schemas?subjectPrefix=" + subject + "&deleted=false&latestOnly=false", null).json().size());
+        checkEqual("[\"" + subject + "\"]", call("GET", "/subjects?deleted=false&subjectPrefix=:*:" + subject, null).json().toString());
+        checkEqual("[]", call("GET", "/subjects/" + subject + "/versions/1/referencedby", null).json().toString());
+        checkEqual("[\".\"]", call("GET", "/contexts", null).json().toString());
+        checkEqual("record", call("GET", "/schemas/ids/" + id + "/schema", null).json().get("type").asText());
     }
 
     /** Default values as Avro's Java library prints them, such as the default of a DOUBLE column that Debezium copies. */
@@ -201,7 +232,7 @@ public final class Confluent {
         Schema first = order(prefix, "");
         Schema second = order(prefix, ",{\"name\":\"note\",\"type\":\"string\",\"default\":\"\"}");
         Schema incompatible = order(prefix, ",{\"name\":\"total\",\"type\":\"double\"}");
-        Confluent registry = new Confluent(arguments[0], arguments.length > 2);
+        Confluent registry = new Confluent(arguments[0], arguments.length > 2 ? arguments[2] : "");
         registry.checkMessages(subject, first, second);
         registry.checkAdministration(subject, first, second, incompatible);
         registry.checkNumbers(prefix);

@@ -27,6 +27,9 @@ class Cluster:
             print(f"{name}: revision {position['revision']}, digest {position['digest']}")
         base, pause = await self.log.base(), await self.log.value(log.PAUSE)
         print(f"log: {await self.entries()} entries, newest {await self.log.newest()}, trimmed up to {await self.log.trimmed()}")
+        for revision, skip in sorted((await self.log.skips()).items()):
+            votes = ", ".join(f"{name} {vote}" for name, vote in sorted(skip.votes.items()))
+            print(f"revision {revision}: {skip.decision or 'to be skipped, if every node votes for it'} ({skip.reason}) {votes}")
         print(f"began from {f'a file, at revision {base.revision}' if base else 'nothing'}; writes {'paused' if pause else 'go on'}")
 
     async def entries(self) -> int:
@@ -71,7 +74,7 @@ class Cluster:
         found = await self.log.value(log.TRIMMED)
         if found and upto < int(found[1]):
             raise Failed(f"a node is at {upto}, and the log was trimmed up to {int(found[1])}: rebuild or forget that node first")
-        unchanged = {"key": etcd.encode(log.TRIMMED), "target": "MOD", "result": "EQUAL", "mod_revision": str(found[0] if found else 0)}
+        unchanged = etcd.is_unchanged(log.TRIMMED, found[0] if found else 0)
         record = {"request_put": etcd.put(log.TRIMMED, b"%d" % upto)}
         recorded = await self.etcd.call("/v3/kv/txn", {"compare": [unchanged], "success": [record]})
         if not recorded.get("succeeded"):

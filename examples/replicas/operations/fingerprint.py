@@ -6,12 +6,18 @@ that row, if a read returns it.
 import hashlib
 import http.client
 import json
+import time
 import urllib.parse
 from typing import Iterator
 
 from relay.config import Address, Config
 
 ATTEMPTS = 20
+RETRY_SECONDS = 1.0
+
+
+class Unanswered(Exception):
+    """This node doesn't answer a read now."""
 
 
 class Reader:
@@ -19,17 +25,22 @@ class Reader:
         self.connection = http.client.HTTPConnection(*address, timeout=60)
 
     def get(self, target: str) -> tuple[int, bytes]:
-        self.connection.request("GET", target)
+        self.connection.request("GET", target, headers={"Cache-Control": "max-stale"})
         response = self.connection.getresponse()
         return response.status, response.read()
+
+    def read(self, target: str) -> tuple[str, int, bytes]:
+        """The target, and the response of this node's avroreg."""
+        status, body = self.get(target)
+        if status >= 500:
+            raise Unanswered(f"a read got {status}: {body[:200]!r}")
+        return target, status, body
 
 
 def all_reads(reader: Reader) -> Iterator[tuple[str, int, bytes]]:
     """The target of each read, with its response."""
 
-    def read(target: str) -> tuple[str, int, bytes]:
-        return target, *reader.get(target)
-
+    read = reader.read
     subjects = read("/subjects?deleted=true")
     yield subjects
     yield from map(read, ("/config", "/mode", "/subjects"))
@@ -50,16 +61,26 @@ def all_reads(reader: Reader) -> Iterator[tuple[str, int, bytes]]:
 
 
 def fingerprint(config: Config) -> tuple[int, str]:
-    """The revision and the hash. If an entry was applied meanwhile, it reads again."""
+    """The revision and the hash. If an entry was applied meanwhile, or a read got no answer, it reads again."""
+    fault = "writes come faster than this node can be read: pause them first"
     for _ in range(ATTEMPTS):
         before = revision(config.admin)
-        found = hashlib.sha256()
-        for target, status, body in all_reads(Reader(config.listen)):
-            for part in (target.encode(), b"%d" % status, body):
-                found.update(b"%d:%s" % (len(part), part))
-        if revision(config.admin) == before:
-            return before, found.hexdigest()[:32]
-    raise TimeoutError("writes come faster than this node can be read: pause them first")
+        try:
+            found = hash_of(all_reads(Reader(config.listen)))
+            if revision(config.admin) == before:
+                return before, found
+        except Unanswered as unanswered:
+            fault = str(unanswered)
+            time.sleep(RETRY_SECONDS)
+    raise TimeoutError(fault)
+
+
+def hash_of(reads: Iterator[tuple[str, int, bytes]]) -> str:
+    found = hashlib.sha256()
+    for target, status, body in reads:
+        for part in (target.encode(), b"%d" % status, body):
+            found.update(b"%d:%s" % (len(part), part))
+    return found.hexdigest()[:32]
 
 
 def revision(admin: Address) -> int:

@@ -6,6 +6,7 @@ import sys
 
 from operations.cluster import Cluster, Failed
 from operations.node import Node
+from operations.skip import Skipping
 from relay import config
 from relay.faults import Misconfigured, Unavailable
 from relay.main import CONFIG
@@ -38,6 +39,9 @@ def parse_arguments() -> argparse.Namespace:
     upgrade = commands.add_parser("upgrade", help="replace this node's avroreg, while writes are paused")
     upgrade.add_argument("program", type=pathlib.Path)
     upgrade.add_argument("--migrate", action="store_true", help="run the new program's migrate on the database")
+    skip = commands.add_parser("skip", help="don't apply an entry that blocks every node, or that no relay wrote; run it on each node")
+    skip.add_argument("revision", type=int, help="the revision that /health of each node names")
+    skip.add_argument("--reason", required=True, help="a text for the record, which status prints")
     commands.add_parser("fingerprint", help="print the revision and a hash of all of this node's responses to reads, to compare with other nodes")
     return parser.parse_args()
 
@@ -67,6 +71,8 @@ async def run(options: argparse.Namespace, settings: config.Config) -> None:
             await node.adopt(options.database)
         case "upgrade":
             await node.upgrade(options.program, options.migrate)
+        case "skip":
+            await Skipping(settings).skip(options.revision, options.reason)
         case "fingerprint":
             await node.show_fingerprint()
 
@@ -78,6 +84,6 @@ def main() -> None:
     except Misconfigured as fault:
         print(f"avroreg-cluster: {fault}", file=sys.stderr)
         sys.exit(2)
-    except (Failed, Unavailable, OSError) as fault:
+    except (Failed, Unavailable, OSError, ValueError) as fault:
         print(f"avroreg-cluster: {fault}", file=sys.stderr)
         sys.exit(1)

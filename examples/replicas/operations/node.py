@@ -1,6 +1,5 @@
 """Operations on one node: its database, its position, its program. They run on that node, as root."""
 import asyncio
-import hashlib
 import json
 import os
 import pathlib
@@ -8,19 +7,12 @@ import shutil
 import subprocess
 
 from operations.cluster import Cluster, Failed
+from operations.files import File, check_parents
 from operations.fingerprint import fingerprint
 from relay import log, position
 from relay.config import Config
+from relay.faults import Misconfigured
 from relay.position import Position
-
-
-def wal(path: pathlib.Path) -> pathlib.Path:
-    return path.with_name(path.name + "-wal")
-
-
-def digest_of(path: pathlib.Path) -> str:
-    with open(path, "rb") as stream:
-        return hashlib.file_digest(stream, "sha256").hexdigest()[:32]
 
 
 class Node:
@@ -43,84 +35,117 @@ class Node:
         self.run(*self.config.services.start_registry)
         self.run(*self.config.services.start_relay)
 
-    def merge(self, database: pathlib.Path) -> None:
-        """Makes avroreg copy the write-ahead log into the database. Nothing else has the file open."""
-        if wal(database).exists():
-            self.run(str(self.config.program), "list", "--db", str(database), "subjects")
+    def restart_relay(self) -> None:
+        self.run(*self.config.services.stop_relay)
+        self.run(*self.config.services.start_relay)
 
-    def install(self, source: pathlib.Path, at: Position) -> None:
-        """Installs a database and its position, while the services are stopped.
+    @property
+    def database(self) -> File:
+        return File(self.config.database)
+
+    @property
+    def position(self) -> File:
+        return File(self.config.position)
+
+    def saved_position(self) -> Position:
+        text = self.position.read()
+        try:
+            return position.parse(text) if text else Position()
+        except ValueError as fault:
+            raise Misconfigured(f"{self.config.position}: {fault}; remove it, or restore this node from a backup") from fault
+
+    def merge(self, database: File) -> None:
+        """Makes avroreg copy the write-ahead log into the database. Nothing else has the file open."""
+        if database.next_to("-wal").exists():
+            database.run(str(self.config.program), "list", "--db", str(database.path), "subjects")
+
+    def install(self, new: File, at: Position) -> None:
+        """Puts a database and its position in place, while the services are stopped. A new database lies next to the old one.
 
         It removes the old position first. So after a crash, no position is newer than its database.
         """
-        self.config.position.unlink(missing_ok=True)
-        new = self.config.database.with_name(self.config.database.name + ".new")
-        shutil.copyfile(source, new)
-        os.chmod(new, 0o600)
-        if self.config.owner:
-            shutil.chown(new, self.config.owner)
-        wal(self.config.database).unlink(missing_ok=True)
-        os.replace(new, self.config.database)
+        database, old, prepared = self.database, self.position, self.position.next_to(".restored")
+        prepared.write(position.text_of(at))
+        old.remove()
+        if new.path != database.path:
+            database.next_to("-wal").remove()
+            new.rename(database)
         os.sync()
-        self.save_position(at)
-
-    def save_position(self, at: Position) -> None:
-        """Saves a position. The file gets the owner of its folder, the relay's user."""
-        position.save(self.config.position, at)
-        if self.config.owner:
-            folder = self.config.position.parent.stat()
-            os.chown(self.config.position, folder.st_uid, folder.st_gid)
+        prepared.rename(old)
 
     # --- Operations
 
     async def backup(self, folder: pathlib.Path) -> None:
         """Copies the database and its position. This node's services are stopped during the copy; the other nodes go on."""
+        folder = folder.absolute()
+        check_parents(folder)
         folder.mkdir(mode=0o700)
-        copy = folder / "registry.db"
+        copy = File(folder / "registry.db")
         self.stop()
         try:
-            at = position.load(self.config.position)
-            for source, target in ((self.config.database, copy), (wal(self.config.database), wal(copy))):
-                if source.exists():
-                    shutil.copyfile(source, target)
+            at = self.saved_position()
+            for suffix in ("", "-wal"):
+                if (source := self.database.next_to(suffix)).exists():
+                    copy.next_to(suffix).copy_from(source)
+        except Failed:
+            shutil.rmtree(folder)
+            raise
         finally:
             self.start()
         self.merge(copy)
         position.save(folder / "position", at)
-        (folder / "backup.json").write_text(json.dumps({"node": self.config.node, "revision": at.revision, "sha256": digest_of(copy)}))
+        facts = {"node": self.config.node, "revision": at.revision, "sha256": copy.digest()}
+        File(folder / "backup.json").write(json.dumps(facts).encode())
         print(f"backup of {self.config.node} at revision {at.revision}: {folder}")
 
     async def restore(self, folder: pathlib.Path) -> None:
-        """Restores a backup of any node of this cluster. The relay applies the later entries."""
-        at = position.load(folder / "position")
-        facts = json.loads((folder / "backup.json").read_text())
-        if digest_of(folder / "registry.db") != facts["sha256"] or facts["revision"] != at.revision:
-            raise Failed(f"{folder} was changed after it was made")
+        """Restores a backup of any node of this cluster. The relay applies the later entries.
+
+        The copy is made while this node still runs. If there is no room for it, the node goes on.
+        """
+        at = position.parse(File(folder / "position").read())
+        facts = json.loads(File(folder / "backup.json").read())
         base, trimmed = await self.cluster.log.base(), await self.cluster.log.trimmed()
         if at.log not in ("", await self.cluster.log.name()):
             raise Failed("the backup is another cluster's; to start a new cluster from it: avroreg-cluster adopt")
         if at.revision < max(trimmed, base.revision if base else 0):
             raise Failed(f"the log has no entries from revision {at.revision} on: take a newer backup")
-        self.stop()
-        self.install(folder / "registry.db", at)
-        self.start()
+        new = self.database.next_to(".new")
+        new.copy_from(File(folder / "registry.db"))
+        try:
+            if new.digest() != facts["sha256"] or facts["revision"] != at.revision:
+                raise Failed(f"{folder} was changed after it was made")
+            self.replace_database(new, at)
+        finally:
+            new.remove()
         print(f"{self.config.node} goes on from revision {at.revision}")
 
-    async def adopt(self, database: pathlib.Path) -> None:
-        """Starts this node of a new cluster from a database: that of a single avroreg, or of a backup. Each node adopts the
-        same file. The log must be empty, since its entries come after the file."""
-        self.stop()
+    def replace_database(self, new: File, at: Position) -> None:
         try:
-            self.merge(database)
-            base = await self.cluster.begin_from(digest_of(database))
-            at = Position(await self.cluster.log.name(), base.revision, base.digest)
-            if database == self.config.database:
-                self.save_position(at)
-            else:
-                self.install(database, at)
+            self.stop()
+            self.install(new, at)
         finally:
             self.start()
-        print(f"{self.config.node} began from {database}, digest {base.digest}")
+
+    async def adopt(self, path: pathlib.Path) -> None:
+        """Starts this node of a new cluster from a database: that of a single avroreg, or of a backup. Each node adopts the
+        same file. The log must be empty, since its entries come after the file."""
+        source, database, new = File(path), self.database, self.database.next_to(".new")
+        is_in_place = source.path == database.path
+        try:
+            if not is_in_place:
+                self.merge(source)
+                new.copy_from(source)
+            self.stop()
+            if is_in_place:
+                self.merge(database)
+            adopted = database if is_in_place else new
+            base = await self.cluster.begin_from(adopted.digest())
+            self.install(adopted, Position(await self.cluster.log.name(), base.revision, base.digest))
+        finally:
+            new.remove()
+            self.start()
+        print(f"{self.config.node} began from {path}, digest {base.digest}")
 
     async def upgrade(self, program: pathlib.Path, is_migrated: bool) -> None:
         """Replaces this node's avroreg. Writes must be paused on all nodes, so that two versions never apply the same entry. If the
@@ -131,20 +156,21 @@ class Node:
             raise Failed("writes aren't paused: avroreg-cluster pause")
         newest = await self.cluster.log.newest()
         self.run(*self.config.services.stop_relay)
-        at = position.load(self.config.position)
+        at = self.saved_position()
         if at.revision < newest:
             self.run(*self.config.services.start_relay)
             raise Failed(f"this node is at revision {at.revision}, and the log at {newest}")
         self.run(*self.config.services.stop_registry)
         try:
-            self.merge(self.config.database)
-            shutil.copyfile(self.config.database, self.config.database.with_name("registry.db.before-upgrade"))
+            database = self.database
+            self.merge(database)
+            database.next_to(".before-upgrade").copy_from(database)
             new = self.config.program.with_name(self.config.program.name + ".new")
             shutil.copyfile(program, new)
             os.chmod(new, 0o755)
             shutil.copyfile(self.config.program, self.config.program.with_name(self.config.program.name + ".before-upgrade"))
             if is_migrated:
-                self.run(str(new), "migrate", "--db", str(self.config.database))
+                database.run(str(new), "migrate", "--db", str(database.path))
             os.replace(new, self.config.program)
         finally:
             self.start()

@@ -27,7 +27,7 @@ class Appender:
         self.log, self.patience = log, patience_seconds
         self.batch_messages, self.batch_bytes = batch_messages, batch_bytes
         self.waiting: collections.deque[Write] = collections.deque()
-        self.appended: dict[bytes, list[Write]] = {}  # the batches without responses yet, by name
+        self.appended: dict[bytes, list[asyncio.Future[Response]]] = {}  # the writers of batches without responses yet, by name
         self.has_work = asyncio.Event()
 
     async def response_to(self, message: bytes) -> Response:
@@ -40,12 +40,15 @@ class Appender:
                 return await write.response
         except TimeoutError as fault:
             raise Unavailable("no response yet") from fault
+        finally:
+            if write in self.waiting:
+                self.waiting.remove(write)
 
     def answer(self, entry: Entry, responses: list[Response]) -> None:
         """Delivers the responses to an entry that this node has applied."""
-        for write, response in zip(self.appended.pop(entry.name, []), responses):
-            if not write.response.done():
-                write.response.set_result(response)
+        for writer, response in zip(self.appended.pop(entry.name, []), responses):
+            if not writer.done():
+                writer.set_result(response)
 
     async def run(self) -> None:
         """Appends batch after batch, until it is canceled."""
@@ -74,9 +77,10 @@ class Appender:
         """Appends a batch under one name until etcd confirms it or no client waits for it any more."""
         name = secrets.token_hex(16).encode()
         joined = b"".join(write.message for write in batch)
-        self.appended[name] = batch
+        writers = self.appended[name] = [write.response for write in batch]
+        del batch  # its messages may be large
         until, is_unsure = time.monotonic() + self.patience, False
-        while time.monotonic() < until and not all(write.response.done() for write in batch):
+        while time.monotonic() < until and not all(it.done() for it in writers):
             try:
                 await self.log.append(name, joined)
                 break
@@ -90,9 +94,9 @@ class Appender:
         self.forget_later(name)
 
     def fail(self, name: bytes, fault: Exception) -> None:
-        for write in self.appended.pop(name, []):
-            if not write.response.done():
-                write.response.set_exception(fault)
+        for writer in self.appended.pop(name, []):
+            if not writer.done():
+                writer.set_exception(fault)
 
     def forget_later(self, name: bytes) -> None:
         """Drops the batch once no client can wait for it any more."""

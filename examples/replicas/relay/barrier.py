@@ -43,6 +43,7 @@ class Barrier:
         """Reads share a query that begins after each of them arrived. The query in progress is too old for a read that arrives now."""
         if self.next_query is None:
             self.next_query = asyncio.create_task(self.query())
+            self.next_query.add_done_callback(lambda it: it.cancelled() or it.exception())  # perhaps nobody waits any more
         return await asyncio.shield(self.next_query)
 
     async def query(self) -> int:

@@ -36,15 +36,16 @@ class Config:
     listen: Address
     admin: Address
     registry: Address
-    etcd: Address
+    etcd: pathlib.Path
     position: pathlib.Path
     database: pathlib.Path
     program: pathlib.Path
-    owner: str = ""
     local_reads: pathlib.Path = pathlib.Path("/run/avroreg-relay/local-reads")
     patience_seconds: float = 8.0
     idle_seconds: float = 75.0
+    failover_seconds: float = 25.0
     max_connections: int = 512
+    max_bytes: int = 268435456
     batch_messages: int = 64
     batch_bytes: int = 524288
     log_format: str = "plain"

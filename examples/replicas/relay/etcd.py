@@ -1,19 +1,25 @@
-"""etcd's JSON gateway: keys and values are in base64, numbers are strings, and members that are 0, false or empty are missing."""
+"""etcd's JSON gateway: keys and values are in base64, numbers are strings, and members that are 0, false or empty are missing.
+
+etcd listens on a Unix socket, so no web page and no other user of the machine can reach it.
+"""
 import asyncio
 import base64
 import contextlib
 import json
-import re
+import pathlib
 from typing import Any, AsyncGenerator
 
-from relay.config import Address
+import h11
+
 from relay.faults import Unavailable
 
 Json = dict[str, Any]
 
 LINE_LIMIT = 16 * 1048576  # a watch response is one line, at most a fragment of 1.5 MB in base64
+HEAD_LIMIT = 65536
+PART = 262144
 SOON = 1.5  # seconds: an election takes one or two
-FAULTS = (OSError, ValueError, EOFError, asyncio.IncompleteReadError, asyncio.LimitOverrunError)
+FAULTS = (OSError, ValueError, EOFError, h11.ProtocolError)
 
 
 def encode(raw: bytes) -> str:
@@ -38,52 +44,61 @@ def is_missing(key: bytes) -> Json:
     return {"key": encode(key), "target": "VERSION", "result": "EQUAL", "version": "0"}
 
 
+def is_unchanged(key: bytes, revision: int) -> Json:
+    """The condition that a key was last changed in this revision. 0 means that it has no value."""
+    return {"key": encode(key), "target": "MOD", "result": "EQUAL", "mod_revision": str(revision)}
+
+
 class Connection:
     """One connection to etcd. It sends a request after the response to the one before."""
 
     def __init__(self, reader: asyncio.StreamReader, writer: asyncio.StreamWriter) -> None:
         self.reader, self.writer = reader, writer
+        self.parser = h11.Connection(h11.CLIENT, max_incomplete_event_size=HEAD_LIMIT)
 
     @classmethod
-    async def open(cls, address: Address) -> "Connection":
-        return cls(*await asyncio.open_connection(*address, limit=LINE_LIMIT))
+    async def open(cls, path: pathlib.Path) -> "Connection":
+        return cls(*await asyncio.open_unix_connection(path))
 
     def close(self) -> None:
         self.writer.close()
 
-    async def send(self, path: str, document: Json) -> tuple[int, bytes]:
-        """Sends a request. Returns the status and the head of the response. Read its body next."""
+    async def send(self, path: str, document: Json) -> int:
+        """Sends a request. Returns the status of the response. Read its body next."""
         body = json.dumps(document).encode()
-        head = f"POST {path} HTTP/1.1\r\nHost: etcd\r\nContent-Type: application/json\r\nContent-Length: {len(body)}\r\n\r\n"
-        self.writer.write(head.encode() + body)
+        fields = [("Host", "etcd"), ("Content-Type", "application/json"), ("Content-Length", str(len(body)))]
+        request = (h11.Request(method="POST", target=path, headers=fields), h11.Data(data=body), h11.EndOfMessage())
+        self.writer.write(b"".join(self.parser.send(it) or b"" for it in request))
         await self.writer.drain()
-        found = await self.reader.readuntil(b"\r\n\r\n")
-        status = re.match(rb"HTTP/1\.1 ([0-9]{3})", found)
-        if not status:
+        found = await self.next_event()
+        if not isinstance(found, h11.Response):
             raise ValueError("no response of HTTP/1.1")
-        return int(status[1]), found.lower()
-
-    async def chunks(self) -> AsyncGenerator[bytes, None]:
-        """The chunks of a body, without the trailers that etcd's errors have (RFC 9112, section 7.1)."""
-        while size := int((await self.reader.readuntil(b"\r\n")).partition(b";")[0], 16):
-            yield (await self.reader.readexactly(size + 2))[:-2]
-        while await self.reader.readuntil(b"\r\n") != b"\r\n":
-            pass
-
-    async def body(self, head: bytes) -> bytes:
-        if b"\r\ntransfer-encoding: chunked\r\n" in head:
-            return b"".join([chunk async for chunk in self.chunks()])
-        length = re.search(rb"\r\ncontent-length: ([0-9]+)\r\n", head)
-        if not length:
+        if not {name for name, _ in found.headers} & {b"content-length", b"transfer-encoding"}:
             raise ValueError("a body without a length")
-        return await self.reader.readexactly(int(length[1]))
+        return found.status_code
+
+    async def next_event(self) -> object:
+        while (found := self.parser.next_event()) is h11.NEED_DATA:
+            self.parser.receive_data(await self.reader.read(PART))
+        return found
+
+    async def parts(self) -> AsyncGenerator[bytes, None]:
+        """The parts of a body as they arrive."""
+        while isinstance(found := await self.next_event(), h11.Data):
+            yield bytes(found.data)
+
+    async def body(self) -> bytes:
+        """The whole body."""
+        found = b"".join([part async for part in self.parts()])
+        self.parser.start_next_cycle()
+        return found
 
 
 class Etcd:
-    """One member of etcd. A node asks its own member, so a node without a majority can't append."""
+    """One member of etcd, by the path of its socket. A node asks its own member, so a node without a majority can't append."""
 
-    def __init__(self, address: Address) -> None:
-        self.address = address
+    def __init__(self, path: pathlib.Path) -> None:
+        self.path = path
         self.idle: list[Connection] = []
 
     async def call(self, path: str, document: Json, seconds: float = 4.0) -> Json:
@@ -91,9 +106,9 @@ class Etcd:
         connection: Connection | None = None
         try:
             async with asyncio.timeout(seconds):
-                connection = self.idle.pop() if self.idle else await Connection.open(self.address)
-                status, head = await connection.send(path, document)
-                found = json.loads(await connection.body(head))
+                connection = self.idle.pop() if self.idle else await Connection.open(self.path)
+                status = await connection.send(path, document)
+                found = json.loads(await connection.body())
         except BaseException as fault:
             if connection:
                 connection.close()
@@ -110,18 +125,20 @@ class Etcd:
         """The lines of an endless response."""
         try:
             async with asyncio.timeout(4.0):
-                connection = await Connection.open(self.address)
+                connection = await Connection.open(self.path)
         except FAULTS as fault:
             raise Unavailable(f"etcd: {fault!r}") from fault
         rest = b""
         try:
             async with asyncio.timeout(4.0):
                 await connection.send(path, document)
-            async with contextlib.aclosing(connection.chunks()) as chunks:
-                async for chunk in chunks:
-                    *whole, rest = (rest + chunk).split(b"\n")
+            async with contextlib.aclosing(connection.parts()) as parts:
+                async for part in parts:
+                    *whole, rest = (rest + part).split(b"\n")
                     for line in whole:
                         yield line
+                    if len(rest) > LINE_LIMIT:
+                        raise ValueError("a line without an end")
         except FAULTS as fault:
             raise Unavailable(f"etcd: {fault!r}") from fault
         finally:

@@ -1,19 +1,26 @@
-"""HTTP/1.1 as the relay reads and writes it. The relay rejects requests that two parsers could read differently."""
+"""HTTP/1.1 as the relay reads and writes it. h11 parses the requests. The relay also rejects heads that two parsers could read
+differently."""
 import asyncio
 import http
 import json
 import re
-from typing import NamedTuple
+from typing import Callable, NamedTuple
+
+import h11
 
 from relay.faults import Refused, Unavailable
 
 MAX_HEAD = 16384 - 256  # avroreg accepts heads of 16384 bytes; the relay's own fields are shorter than 256
+MAX_LINES = 256  # h11 takes a few microseconds for each
 MAX_BODY = 1048576  # avroreg's own limit
 JSON_TYPE = b"application/vnd.schemaregistry.v1+json"
+BUSY = 50305
 
-NAME = rb"[!#-'*+.^-z|~0-9A-Z-]+"
-LINE = re.compile(rb"(" + NAME + rb" [!-~]+) HTTP/1\.([01])\r\n")
-FIELD = re.compile(rb"(" + NAME + rb"):[ \t]*([\t -~\x80-\xff]*?)[ \t]*\r\n")
+# What h11 accepts and another parser may read otherwise: lines that don't end with CR LF, folded lines, control characters,
+# several lengths.
+CLEAR_HEAD = re.compile(rb"(?:[!-~\x80-\xff][\t -~\x80-\xff]*+\r\n)++\r\n")
+LENGTH_LINE = re.compile(rb"\r\nContent-Length:([^\r]*+)", re.IGNORECASE)
+LENGTH = re.compile(rb"[ \t]*+([0-9]{1,19})[ \t]*+")
 
 
 class Request(NamedTuple):
@@ -22,6 +29,7 @@ class Request(NamedTuple):
     body: bytes
     is_fresh: bool  # Cache-Control: no-cache
     is_last: bool  # the connection ends after the response
+    may_be_stale: bool = False  # Cache-Control: max-stale
 
 
 class Response(NamedTuple):
@@ -30,72 +38,76 @@ class Response(NamedTuple):
     body: bytes
 
 
-def has_token(fields: dict[bytes, list[bytes]], name: bytes, token: bytes) -> bool:
-    words = b",".join(fields.get(name, [])).lower().split(b",")
+def values(head: h11.Request, name: bytes) -> tuple[bytes, ...]:
+    """The values of the fields with this name, in order."""
+    return tuple(value for found, value in head.headers if found == name)
+
+
+def has_token(head: h11.Request, name: bytes, token: bytes) -> bool:
+    words = b",".join(values(head, name)).lower().split(b",")
     return any(word.strip() == token for word in words)
 
 
-async def read_head(reader: asyncio.StreamReader) -> list[bytes]:
-    """The lines of a head without the empty one. No line at the end of the input. Each line must end with CR LF."""
-    lines: list[bytes] = []
-    size = 0
+async def read_head(reader: asyncio.StreamReader) -> bytes:
+    """The bytes of a head. Empty at the end of the input."""
     try:
-        while (line := await reader.readuntil(b"\n")) != b"\r\n":
-            size += len(line)
-            if size > MAX_HEAD or not line.endswith(b"\r\n"):
-                raise Refused(40001, "Malformed request")
-            lines.append(line)
+        return await reader.readuntil(b"\r\n\r\n")
     except asyncio.LimitOverrunError as fault:
         raise Refused(40001, "Malformed request") from fault
     except asyncio.IncompleteReadError as fault:
-        if lines or fault.partial:
+        if fault.partial:
             raise ConnectionError("the input ended inside a head") from fault
-        return []
-    if not lines:
+        return b""
+
+
+def parse_head(text: bytes) -> h11.Request:
+    """The method, the target and the fields of a head."""
+    if len(text) > MAX_HEAD or text.count(b"\n") > MAX_LINES or not CLEAR_HEAD.fullmatch(text):
         raise Refused(40001, "Malformed request")
-    return lines
-
-
-def fields_of(lines: list[bytes]) -> dict[bytes, list[bytes]]:
-    fields: dict[bytes, list[bytes]] = {}
-    for line in lines:
-        found = FIELD.fullmatch(line)
-        if not found:
-            raise Refused(40001, "Malformed request")
-        fields.setdefault(found[1].lower(), []).append(found[2])
-    return fields
-
-
-def body_length(fields: dict[bytes, list[bytes]]) -> int:
-    if b"transfer-encoding" in fields:
-        raise Refused(501, "Transfer coding not supported")
-    lengths = fields.get(b"content-length", [b"0"])
-    if len(lengths) > 1 or not re.fullmatch(rb"[0-9]{1,19}", lengths[0]):
-        raise Refused(40001, "Malformed request")
-    if int(lengths[0]) > MAX_BODY:
-        raise Refused(413, "Body too large")
-    return int(lengths[0])
-
-
-async def read_request(reader: asyncio.StreamReader) -> Request | None:
-    """The next request of a connection, or None if the connection ended."""
-    lines = await read_head(reader)
-    if not lines:
-        return None
-    found = LINE.fullmatch(lines[0])
-    if not found:
-        raise Refused(40001, "Malformed request")
-    fields = fields_of(lines[1:])
+    parser = h11.Connection(h11.SERVER, max_incomplete_event_size=MAX_HEAD)
+    parser.receive_data(text)
     try:
-        body = await reader.readexactly(body_length(fields))
+        head = parser.next_event()
+    except h11.RemoteProtocolError as fault:
+        if fault.error_status_hint == 501:
+            raise Refused(501, "Transfer coding not supported") from fault
+        raise Refused(40001, "Malformed request") from fault
+    if not isinstance(head, h11.Request) or head.http_version not in (b"1.0", b"1.1"):
+        raise Refused(40001, "Malformed request")
+    return head
+
+
+def body_length(text: bytes, head: h11.Request) -> int:
+    if values(head, b"transfer-encoding"):
+        raise Refused(501, "Transfer coding not supported")
+    lines = LENGTH_LINE.findall(text) or [b"0"]  # h11 merges equal lengths
+    length = LENGTH.fullmatch(lines[0])
+    if len(lines) > 1 or not length:
+        raise Refused(40001, "Malformed request")
+    if int(length[1]) > MAX_BODY:
+        raise Refused(413, "Body too large")
+    return int(length[1])
+
+
+async def read_request(reader: asyncio.StreamReader, before_body: Callable[[int], object] = lambda length: None) -> Request | None:
+    """The next request of a connection, or None if the connection ended. `before_body` gets the length of the body first."""
+    text = await read_head(reader)
+    if not text:
+        return None
+    head = parse_head(text)
+    length = body_length(text, head)
+    before_body(length)
+    try:
+        body = await reader.readexactly(length)
     except asyncio.IncompleteReadError as fault:
         raise ConnectionError("the input ended inside a body") from fault
     return Request(
-        line=found[1],
-        keys=tuple(fields.get(b"registry-retry-key", [])),
+        line=head.method + b" " + head.target,
+        keys=values(head, b"registry-retry-key"),
         body=body,
-        is_fresh=has_token(fields, b"cache-control", b"no-cache"),
-        is_last=found[2] == b"0" or has_token(fields, b"connection", b"close"),
+        is_fresh=has_token(head, b"cache-control", b"no-cache"),
+        is_last=head.http_version == b"1.0" or has_token(head, b"connection", b"close"),
+        may_be_stale=has_token(head, b"cache-control", b"max-stale"),
     )
 
 
@@ -106,7 +118,8 @@ def json_response(status: int, document: object, kind: bytes = JSON_TYPE) -> Res
 
 def refusal(fault: Refused) -> Response:
     """The response to a rejected request, in the form of avroreg's errors."""
-    return json_response(int(str(fault.code)[:3]), {"error_code": fault.code, "message": fault.message})
+    response = json_response(int(str(fault.code)[:3]), {"error_code": fault.code, "message": fault.message})
+    return response._replace(fields=response.fields + b"Retry-After: 1\r\n") if fault.code == BUSY else response
 
 
 def write_response(response: Response, key: bytes, is_last: bool) -> bytes:

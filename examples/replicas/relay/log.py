@@ -8,9 +8,10 @@ import json
 import secrets
 from typing import Any, AsyncGenerator, NamedTuple
 
-from relay import etcd
+from relay import etcd, skips
 from relay.etcd import Etcd, Json
 from relay.faults import Broken, Compacted, Refused, Unavailable
+from relay.skips import Skip
 
 ENTRIES = b"avroreg/log/"
 NAME = b"avroreg/name"  # the random name of this log. A new etcd of the same members has the old one's cluster id
@@ -19,6 +20,7 @@ TRIMMED = b"avroreg/trimmed"  # every entry up to this revision may be gone
 BASE = b"avroreg/base"  # the digest of the file from which a cluster began; missing if it began from nothing
 PAUSE = b"avroreg/pause"  # while this key exists, nothing is appended
 NODES = b"avroreg/node/"
+SKIPS = b"avroreg/skip/"  # by revision: what the nodes agreed not to apply
 
 LISTED = 10000  # keys in one response
 READ = 16  # entries in one response: an entry has at most about 1 MiB
@@ -160,6 +162,11 @@ class Log:
         found = await self.etcd.call("/v3/kv/put", etcd.put(NODES + node.encode(), value))
         if int(found["header"]["revision"]) < revision:
             raise Broken("etcd is older than this node: it was restored from a copy")
+
+    async def skips(self) -> dict[int, Skip]:
+        """What the nodes skip, or have begun to agree on, by revision."""
+        found = await self.etcd.pairs(etcd.below(SKIPS))
+        return {int(etcd.decode(pair["key"])[len(SKIPS) :]): skips.parse(etcd.decode(pair["value"])) for pair in found}
 
     async def positions(self) -> dict[str, dict[str, Any]]:
         """The published position of each node: its revision and its digest."""

@@ -2,8 +2,10 @@
 import argparse
 import asyncio
 import logging
+import os
 import pathlib
 import signal
+import socket
 import sys
 
 from relay import config, logs
@@ -20,6 +22,15 @@ configuration or the position file is unusable."""
 logger = logging.getLogger("avroreg-relay")
 
 
+async def alive() -> None:
+    """Tells systemd that this process isn't stuck. systemd kills one that is, so that nginx stops reading from its avroreg."""
+    address = os.environ.get("NOTIFY_SOCKET", "")
+    while address:
+        with socket.socket(socket.AF_UNIX, socket.SOCK_DGRAM) as notified:
+            notified.sendto(b"WATCHDOG=1", address.replace("@", "\0", 1))
+        await asyncio.sleep(1)
+
+
 async def until(event: asyncio.Event) -> None:
     await event.wait()
 
@@ -31,7 +42,7 @@ async def run(settings: Config) -> None:
     stop = asyncio.Event()
     for number in (signal.SIGTERM, signal.SIGINT):
         asyncio.get_running_loop().add_signal_handler(number, stop.set)
-    work: list[asyncio.Task[None]] = [asyncio.create_task(it) for it in (replica.follow(), replica.keep_books(), replica.appender.run())]
+    work: list[asyncio.Task[None]] = [asyncio.create_task(it) for it in (replica.follow(), replica.keep_books(), replica.keep_local_reads(), replica.appender.run(), alive())]
     await server.start()
     logger.info("node %s at revision %d, for clients at %s:%d", settings.node, replica.position.revision, *settings.listen)
     stopping = asyncio.create_task(until(stop))

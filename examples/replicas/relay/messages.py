@@ -19,7 +19,7 @@ WRITE = re.compile(
 )
 
 HEAD = re.compile(
-    rb"[^ \r\n]+ [^ \r\n]+ HTTP/1\.1\r\nHost: registry\r\nRegistry-Retry-Key: [^\r\n]+\r\nContent-Length: ([0-9]{1,7})\r\n\r\n"
+    rb"[^ \r\n]+ [^ \r\n]+ HTTP/1\.1\r\nHost: registry\r\nRegistry-Retry-Key: ([^\r\n]+)\r\nContent-Length: ([0-9]{1,7})\r\n\r\n"
 )
 
 
@@ -34,12 +34,29 @@ def message(line: bytes, key: bytes, body: bytes) -> bytes:
     return head + b"Content-Length: %d\r\n\r\n" % len(body) + body
 
 
+def key_of(text: bytes) -> bytes:
+    """The retry key of a message."""
+    found = HEAD.match(text)
+    if not found:
+        raise ValueError("no message")
+    return found[1]
+
+
+def line_of(text: bytes) -> bytes:
+    """The method and the target of a message."""
+    return text.partition(b" HTTP/1.1\r\n")[0]
+
+
+def body_of(text: bytes) -> bytes:
+    return text.partition(b"\r\n\r\n")[2]
+
+
 def split(batch: bytes) -> Iterator[bytes]:
     """The messages of a batch, in order."""
     start = 0
     while start < len(batch):
         found = HEAD.match(batch, start)
-        end = found.end() + int(found[1]) if found else len(batch) + 1
+        end = found.end() + int(found[2]) if found else len(batch) + 1
         if end > len(batch):
             raise ValueError(f"no message at byte {start} of an entry")
         yield batch[start:end]

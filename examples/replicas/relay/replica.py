@@ -5,8 +5,10 @@ import dataclasses
 import logging
 import secrets
 import threading
+import time
 
-from relay import digest, http1, messages, position
+from relay import digest, http1, messages, position, witness
+from relay.malformed import is_malformed
 from relay.appender import Appender
 from relay.barrier import Barrier
 from relay.config import Config
@@ -17,9 +19,13 @@ from relay.log import Entry, Log
 from relay.metrics import Metrics
 from relay.position import Position
 from relay.registry import Registry
+from relay.skips import SKIPPED, Skip
 
 RETRY_SECONDS = 0.2
 BOOKS_SECONDS = 1.0
+CHECK_SECONDS = 0.5  # between two checks whether nginx may read from avroreg
+CURRENT_SECONDS = 2.0  # for one such check; an election may take longer
+SLOW_SECONDS = 10.0
 NOT_FOUND = 404
 NO_SUCH_PATH = b'{"error_code":404,'
 
@@ -30,17 +36,22 @@ class Replica:
     def __init__(self, config: Config) -> None:
         self.config = config
         self.log = Log(Etcd(config.etcd))
-        self.registry = Registry(config.registry)
         self.appender = Appender(self.log, config.patience_seconds, config.batch_messages, config.batch_bytes)
         self.position = self.saved = position.load(config.position)
+        self.registry = Registry(config.registry, self.position.witness)
         self.saving = threading.Lock()
         self.barrier = Barrier(self.log.newest, self.position.revision)
         self.history = digest.History()
         self.history.add(self.position.revision, self.position.digest)
         self.metrics = Metrics()
+        self.skips: dict[int, Skip] = {}
+        self.in_progress: tuple[int, float] | None = None  # the revision that avroreg applies, and since when
         self.broken: str | None = None
         self.troubles: dict[str, str] = {}  # the current errors, by part
-        self.end_local_reads()  # a relay that was killed has left the file
+        self.is_current = False  # whether this node has every write that it acknowledged or left to another node
+        self.lags = False  # whether this node hadn't applied the log at the last check
+        self.current_from = 0.0
+        self.leave_to_others()  # a relay that was killed has left the file
 
     # --- Applying the log
 
@@ -53,6 +64,7 @@ class Replica:
                     async for entry in entries:
                         await self.apply(entry)
             except Unavailable as fault:
+                self.end_local_reads()
                 logger.warning("log: %s", fault)
                 await asyncio.sleep(RETRY_SECONDS)
             except Broken as fault:
@@ -66,17 +78,32 @@ class Replica:
         self.position = dataclasses.replace(self.position, log=name)
         if base and self.position.revision < base.revision:
             raise Broken("this cluster began from a file: adopt that file, or restore another node's backup")
+        self.skips = await self.log.skips()
+
+    async def messages_of(self, entry: Entry) -> list[bytes]:
+        """The messages that the nodes apply for an entry."""
+        while (skip := self.skips.get(entry.revision)) and not skip.decision:
+            self.note("skip", f"revision {entry.revision} waits for the votes of the other nodes: avroreg-cluster skip")
+            await asyncio.sleep(BOOKS_SECONDS)
+            self.skips = await self.log.skips()
+        self.troubles.pop("skip", None)
+        if not skip or skip.decision != SKIPPED:
+            return batch_of(entry)
+        return [skip.replaced(message) for message in batch_of(entry)] if skip.key else []
 
     async def apply(self, entry: Entry) -> None:
         """Sends each message of an entry until avroreg answers it. A message that was applied earlier changes nothing."""
         seen = self.position.digest
         responses = []
-        batch = batch_of(entry)
+        batch = await self.messages_of(entry)
         for message in batch:
+            self.in_progress = entry.revision, time.monotonic()
             response = await self.send_until_answered(message, message is not batch[-1])
+            self.registry.witness = witness.after(message, response, self.registry.witness)
             seen = digest.extend(seen, entry.revision, message, response.status, response.body)
             responses.append(response)
-        self.position = Position(self.position.log, entry.revision, seen)
+        self.in_progress = None
+        self.position = Position(self.position.log, entry.revision, seen, self.registry.witness)
         self.history.add(entry.revision, seen)
         self.metrics.applied += len(responses)
         self.appender.answer(entry, responses)
@@ -89,6 +116,7 @@ class Replica:
                 self.troubles.pop("registry", None)
                 return response
             except Unavailable as fault:
+                self.end_local_reads()
                 self.note("registry", str(fault))
                 if self.broken:
                     raise Broken(self.broken) from fault
@@ -108,7 +136,6 @@ class Replica:
                     await self.log.publish(self.config.node, saved.revision, saved.digest)
                     published = saved
                 self.compare(await self.log.positions())
-                self.allow_local_reads()
                 self.troubles.pop("books", None)
             except (Unavailable, OSError) as fault:
                 self.note("books", str(fault))
@@ -143,20 +170,52 @@ class Replica:
         self.broken = reason
         self.end_local_reads()
 
+    # --- Local reads: the file that makes nginx send reads directly to avroreg
+
+    async def keep_local_reads(self) -> None:
+        """Lets nginx read from avroreg while this node follows the log, has applied it, and avroreg serves this node's registry."""
+        while not self.broken:
+            began = self.current_from
+            try:
+                await self.check_applied()
+                await self.registry.check(CURRENT_SECONDS)
+                self.troubles.pop("reads", None)
+                if began == self.current_from:  # otherwise a write was left to another node meanwhile
+                    self.allow_local_reads()
+            except Unavailable as fault:
+                self.end_local_reads()
+                self.note("reads", str(fault))
+            await asyncio.sleep(CHECK_SECONDS)
+
+    async def check_applied(self) -> None:
+        """Fails unless this node has applied the entry that is the newest now."""
+        try:
+            await self.barrier.wait(CURRENT_SECONDS)
+            self.lags = False
+        except Unavailable:
+            self.lags = True
+            raise
+
     def allow_local_reads(self) -> None:
-        """If this node follows the log and hasn't stopped, creates the file that makes nginx send reads directly to avroreg."""
-        if self.log.is_followed and not self.broken:
-            self.config.local_reads.touch()
+        if self.log.is_followed and not self.broken and time.monotonic() >= self.current_from:
+            self.is_current = True
+            self.config.local_reads.touch(0o644)
 
     def end_local_reads(self) -> None:
+        self.is_current = False
         self.config.local_reads.unlink(missing_ok=True)
+
+    def leave_to_others(self) -> None:
+        """After this relay hasn't acknowledged a write, nginx sends it to another node. Until this node surely has it, reads ask a majority."""
+        self.current_from = time.monotonic() + self.config.failover_seconds
+        self.end_local_reads()
 
     # --- Requests
 
     async def answer(self, request: Request) -> tuple[bytes, Response]:
         """The retry key and the response of a request."""
         if self.broken:
-            raise Refused(50303, f"This node is stopped: {self.broken}")
+            raise Refused(50303, "This node is stopped")
         if messages.is_write(request.line):
             return await self.write(request)
         return b"", await self.read(request)
@@ -166,21 +225,29 @@ class Replica:
         key = request.keys[0] if request.keys else secrets.token_hex(16).encode()
         if len(request.keys) > 1 or not messages.KEY.fullmatch(key):
             raise Refused(40001, "Malformed request")
+        if is_malformed(request.line, request.body):
+            raise Refused(40001, "Malformed request")
+        body = b"" if request.line.startswith(b"DELETE ") else request.body  # avroreg ignores it
         try:
-            return key, await self.appender.response_to(messages.message(request.line, key, request.body))
+            return key, await self.appender.response_to(messages.message(request.line, key, body))
         except Unavailable:
             refused = Refused(50301, "No response yet, and the write may still be applied: retry it with its key")
         except Refused as fault:
             refused = fault
+        self.leave_to_others()
         return key, http1.refusal(refused)
 
     async def read(self, request: Request) -> Response:
-        """Reads from this node's avroreg. A fresh read first waits for the newest entry, and so does a read that found nothing."""
+        """Reads from this node's avroreg. A fresh read first waits for the newest entry, and so does a read that found nothing.
+        If this node may lack a write that it acknowledged or left to another node, each read does, unless the client accepts
+        an old state."""
         message = messages.message(request.line, messages.NO_KEY, request.body)
-        if not request.is_fresh:
+        if request.may_be_stale or (self.is_current and not request.is_fresh):
             response = await self.registry.ask(message)
             if response.status != NOT_FOUND or response.body.startswith(NO_SUCH_PATH):
                 return response
+        if self.lags:  # nginx asks another node at once
+            raise Unavailable("this node lags behind the log")
         await self.barrier.wait(self.config.patience_seconds)
         return await self.registry.ask(message)
 
@@ -188,7 +255,12 @@ class Replica:
 
     def all_troubles(self) -> dict[str, str]:
         """The current errors, by part."""
-        return self.troubles if self.log.is_followed else {**self.troubles, "log": "it isn't followed"}
+        found = dict(self.troubles)
+        if not self.log.is_followed:
+            found["log"] = "it isn't followed"
+        if self.in_progress and time.monotonic() > self.in_progress[1] + SLOW_SECONDS:
+            found["entry"] = f"avroreg has been working on revision {self.in_progress[0]} for {time.monotonic() - self.in_progress[1]:.0f} s"
+        return found
 
     def health(self) -> dict[str, object]:
         troubles, at = self.all_troubles(), self.position
@@ -225,4 +297,4 @@ def batch_of(entry: Entry) -> list[bytes]:
     try:
         return list(messages.split(entry.batch))
     except ValueError as fault:
-        raise Broken(f"revision {entry.revision} of the log is no batch of messages: {fault}") from fault
+        raise Broken(f"revision {entry.revision} of the log is no batch of messages: avroreg-cluster skip {entry.revision}") from fault

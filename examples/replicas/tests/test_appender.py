@@ -1,5 +1,6 @@
 """Batches: which writes they have, when an append is repeated, and when it ends."""
 import asyncio
+import pathlib
 import unittest
 
 from relay.appender import Appender
@@ -7,7 +8,6 @@ from relay.faults import Refused, Unavailable
 from relay.http1 import Response
 from relay.log import Entry, Log
 from relay.etcd import Etcd
-from relay.config import Address
 from tests import eventually
 
 OK = Response(200, b"", b"{}")
@@ -17,7 +17,7 @@ class StandInLog(Log):
     """A log in memory, whose first calls may fail before or after they append."""
 
     def __init__(self) -> None:
-        super().__init__(Etcd(Address("127.0.0.1", 1)))
+        super().__init__(Etcd(pathlib.Path("missing")))
         self.batches: dict[bytes, bytes] = {}
         self.calls: list[bytes] = []
         self.failures: list[str] = []

@@ -1,10 +1,11 @@
 """The client of etcd's JSON gateway: bodies by length and in chunks, errors, kept connections."""
 import asyncio
 import json
+import pathlib
+import tempfile
 import unittest
 from typing import Any
 
-from relay.config import Address
 from relay.etcd import Etcd
 from relay.faults import Unavailable
 
@@ -22,8 +23,11 @@ class Calls(unittest.IsolatedAsyncioTestCase):
         self.responses: list[bytes] = []
         self.requests: list[Any] = []
         self.connections = 0
-        self.server = await asyncio.start_server(self.serve, "127.0.0.1", 0)
-        self.etcd = Etcd(Address(*self.server.sockets[0].getsockname()))
+        folder = tempfile.TemporaryDirectory()
+        self.addCleanup(folder.cleanup)
+        path = pathlib.Path(folder.name) / "client:0"
+        self.server = await asyncio.start_unix_server(self.serve, path)
+        self.etcd = Etcd(path)
 
     async def asyncTearDown(self) -> None:
         self.etcd.close()

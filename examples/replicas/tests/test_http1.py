@@ -1,5 +1,9 @@
 """Which requests the relay accepts, and which it rejects."""
 import asyncio
+import gc
+import os
+import random
+import time
 import unittest
 
 from relay import http1
@@ -20,20 +24,20 @@ class Requests(unittest.IsolatedAsyncioTestCase):
 
     async def test_the_end_of_the_input(self) -> None:
         self.assertIsNone(await parse(b""))
-        for text in (b"GET / HTT", b"GET / HTTP/1.1\r\n", b"GET / HTTP/1.1\r\nContent-Length: 3\r\n\r\nab"):
+        for text in (b"GET / HTT", b"GET / HTTP/1.1\r\n", b"GET / HTTP/1.1\r\nHost: h\r\nContent-Length: 3\r\n\r\nab"):
             with self.assertRaises(ConnectionError):
                 await parse(text)
 
     async def test_last_requests(self) -> None:
-        for head in (b"GET / HTTP/1.0\r\n\r\n", b"GET / HTTP/1.1\r\nConnection: x, Close\r\n\r\n"):
+        for head in (b"GET / HTTP/1.0\r\n\r\n", b"GET / HTTP/1.1\r\nHost: h\r\nConnection: x, Close\r\n\r\n"):
             found = await parse(head)
             self.assertTrue(found and found.is_last)
-        found = await parse(b"GET / HTTP/1.1\r\nConnection: closed\r\n\r\n")
+        found = await parse(b"GET / HTTP/1.1\r\nHost: h\r\nConnection: closed\r\n\r\n")
         self.assertFalse(found and found.is_last)
 
     async def refused(self, head: bytes, code: int) -> None:
         with self.assertRaises(Refused, msg=repr(head)) as found:
-            await parse(head + b"\r\nGET /second HTTP/1.1\r\n\r\n")
+            await parse(head + b"Host: h\r\n\r\nGET /second HTTP/1.1\r\nHost: h\r\n\r\n")
         self.assertEqual(found.exception.code, code, head)
 
     async def test_what_could_be_read_in_two_ways(self) -> None:
@@ -63,6 +67,8 @@ class Requests(unittest.IsolatedAsyncioTestCase):
             b"GET / HTTP/1.1\r\nContent-Length: -1\r\n",
             b"GET / HTTP/1.1\r\nContent-Length:\r\n",
             b"GET / HTTP/1.1\r\nContent-Length: 00000000000000000001\r\n",
+            b"GET / HTTP/1.1\r\nHost: other\r\n",
+            b"GET / HTTP/1.1\r\nA: \x01\r\n",
         ):
             await self.refused(head, 40001)
 
@@ -73,6 +79,45 @@ class Requests(unittest.IsolatedAsyncioTestCase):
         await self.refused(b"PUT / HTTP/1.1\r\nContent-Length: 1048577\r\n", 413)
         for coding in (b"chunked", b"identity", b"", b"x\r\nContent-Length: 3"):
             await self.refused(b"PUT / HTTP/1.1\r\nTransfer-Encoding: " + coding + b"\r\n", 501)
+
+
+# Parts of odd heads. HEADS is the number of heads that the test tries.
+PARTS = (b"\t", b" ", b"a", b":", b",", b"\r", b"\n", b"\r\n", b"\r\n ", b"\x00", b"\x01", b"\x7f", b"\x80", b"\xff", b"0", b"=", b'"', b"/", b";", b"a: b\r\n",
+         b"a:\r\n", b"Host: h\r\n", b"Content-Length: 0\r\n", b"Transfer-Encoding: chunked\r\n", b"Connection: close\r\n", b"x, ", b"HTTP/1.1")  # fmt: skip
+STARTS = (b"GET / HTTP/1.1\r\nHost: h\r\n", b"PUT /config HTTP/1.1\r\nHost: h\r\nX:", b"GET / HTTP/1.1\r\nHost: h\r\nX: ", b"GET /", b"GET ", b"")
+SECONDS = 0.005
+
+
+def odd_head(pick: random.Random) -> bytes:
+    """A head of a few parts. One of them may be repeated up to the limit of a head."""
+    parts = [pick.choice(PARTS) * pick.choice((1, 1, 2, 5)) for _ in range(pick.randrange(4))]
+    if pick.random() < 0.5:
+        part = pick.choice(PARTS)
+        parts.insert(pick.randrange(len(parts) + 1), part * (pick.randrange(1, http1.MAX_HEAD) // len(part)))
+    return pick.choice(STARTS) + b"".join(parts) + b"\r\n\r\n"
+
+
+class Times(unittest.IsolatedAsyncioTestCase):
+    async def seconds(self, head: bytes) -> float:
+        reader = asyncio.StreamReader(limit=65536)
+        reader.feed_data(head)
+        reader.feed_eof()
+        began = time.thread_time()
+        try:
+            await http1.read_request(reader)
+        except (Refused, ConnectionError):
+            pass
+        return time.thread_time() - began
+
+    async def test_no_head_takes_long(self) -> None:
+        """Each head takes less than 5 ms of the processor, whether the relay accepts it or not."""
+        pick = random.Random(1)
+        gc.disable()
+        self.addCleanup(gc.enable)
+        for _ in range(int(os.environ.get("HEADS", "3000"))):
+            head = odd_head(pick)
+            if await self.seconds(head) > SECONDS:  # a second try: the machine may have been slow
+                self.assertLess(min([await self.seconds(head) for _ in range(5)]), SECONDS, (len(head), head[:80]))
 
 
 class Responses(unittest.IsolatedAsyncioTestCase):

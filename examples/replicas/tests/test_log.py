@@ -1,12 +1,12 @@
 """The log over a stand-in for etcd: order, compaction, trimming, repeated appends."""
 import asyncio
 import json
+import pathlib
 import unittest
 from typing import Any, AsyncGenerator, Callable
 from unittest import mock
 
 from relay import log
-from relay.config import Address
 from relay.etcd import Etcd, Json, decode, encode
 from relay.faults import Broken, Refused
 from relay.log import Entry, Log
@@ -16,7 +16,7 @@ class StandIn(Etcd):
     """Keys and values in memory, with the requests of the log."""
 
     def __init__(self) -> None:
-        super().__init__(Address("127.0.0.1", 1))
+        super().__init__(pathlib.Path("missing"))
         self.revision, self.compacted = 1, 0
         self.kept: dict[str, tuple[int, str]] = {}
         self.calls: list[Json] = []

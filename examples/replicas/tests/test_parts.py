@@ -4,11 +4,13 @@ import pathlib
 import tempfile
 import unittest
 
-from relay import config, digest, position
+from relay import config, digest, messages, position, witness
 from relay.barrier import Barrier
 from relay.faults import Misconfigured, Unavailable
 from relay.metrics import Metrics
+from relay.http1 import Response
 from relay.position import Position
+from relay.witness import Witness
 from tests import eventually
 
 RELAY_TOML = pathlib.Path(__file__).parent.parent / "relay.toml"
@@ -53,17 +55,31 @@ class PositionFile(unittest.TestCase):
         with tempfile.TemporaryDirectory() as folder:
             path = pathlib.Path(folder) / "position"
             self.assertEqual(position.load(path), Position())
-            position.save(path, Position("7", 12, "d"))
-            self.assertEqual(position.load(path), Position("7", 12, "d"))
+            for proof in (None, Witness(messages.message(b"PUT /config", b"k", b"\xff"), 200, b"\xfe")):
+                position.save(path, Position("7", 12, "d", proof))
+                self.assertEqual(position.load(path), Position("7", 12, "d", proof))
+            self.assertEqual(path.stat().st_mode & 0o777, 0o600)  # it has a retry key
             self.assertEqual([it.name for it in pathlib.Path(folder).iterdir()], ["position"])
 
     def test_what_is_no_position(self) -> None:
         with tempfile.TemporaryDirectory() as folder:
             path = pathlib.Path(folder) / "position"
-            for text in ("", "[]", "7", '{"revision":"7"}', '{"other":7}', '{"revision":7'):
+            for text in ("", "[]", "7", '{"revision":"7"}', '{"other":7}', '{"revision":7', '{"witness":7}', '{"witness":{"message":"eA==","status":200,"body":""}}'):
                 path.write_text(text)
                 with self.assertRaises(Misconfigured, msg=text):
                     position.load(path)
+
+
+class Proof(unittest.TestCase):
+    def test_which_responses_avroreg_keeps(self) -> None:
+        def response(status: int, code: int) -> Response:
+            return Response(status, b"", b'{"error_code":%d}' % code)
+
+        message, first = messages.message(b"PUT /config", b"k", b"{}"), Witness(b"first", 200, b"")
+        for found in (Response(200, b"", b"[]"), response(404, 40401), response(409, 409), response(422, 42201), response(422, 42205)):
+            self.assertEqual(witness.after(message, found, first), Witness(message, found.status, found.body))
+        for found in (response(400, 40001), response(404, 404), response(405, 405), response(422, 42290)):
+            self.assertEqual(witness.after(message, found, first), first)
 
 
 class Configuration(unittest.TestCase):

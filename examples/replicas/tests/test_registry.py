@@ -1,33 +1,42 @@
 """The relay with a stand-in for avroreg: which messages it repeats, and that no write overtakes one without a response."""
 import asyncio
+import dataclasses
 import pathlib
 import tempfile
 import threading
+import time
 import unittest
 from typing import AsyncGenerator
 from unittest import mock
 
 from relay import config, digest, messages, position, registry
 from relay.config import Address
-from relay.faults import Unavailable
+from relay.faults import Refused, Unavailable
 from relay.http1 import Request
 from relay.log import Base, Entry, Log
 from relay.position import Position
 from relay.registry import Registry
 from relay.replica import Replica
+from relay.skips import APPLIED, SKIPPED, Skip
+from relay.witness import Witness
 from tests import eventually
 
+READ = Request(b"GET /schemas/ids/1", (), b"", False, False)
 RELAY_TOML = pathlib.Path(__file__).parent.parent / "relay.toml"
 
 
 class StandIn:
-    """A stand-in for avroreg. It keeps the lines of its messages, and misbehaves by one word of `moods` for each message."""
+    """A stand-in for avroreg. It keeps the lines of its messages, and misbehaves by one word of `moods` for each message.
+
+    It knows each message that it answered, as avroreg does by the retry key, and answers the questions of the relay's proof.
+    """
 
     def __init__(self) -> None:
         self.got: list[bytes] = []
         self.heads: list[bytes] = []
         self.moods: list[str] = []
-        self.connections = 0
+        self.replies: dict[bytes, bytes] = {}  # by the retry key
+        self.connections = self.questions = 0
 
     async def start(self) -> Address:
         self.server = await asyncio.start_server(self.serve, "127.0.0.1", 0)
@@ -38,26 +47,45 @@ class StandIn:
         try:
             while True:
                 head = await reader.readuntil(b"\r\n\r\n")
-                line = head.partition(b"\r\n")[0]
-                mood = self.moods.pop(0) if self.moods else "answer"
-                if mood == "close unread":
-                    return
-                self.got.append(line)
-                self.heads.append(head)
-                if mood == "close":
-                    return
-                if mood == "slow":
-                    await asyncio.sleep(0.2)
-                status = b"500 Internal Server Error" if mood == "fault" else b"404 Not Found" if mood == "missing" else b"200 OK"
-                body = b"%d" % len(self.got)
-                end = b"Connection: close\r\n" if mood == "last" else b""
-                writer.write(b"HTTP/1.1 %s\r\nContent-Length: %d\r\n%s\r\n%s" % (status, len(body), end, body))
-                if mood == "last":
+                length, key = int(head.partition(b"Content-Length: ")[2]), messages.key_of(head)
+                body = await reader.readexactly(length)
+                if not (await self.prove(reader, writer, key) if b'{"mode": ' in body else await self.answer(head, key, writer)):
                     return
         except (asyncio.IncompleteReadError, asyncio.CancelledError):
             pass
         finally:
             writer.close()
+
+    async def prove(self, reader: asyncio.StreamReader, writer: asyncio.StreamWriter, key: bytes) -> bool:
+        """Answers a question, and the message after it, whose response the registry has kept."""
+        self.questions += 1
+        code = 42290 if key in self.replies else 42204
+        self.send(writer, b"422 No", b'{"error_code":%d}' % code)
+        witnessed = await reader.readuntil(b"\r\n\r\n")
+        await reader.readexactly(int(witnessed.partition(b"Content-Length: ")[2]))
+        self.send(writer, b"200 OK" if key in self.replies else b"422 No", self.replies.get(key, b'{"error_code":42290}'))
+        return True
+
+    async def answer(self, head: bytes, key: bytes, writer: asyncio.StreamWriter) -> bool:
+        """Answers a message by its mood. Returns whether another one may follow."""
+        mood = self.moods.pop(0) if self.moods else "answer"
+        if mood == "close unread":
+            return False
+        self.got.append(head.partition(b"\r\n")[0])
+        self.heads.append(head)
+        if mood == "close":
+            return False
+        if mood == "slow":
+            await asyncio.sleep(0.2)
+        status = b"500 Internal Server Error" if mood == "fault" else b"404 Not Found" if mood == "missing" else b"200 OK"
+        body = b"%d" % len(self.got)
+        self.send(writer, status, body, b"Connection: close\r\n" if mood == "last" else b"")
+        if mood == "answer":
+            self.replies[key] = body
+        return mood != "last"
+
+    def send(self, writer: asyncio.StreamWriter, status: bytes, body: bytes, end: bytes = b"") -> None:
+        writer.write(b"HTTP/1.1 %s\r\nContent-Length: %d\r\n%s\r\n%s" % (status, len(body), end, body))
 
 
 def write(number: int) -> bytes:
@@ -134,6 +162,7 @@ class StandInLog(Log):
         self.compared = 0
         self.start: Base | None = None
         self.is_new = False
+        self.skipped: dict[int, Skip] = {}
         self.path = pathlib.Path()
 
     async def entries(self, after: int) -> AsyncGenerator[Entry, None]:
@@ -156,6 +185,9 @@ class StandInLog(Log):
 
     async def publish(self, node: str, revision: int, seen: str) -> None:
         self.published.append((revision, position.load(self.path).revision))
+
+    async def skips(self) -> dict[int, Skip]:
+        return self.skipped
 
     async def positions(self) -> dict[str, dict[str, object]]:
         self.compared += 1
@@ -181,7 +213,7 @@ class Applying(unittest.IsolatedAsyncioTestCase):
         host, port = await self.avroreg.start()
         text = RELAY_TOML.read_text().replace("/var/lib/avroreg-relay/position", str(self.path))
         text = text.replace("/run/avroreg-relay/local-reads", str(self.local_reads))
-        path.write_text(text.replace("127.0.0.1:8081", f"{host}:{port}").replace("patience_seconds = 8.0", "patience_seconds = 3.0"))
+        path.write_text(text.replace("127.0.0.1:8081", f"{host}:{port}").replace("patience_seconds = 8.0", "patience_seconds = 3.0").replace("failover_seconds = 25.0", "failover_seconds = 0.0"))
         self.config = config.load(path)
         self.work: list[asyncio.Task[None]] = []
         self.replicas: list[Replica] = []
@@ -200,7 +232,7 @@ class Applying(unittest.IsolatedAsyncioTestCase):
         self.replicas.append(replica)
         log.etcd, replica.log, log.path = replica.log.etcd, log, self.path
         replica.barrier.ask_newest = log.newest
-        self.work += [asyncio.create_task(replica.follow()), asyncio.create_task(replica.keep_books())]
+        self.work += [*map(asyncio.create_task, (replica.follow(), replica.keep_books(), replica.keep_local_reads()))]
         return replica
 
     async def test_no_write_passes_one_without_a_response(self) -> None:
@@ -213,7 +245,8 @@ class Applying(unittest.IsolatedAsyncioTestCase):
             for at, number in enumerate(numbers):
                 body = b"1" if number == 0 else b"%d" % (first + at + (4 if revision == 10 else 3))
                 seen = digest.extend(seen, revision, write(number), 200, body)
-        self.assertEqual(replica.position, Position("c", 20, seen))
+        last = Witness(write(4), 200, b"8")
+        self.assertEqual(replica.position, Position("c", 20, seen, last))
 
     async def test_it_goes_on_from_its_position(self) -> None:
         position.save(self.path, Position("c", 10, "d"))
@@ -224,8 +257,8 @@ class Applying(unittest.IsolatedAsyncioTestCase):
     async def test_a_position_is_saved_before_it_is_published(self) -> None:
         log = StandInLog(entries(1, 1))
         self.replica(log)
-        await eventually(lambda: bool(log.published))
-        self.assertEqual(log.published, [(20, 20)])
+        await eventually(lambda: bool(log.published) and log.published[-1][0] == 20)
+        self.assertEqual([it for it in log.published if it[0] != it[1]], [])
 
     async def test_etcd_is_set_up_anew_under_a_running_relay(self) -> None:
         log = StandInLog(entries(1))
@@ -280,13 +313,13 @@ class Applying(unittest.IsolatedAsyncioTestCase):
         self.assertEqual(replica.health()["status"], "stopped")
 
     async def test_when_nginx_may_read_from_avroreg(self) -> None:
-        """nginx may read from avroreg after the node follows the log without a contradicting majority, until it stops or ends."""
+        """nginx may read from avroreg once the node follows the log and has applied it, until it stops or ends."""
         self.local_reads.touch()  # left by a killed relay
         log = StandInLog(entries(1))
         log.is_followed = False
         replica = self.replica(log)
         self.assertFalse(self.local_reads.exists())
-        await eventually(lambda: bool(log.compared))
+        await eventually(lambda: bool(log.queries > 1))
         self.assertFalse(self.local_reads.exists())
         log.is_followed = True
         await eventually(self.local_reads.exists)
@@ -303,21 +336,132 @@ class Applying(unittest.IsolatedAsyncioTestCase):
         replica.close()
         self.assertFalse(self.local_reads.exists())
 
+    async def current(self, log: StandInLog) -> Replica:
+        """A relay that lets nginx read from avroreg, and doesn't check this again."""
+        replica = self.replica(log)
+        await eventually(self.local_reads.exists)
+        self.work[-1].cancel()
+        await asyncio.gather(self.work[-1], return_exceptions=True)
+        log.queries = 0
+        return replica
+
     async def test_which_reads_ask_the_majority(self) -> None:
         log = StandInLog([], newest=0)
-        replica = self.replica(log)
-        read = Request(b"GET /schemas/ids/1", (), b"", False, False)
-        self.assertEqual((await replica.answer(read))[1].status, 200)
+        replica = await self.current(log)
+        self.assertEqual((await replica.answer(READ))[1].status, 200)
         self.assertEqual(log.queries, 0)
         self.avroreg.moods = ["missing", "answer"]
-        self.assertEqual((await replica.answer(read))[1].status, 200)
+        self.assertEqual((await replica.answer(READ))[1].status, 200)
         self.assertEqual(log.queries, 1)
-        self.assertEqual((await replica.answer(read._replace(is_fresh=True)))[1].status, 200)
+        self.assertEqual((await replica.answer(READ._replace(is_fresh=True)))[1].status, 200)
         self.assertEqual(log.queries, 2)
         log.last = 10  # an entry that this node hasn't applied
         self.avroreg.moods = ["missing"]
         with self.assertRaises(Unavailable):
-            await replica.answer(read)
+            await replica.answer(READ)
+
+    async def test_reads_of_a_node_that_may_lack_a_write(self) -> None:
+        log = StandInLog([], newest=0)
+        replica = await self.current(log)
+        replica.end_local_reads()
+        self.assertEqual((await replica.answer(READ))[1].status, 200)
+        self.assertEqual(log.queries, 1)
+        log.last = 10
+        with self.assertRaises(Unavailable):
+            await replica.answer(READ)
+        log.queries = 0
+        self.assertEqual((await replica.answer(READ._replace(may_be_stale=True)))[1].status, 200)
+        self.assertEqual(log.queries, 0)
+
+    async def test_after_a_write_that_another_node_may_acknowledge(self) -> None:
+        """The relay hasn't acknowledged a write, so nginx sends it to another node. Until this node surely has it, nginx doesn't read here."""
+        self.config = dataclasses.replace(self.config, patience_seconds=0.1, failover_seconds=1.0)
+        replica = self.replica(StandInLog([]))
+        await eventually(self.local_reads.exists)
+        key, response = await replica.answer(Request(b"PUT /config", (b"k",), b'{"compatibility":"FULL"}', False, False))
+        self.assertEqual((key, response.status, self.local_reads.exists()), (b"k", 503, False))
+        began = time.monotonic()
+        await eventually(self.local_reads.exists)
+        self.assertGreater(time.monotonic() - began, 0.9)
+
+    async def test_etcd_ends(self) -> None:
+        log = StandInLog([])
+        replica = self.replica(log)
+        await eventually(self.local_reads.exists)
+        log.is_followed, log.is_new = False, True
+        await eventually(lambda: not self.local_reads.exists())
+        self.assertFalse(replica.is_current)
+
+    async def test_another_registry(self) -> None:
+        """avroreg is started with another file. Until it has the right one again, the node answers nothing and applies nothing."""
+        log = StandInLog(entries(1, 1))
+        log.all, later = log.all[:1], log.all
+        replica = self.replica(log)
+        await eventually(self.local_reads.exists)
+        right, self.avroreg.replies = self.avroreg.replies, {}
+        self.avroreg.got.clear()
+        with self.assertRaisesRegex(Unavailable, "another registry"):
+            await replica.answer(READ._replace(may_be_stale=True))
+        await eventually(lambda: not self.local_reads.exists())
+        log.all, log.is_new = later, False
+        with self.assertRaisesRegex(Unavailable, "another registry"):
+            await replica.registry.ask(write(1))
+        self.avroreg.replies = {b"k0": b"another"}  # another registry that has the key
+        with self.assertRaisesRegex(Unavailable, "another registry"):
+            await replica.answer(READ._replace(may_be_stale=True))
+        self.assertEqual(self.avroreg.got, [])
+        self.avroreg.replies = right
+        self.assertEqual((await replica.answer(READ._replace(may_be_stale=True)))[1].status, 200)
+        await eventually(self.local_reads.exists)
+
+    async def test_a_relay_that_starts_with_another_registry(self) -> None:
+        position.save(self.path, Position("c", 10, "d", Witness(write(0), 200, b"1")))
+        replica = self.replica(StandInLog(entries(1, 1)))
+        await eventually(lambda: "another registry" in replica.troubles.get("registry", ""))
+        self.assertEqual((self.avroreg.got, self.local_reads.exists(), replica.health()["status"]), ([], False, "trouble"))
+        self.avroreg.replies[b"k0"] = b"1"
+        await eventually(lambda: replica.position.revision == 20)
+        self.assertEqual(self.avroreg.got, [line(1)])
+
+    async def test_a_skipped_message(self) -> None:
+        log = StandInLog(entries(3, 1))
+        log.skipped = {10: Skip("slow", "k1", {"n1": "not applied"})}
+        replica = self.replica(log)
+        await eventually(lambda: "skip" in replica.troubles)
+        self.assertEqual(self.avroreg.got, [])
+        log.skipped = {10: log.skipped[10].vote("n2", "not applied", {"n1", "n2"})}
+        await eventually(lambda: replica.position.revision == 20)
+        self.assertEqual((log.skipped[10].decision, self.avroreg.got), (SKIPPED, [line(0), b"PUT /mode HTTP/1.1", line(2), line(3)]))
+        self.assertIn(b"\r\nRegistry-Retry-Key: k1\r\n", self.avroreg.heads[1])
+
+    async def test_a_message_that_one_node_has_applied(self) -> None:
+        log = StandInLog(entries(1))
+        log.skipped = {10: Skip("slow", "k0", {"n1": "not applied"}).vote("n2", APPLIED, {"n1", "n2"})}
+        replica = self.replica(log)
+        await eventually(lambda: replica.position.revision == 10)
+        self.assertEqual((log.skipped[10].decision, self.avroreg.got), (APPLIED, [line(0)]))
+
+    async def test_a_skipped_entry_that_is_no_batch(self) -> None:
+        log = StandInLog([Entry(10, b"0", b"nonsense"), *entries(0, 1)[1:]])
+        log.skipped = {10: Skip("foreign", "", {}, SKIPPED)}
+        replica = self.replica(log)
+        await eventually(lambda: replica.position.revision == 20)
+        self.assertEqual((replica.broken, self.avroreg.got), (None, [line(0)]))
+
+    async def test_what_clients_see_of_errors(self) -> None:
+        replica = self.replica(StandInLog(entries(1)))
+        await eventually(lambda: replica.position.revision == 10)
+        replica.stop("n2 at 10.0.0.2 answered otherwise")
+        with self.assertRaises(Refused) as found:
+            await replica.answer(READ)
+        self.assertEqual(found.exception.message, "This node is stopped")
+
+    async def test_malformed_writes_are_not_appended(self) -> None:
+        replica = self.replica(StandInLog([]))
+        for body in (b"", b"zzz", b'{"compatibility":1}', b'{"mode":"READONLY"}'):
+            with self.assertRaises(Refused) as found:
+                await replica.answer(Request(b"PUT /config", (), body, False, False))
+            self.assertEqual((found.exception.code, len(replica.appender.waiting)), (40001, 0))
 
     async def test_the_key_of_a_request_that_is_no_write(self) -> None:
         replica = self.replica(StandInLog([]))

@@ -30,7 +30,7 @@ class Break(NamedTuple):
 
 STOPS = "no node stops: .*answered otherwise than this node"
 TABLES = "the tables of the three nodes are the log's"
-REQUEST = "messages.message(request.line, key, request.body)"
+REQUEST = "messages.message(request.line, key, body)"
 
 # n2 counts every tenth entry as applied without sending it to avroreg.
 SKIP_AN_ENTRY = Edit(
@@ -51,13 +51,15 @@ APPLY_BEFORE_APPEND = Edit(
 ANSWER_BEFORE_APPLY = Edit(
     "appender.py",
     "                break\n            except Unavailable:\n                is_unsure",
-    "                for write in batch:\n"
-    "                    if not write.response.done():\n"
-    '                        write.response.set_result(Response(200, b"Content-Length: 2\\r\\n", b"{}"))\n'
+    "                for writer in writers:\n"
+    "                    if not writer.done():\n"
+    '                        writer.set_result(Response(200, b"Content-Length: 2\\r\\n", b"{}"))\n'
     "                break\n            except Unavailable:\n                is_unsure",
 )
 # A node goes on from a position whose next entries were trimmed.
 TRUST_AN_OLD_POSITION = Edit("log.py", "        if after < trimmed:\n", "        if after < trimmed - 2**62:\n")
+# A node takes any registry for its own.
+TRUST_ANY_REGISTRY = Edit("registry.py", "        if self.witness:\n", "        if False:\n")
 # No node compares its digest with the others' digests.
 DROP_THE_DIGEST = Edit("digest.py", "    return 2 * len(contradicting) > nodes\n", "    return False\n")
 
@@ -67,6 +69,7 @@ TRIAL = {
     "answer-before-apply": Break("responses that the log doesn't give: [1-9]", (ANSWER_BEFORE_APPLY,)),
     "trust-an-old-position": Break("a node that needs entries that were trimmed stops", (TRUST_AN_OLD_POSITION,)),
     "drop-the-digest": Break("a node whose avroreg was written to past the log stops", (DROP_THE_DIGEST,)),
+    "trust-any-registry": Break(f"({STOPS}|{TABLES}|a fresh read of|responses that the log)", (TRUST_ANY_REGISTRY,)),
     # The nodes themselves don't detect these two, so the trial's comparison must.
     "skip-an-entry-unnoticed": Break(TABLES, (SKIP_AN_ENTRY, DROP_THE_DIGEST)),
     "apply-before-append-unnoticed": Break(TABLES, (APPLY_BEFORE_APPEND, DROP_THE_DIGEST)),
@@ -81,17 +84,32 @@ ODD = {
     # The relay ignores Transfer-Encoding, so another reader may see another end of the body.
     "ignore-a-coding": Break(
         "an ambiguous request got",
-        (Edit("http1.py", '    if b"transfer-encoding" in fields:\n', '    if b"transfer-encodings" in fields:\n'),),
+        (Edit("http1.py", 'values(head, b"transfer-encoding")', 'values(head, b"transfer-encodings")'),),
     ),
     # If there are two lengths, the relay uses the first one.
     "take-the-first-length": Break(
         "an ambiguous request got",
-        (Edit("http1.py", "    if len(lengths) > 1 or not re.", "    if not re."),),
+        (Edit("http1.py", "    if len(lines) > 1 or not length:", "    if not length:"),),
     ),
     # After a malformed head, the relay reads on.
     "read-on": Break(
         "an ambiguous request got",
-        (Edit("server.py", 'time.monotonic(), "faulty", b"", True\n', 'time.monotonic(), "faulty", b"", False\n'),),
+        (
+            Edit(
+                "server.py",
+                "        except Refused as refused:\n            await self.refuse(reader, writer, refused)\n",
+                "        except Refused as refused:\n"
+                '            writer.write(http1.write_response(http1.refusal(refused), b"", False))\n'
+                "            await self.serve_one(reader, writer, task)\n",
+            ),
+        ),
+    ),
+    # The relay takes what h11 takes.
+    "trust-the-parser": Break("an ambiguous request got", (Edit("http1.py", " or not CLEAR_HEAD.fullmatch(text)", ""),)),
+    # The relay appends malformed writes too.
+    "append-malformed-writes": Break(
+        "[0-9]+ odd bodies",
+        (Edit("replica.py", "        if is_malformed(request.line, request.body):\n", "        if False:\n"),),
     ),
 }
 
@@ -107,9 +125,16 @@ CLIENTS = {
         (Edit("nginx.conf", "        error_page 404 ", "        error_page 418 "),),
     ),
     # nginx ignores Cache-Control, and reads from its own avroreg.
-    "read-fresh-locally": Break("Wrong..a fresh read at n1 has them", (ANY_GET,)),
-    # nginx reads from its own avroreg though the relay has stopped.
-    "read-from-a-stopped-node": Break(OTHERS, (Edit("nginx.conf", "if (!-f ", "if (-d "),)),
+    "read-fresh-locally": Break("Wrong..a fresh read at n1 has a write of n2", (ANY_GET,)),
+    # nginx reads from its own avroreg though the relay has removed the file.
+    "read-from-an-old-node": Break("Wrong..a read at n1 has these writes", (Edit("nginx.conf", "if (!-f ", "if (-d "),)),
+    # A relay that lags behind the log keeps the file.
+    "keep-the-file": Break(
+        "Wrong..n1's etcd hangs, so nginx doesn't read",
+        (Edit("replica.py", "                self.end_local_reads()\n                self.note(\"reads\"", "                self.note(\"reads\""),),
+    ),
+    # nginx's own errors lack the key.
+    "forget-the-key": Break("Wrong..a write gets 50[24] with its key", (Edit("nginx.conf", "    ~^[^:]*:5          $retry_key;\n", ""),)),
     # A relay that stops leaves the file.
     "leave-the-file": Break(
         OTHERS,
@@ -117,11 +142,6 @@ CLIENTS = {
     ),
     # nginx sends writes to its own avroreg, which rejects them because of the key that nginx sets.
     "send-writes-past-the-log": Break("Wrong..a write at n1 got Found.status=400", (ANY_METHOD,)),
-    # The relay keeps its connection, so avroreg doesn't serve nginx for a quarter of a second.
-    "keep-the-connection": Break(
-        "Wrong..a read after a write isn.t slower",
-        (Edit("registry.py", "or not (is_followed or self.asking > 1)", "and False"),),
-    ),
 }
 
 

@@ -14,7 +14,7 @@ from typing import Any, Iterator
 
 from trial.clients import Write
 from trial.local import HERE
-from trial.machine import Machine
+from trial.machine import Command, Machine, fault
 from trial.spaces import SpaceNode
 
 TABLES = {
@@ -22,15 +22,14 @@ TABLES = {
     "against": "subject, version, position, id",
 }  # fmt: skip
 DUMP = """
-import asyncio, base64, json, sys
+import asyncio, base64, json, pathlib, sys
 sys.path.insert(0, sys.argv[1])
 from relay import messages
-from relay.config import Address
 from relay.etcd import Etcd
 from relay.log import Log
 
 async def dump(upto):
-    async for entry in Log(Etcd(Address("127.0.0.1", 2379))).entries(0):
+    async for entry in Log(Etcd(pathlib.Path(sys.argv[3]))).entries(0):
         for message in messages.split(entry.batch):
             print(json.dumps([entry.revision, base64.b64encode(message).decode()]))
         if entry.revision >= upto:
@@ -44,7 +43,7 @@ Rows = dict[str, list[tuple[Any, ...]]]
 
 def dump(node: SpaceNode, upto: int) -> list[tuple[int, bytes]]:
     """The messages of the log up to a revision, from a node's etcd."""
-    lines = node.inside(sys.executable, "-c", DUMP, str(HERE), str(upto), seconds=1800).splitlines()
+    lines = node.inside(sys.executable, "-c", DUMP, str(HERE), str(upto), str(node.etcd_socket), seconds=1800).splitlines()
     return [(revision, base64.b64decode(text)) for revision, text in map(json.loads, lines)]
 
 
@@ -94,6 +93,10 @@ def out_of_order(messages: list[bytes], writes: list[Write]) -> int:
     return found
 
 
+def is_malformed(message: bytes) -> bool:
+    return Command(message).value is None
+
+
 class Fold:
     """The log, folded by the machine in Python and by `avroreg run`."""
 
@@ -110,9 +113,18 @@ class Fold:
         ]
         self.is_whole = len(found) == len(log)
 
+    def expected(self, write: Write) -> set[tuple[int, str]]:
+        """The responses to a write. The relay rejects malformed ones, which aren't in the log."""
+        message = write.message()
+        return {fault(40001)} if is_malformed(message) else self.responses.get(message, set())
+
+    def malformed(self) -> int:
+        """How many messages of the log are malformed."""
+        return sum(is_malformed(message) for _, message in self.log)
+
     def lost(self, writes: list[Write]) -> list[Write]:
         """The acknowledged writes that aren't in the log."""
-        return [it for it in writes if it.message() not in self.responses]
+        return [it for it in writes if not self.expected(it)]
 
     def wrong_responses(self, writes: list[Write]) -> list[tuple[Write, int, str]]:
         """The responses to clients that the fold of the log doesn't give."""
@@ -120,7 +132,7 @@ class Fold:
             (write, status, body.decode())
             for write in writes
             for status, body in write.responses
-            if (status, body.decode()) not in self.responses.get(write.message(), set())
+            if (status, body.decode()) not in self.expected(write)
         ]
 
     def repeats(self) -> int:

@@ -1,4 +1,5 @@
 """The faults of the trial, each with its beginning and its end."""
+import pathlib
 import signal
 import time
 from functools import partial
@@ -27,6 +28,23 @@ def empty(node: SpaceNode) -> None:
     node.run("registry")
 
 
+def lose_the_file(node: SpaceNode) -> None:
+    """avroreg starts without its file, like one whose disk isn't mounted."""
+    node.kill("registry")
+    for path in filter(pathlib.Path.exists, node.files()):
+        path.rename(path.with_suffix(path.suffix + ".lost"))
+    node.run("registry")
+
+
+def find_the_file(node: SpaceNode) -> None:
+    node.kill("registry")
+    for path in node.files():
+        path.unlink(missing_ok=True)
+        if (lost := path.with_suffix(path.suffix + ".lost")).exists():
+            lost.rename(path)
+    node.run("registry")
+
+
 def kill_slowly(node: SpaceNode) -> None:
     node.kill("registry")
     time.sleep(1)
@@ -41,8 +59,8 @@ def kill_and_compact(nodes: list[SpaceNode], node: SpaceNode) -> None:
     if len(running) < 2:
         return  # two nodes are killed, and one alone can't compact
     for _ in range(10):  # an election takes one or two seconds
-        revision = running[0].etcd("kv/range", {"key": "eA=="}).get("header", {}).get("revision")
-        if revision and "header" in running[0].etcd("kv/compaction", {"revision": revision}):
+        revision = running[0].etcd("/v3/kv/range", {"key": "eA=="}).get("header", {}).get("revision")
+        if revision and "header" in running[0].etcd("/v3/kv/compaction", {"revision": revision}):
             return
         time.sleep(0.5)
 
@@ -55,6 +73,7 @@ def kinds_of_faults(nodes: list[SpaceNode]) -> dict[str, tuple[Step, Step]]:
 
     kinds: dict[str, tuple[Step, Step]] = {
         "fill the disk": (fill, empty),
+        "lose the file": (lose_the_file, find_the_file),
         "kill all": (lambda it: it.kill(), run_all),
         "kill registry, then all": (kill_slowly, run_all),
         "kill all, and compact": (partial(kill_and_compact, nodes), run_all),

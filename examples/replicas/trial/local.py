@@ -20,11 +20,14 @@ import sys
 import time
 import urllib.error
 import urllib.request
+from typing import Any
 
 HERE = pathlib.Path(__file__).resolve().parent.parent
 NODES = ("n1", "n2", "n3")
 SERVICES = ("etcd", "registry", "relay")
-PORTS = ("etcd", "peer", "registry", "relay", "admin", "https", "nodes")
+FAILOVER_SECONDS = 3.0  # shorter than on a real node, so that the trials take less time
+PORTS = ("peer", "registry", "relay", "admin", "https", "nodes")
+ETCD = "client:0"  # the socket that etcd makes for unix://client:0, in its working folder
 
 
 def free_ports(count: int) -> int:
@@ -49,6 +52,7 @@ class Node:
         self.ports = {name: first + at for at, name in enumerate(PORTS)}
         self.database, self.position = self.folder / "registry.db", self.folder / "position"
         self.config, self.local_reads = self.folder / "relay.toml", self.folder / "local-reads"
+        self.etcd_socket = self.folder / ETCD
         self.host, self.peer_host, self.prefix = "127.0.0.1", "127.0.0.1", list[str]()
         self.relay = HERE / "avroreg-relay"
 
@@ -67,8 +71,8 @@ class Node:
         values: dict[str, object] = {
             "node": self.name,
             **{name: f"{self.host}:{self.ports[port]}" for name, port in (("listen", "relay"), ("admin", "admin"))},
-            **{name: f"127.0.0.1:{self.ports[name]}" for name in ("registry", "etcd")},
-            "position": str(self.position), "database": str(self.database), "program": str(self.folder / "avroreg"), "owner": "",
+            "registry": f"127.0.0.1:{self.ports['registry']}", "etcd": str(self.etcd_socket), "failover_seconds": FAILOVER_SECONDS,
+            "position": str(self.position), "database": str(self.database), "program": str(self.folder / "avroreg"),
             "local_reads": str(self.local_reads),
             **{f"{verb}_{service}": [*control, verb, self.name, service]
                for verb in ("start", "stop") for service in ("relay", "registry")},
@@ -85,7 +89,7 @@ class Node:
         if service == "relay":
             return [sys.executable, str(self.relay), "--config", str(self.config)]
         tls = self.cluster.folder / "tls"
-        client = f"http://127.0.0.1:{self.ports['etcd']}"
+        client = f"unix://{ETCD}"
         members = ",".join(f"{it.name}={it.peer_url}" for it in self.cluster.nodes.values())
         arguments = {
             "name": self.name, "data-dir": self.folder / "etcd", "logger": "zap", "log-level": "warn", "pre-vote": "true",
@@ -109,9 +113,14 @@ class Node:
     def start(self, service: str) -> None:
         if self.process(service):
             return
+        left = {"etcd": self.etcd_socket, "registry": self.local_reads}.get(service)  # systemd removes these files
+        if left:
+            left.unlink(missing_ok=True)
         with open(self.folder / f"{service}.log", "ab") as log:
             command = [*self.prefix, *self.command(service)]
-            process = subprocess.Popen(command, stdin=subprocess.DEVNULL, stdout=log, stderr=log, start_new_session=True)
+            process = subprocess.Popen(
+                command, stdin=subprocess.DEVNULL, stdout=log, stderr=log, start_new_session=True, cwd=self.folder, umask=0o077
+            )
         (self.folder / f"{service}.pid").write_text(str(process.pid))
 
     def end(self, service: str, number: signal.Signals) -> None:
@@ -125,15 +134,25 @@ class Node:
         (self.folder / f"{service}.pid").unlink(missing_ok=True)
 
     def is_up(self, service: str) -> bool:
-        port = self.ports[service]
-        target = {"etcd": "/health", "registry": "/config", "relay": "/config"}[service]
+        if service == "etcd":
+            return self.etcd("/health").get("health") == "true"
         try:
-            with urllib.request.urlopen(f"http://127.0.0.1:{port}{target}", timeout=5) as found:
-                return service != "etcd" or json.load(found)["health"] == "true"
+            stale = urllib.request.Request(f"http://127.0.0.1:{self.ports[service]}/config", headers={"Cache-Control": "max-stale"})
+            with urllib.request.urlopen(stale, timeout=5):
+                return True
         except urllib.error.HTTPError:  # a stopped relay still runs, and returns 503
             return service == "relay" and self.health().get("status") == "stopped"
         except OSError:
             return False
+
+    def etcd(self, path: str, document: object = None) -> dict[str, Any]:
+        """The JSON response of this node's etcd, empty if it doesn't respond."""
+        words = ["curl", "-s", "-m", "5", "--unix-socket", str(self.etcd_socket), f"http://etcd{path}"]
+        found = subprocess.run([*words, *([] if document is None else ["-d", json.dumps(document)])], capture_output=True).stdout
+        try:
+            return dict(json.loads(found))
+        except ValueError:
+            return {}
 
     def health(self) -> dict[str, object]:
         try:

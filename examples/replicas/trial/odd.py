@@ -5,8 +5,8 @@
 
 n1 gets all of them, and n2 and n3 only the entries of the log. So the nodes are equal exactly if no request was applied past
 the log. If two parsers could find different ends of a request, it hides a write, which must not be executed. avroreg itself
-must reject each kind of write with the key that the relay sends with requests outside the log. The status is 0 if all checks
-succeed.
+must reject each kind of write with the key that the relay sends with requests outside the log. Writes with malformed bodies
+aren't in the log, and get the response of an avroreg alone. The status is 0 if all checks succeed.
 """
 import argparse
 import collections
@@ -16,7 +16,10 @@ import json
 import pathlib
 import random
 import re
+import shutil
+import signal
 import socket
+import subprocess
 import sys
 import tempfile
 
@@ -24,7 +27,8 @@ HERE = pathlib.Path(__file__).resolve().parent.parent
 sys.path.insert(0, str(HERE))
 
 from relay.messages import NO_KEY  # noqa: E402
-from trial.local import Node  # noqa: E402
+from trial import bodies  # noqa: E402
+from trial.local import Node, free_ports  # noqa: E402
 from trial.steps import LocalTrial, Wrong, ask, check, end_on_sigterm, schema  # noqa: E402
 
 METHODS = ("PUT", "POST", "DELETE", "GET", "PATCH", "put", "Post", "HEAD", "OPTIONS", "TRACE", "CONNECT", "DELETE ", "\tPUT", "X-PUT", "PU\0T")
@@ -104,6 +108,8 @@ def statuses_of(responses: bytes) -> list[int]:
 
 
 class Odd(LocalTrial):
+    alone: "subprocess.Popen[bytes] | None" = None
+
     def check_ambiguous(self) -> None:
         """Checks that each request that two parsers could read differently gets one error, and that its hidden write isn't executed."""
         heads = (
@@ -148,6 +154,54 @@ class Odd(LocalTrial):
                 raise Wrong(f"a write is past the log: {method} {target}")
         check(True, f"the log has {len(WRITES)} writes of all kinds")
 
+    def check_malformed(self, count: int, pick: random.Random) -> None:
+        """Sends writes with odd bodies and subjects to n1 and to an avroreg alone, which begin with the same contents. Checks that both
+        return the same, and that the log gets exactly the writes that avroreg doesn't reject as malformed."""
+        alone = self.start_alone()
+        counts: collections.Counter[int] = collections.Counter()
+        before = self.entries()
+        for number in range(count):
+            method, target, body = bodies.write(pick)
+            found = [self.send_write(port, method, target, body, f"b{number}") for port in (self.nodes[0].ports["relay"], alone)]
+            if found[0] != found[1]:
+                raise Wrong(f"the relay returns {found[0]}, and avroreg {found[1]}: {method} {target} {body[:200]!r}")
+            counts[found[0][0]] += 1
+        appended = self.entries() - before
+        check(appended == count - counts[400], f"{count} odd bodies: {counts[400]} are malformed for both, and the log has the other {appended}")
+
+    def start_alone(self) -> int:
+        """Starts an avroreg with the contents of n1. Returns its port."""
+        first, port = self.nodes[0], free_ports(1)
+        self.wait_until_equal()
+        first.end("relay", signal.SIGTERM)
+        first.end("registry", signal.SIGKILL)
+        for name in ("registry.db", "registry.db-wal"):
+            if (source := first.folder / name).exists():
+                shutil.copy(source, self.folder / name)
+        self.cluster.start("n1")
+        self.alone = subprocess.Popen([self.program, "serve", "--db", self.folder / "registry.db", "--port", str(port)])
+        self.wait_for(lambda: self.is_listening(port), "an avroreg alone serves a copy of n1's database")
+        return port
+
+    def is_listening(self, port: int) -> bool:
+        with socket.socket() as connection:
+            return connection.connect_ex(("127.0.0.1", port)) == 0
+
+    def send_write(self, port: int, method: str, target: str, body: bytes, key: str) -> tuple[int, bytes]:
+        connection = http.client.HTTPConnection("127.0.0.1", port, timeout=60)
+        try:
+            connection.request(method, target, body, {"Registry-Retry-Key": key, "Connection": "close"})
+            response = connection.getresponse()
+            return response.status, response.read()
+        finally:
+            connection.close()
+
+    def tear_down(self) -> None:
+        if self.alone:
+            self.alone.kill()
+            self.alone.wait()
+        super().tear_down()
+
     def send_random_requests(self, count: int, pick: random.Random) -> None:
         counts: collections.Counter[int] = collections.Counter()
         for number in range(count):
@@ -160,6 +214,7 @@ class Odd(LocalTrial):
         self.check_ambiguous()
         self.check_writes_without_key()
         self.check_writes_with_key()
+        self.check_malformed(count, pick)
         self.send_random_requests(count, pick)
         self.wait_until_equal()
         check(self.register(self.nodes[0], 1), "n1 goes on")

@@ -18,17 +18,17 @@ import sys
 import tempfile
 import threading
 import time
-import urllib.request
 
 HERE = pathlib.Path(__file__).resolve().parent.parent
 sys.path.insert(0, str(HERE))
 
 from trial.local import Node  # noqa: E402
 from trial.steps import FAULTS, Wrong, ask, check, end_on_sigterm, schema  # noqa: E402
-from trial.through_nginx import ThroughNginx  # noqa: E402
+from trial.accidents import Accidents  # noqa: E402
+from trial.files import Files  # noqa: E402
 
 
-class Operations(ThroughNginx):
+class Operations(Accidents, Files):
     def from_nothing(self) -> None:
         self.set_up()
         check(self.register(self.nodes[0], 3) == [1, 2, 3], "three schemas are registered at n1")
@@ -198,11 +198,7 @@ class Operations(ThroughNginx):
 
     def serves(self, node: Node) -> bool:
         """Whether a node's etcd serves. Its /health fails during the alarm of a full quota, so this reads /version."""
-        try:
-            with urllib.request.urlopen(f"http://127.0.0.1:{node.ports['etcd']}/version", timeout=5) as found:
-                return bool(found.status == 200)
-        except OSError:
-            return False
+        return bool(node.etcd("/version"))
 
     def full_quota(self) -> None:
         """etcd's quota is full: writes stop, and reads go on. With a larger quota, trimming makes room."""
@@ -280,7 +276,8 @@ class Operations(ThroughNginx):
         self.wait_until_equal()
 
 
-NAMES = ("from_nothing", "clients", "adopt", "replace", "upgrade", "trim", "full_quota", "restore_all", "tampered")
+NAMES = ("from_nothing", "clients", "adopt", "replace", "upgrade", "trim", "full_quota", "restore_all", "tampered", "lost_file", "limits",
+         "slow_check", "foreign_entry", "full_disk", "links")  # fmt: skip
 
 
 def main() -> None:

@@ -108,8 +108,8 @@ def single_front(folder: pathlib.Path, port: int, tls: pathlib.Path, users: path
     source, roles, https = HERE.parent / "nginx", folder / "roles.conf", free_ports(2)
     roles.write_text((source / "roles.conf").read_text().replace('"~^admin$"', f'"~^{front.USER[0]}$"'))
     config = (source / "avroreg.conf").read_text()
-    for name in ("listen 443", "ssl_", "auth_"):
-        config = config.replace(f"# {name}", name)
+    for mark in ("#tls ", "#users "):
+        config = config.replace(mark, "")
     for old, new in (
         ("127.0.0.1:8081", f"127.0.0.1:{port}"),
         ("listen 127.0.0.1:8080", f"listen 127.0.0.1:{https + 1}"),
@@ -121,7 +121,7 @@ def single_front(folder: pathlib.Path, port: int, tls: pathlib.Path, users: path
         ("/var/lib/nginx/avroreg", f"{folder}/cache"),
         ("rate=200r/s", "rate=1000000r/s"),
         ("avroreg_connections 50;", "avroreg_connections 1000;"),
-        ("proxy_cache           $schema_cache;", "proxy_cache           off;"),
+        ("proxy_cache $schema_cache;", "proxy_cache off;"),
     ):
         if old not in config:
             raise SystemExit(f"rates.py: avroreg.conf has no {old}")

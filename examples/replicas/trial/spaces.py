@@ -2,19 +2,17 @@
 
 Every process that starts here is killed by its process id.
 """
-import json
 import os
 import pathlib
 import shutil
 import signal
 import subprocess
 import threading
-from typing import Any
 
 from trial.local import SERVICES, Cluster, Node
 
 PEER_BRIDGE, CLIENT_BRIDGE = "avrbridgep", "avrbridgec"
-PORTS = {"etcd": 2379, "peer": 2380, "registry": 8081, "relay": 8080, "admin": 8082}
+PORTS = {"peer": 2380, "registry": 8081, "relay": 8080, "admin": 8082}
 LINKS = {"peers": "p", "clients": "c"}
 
 
@@ -104,16 +102,8 @@ class SpaceNode(Node):
                     self.starts[service] += 1
                     self.start(service)
 
-    def etcd(self, path: str, document: dict[str, object]) -> dict[str, Any]:
-        """The JSON response of this node's etcd, empty if it doesn't respond."""
-        found = self.inside("curl", "-s", "-m", "5", "-d", json.dumps(document), f"http://127.0.0.1:{self.ports['etcd']}/v3/{path}")
-        try:
-            return dict(json.loads(found))
-        except ValueError:
-            return {}
-
     def is_leader(self) -> bool:
-        status = self.etcd("maintenance/status", {})
+        status = self.etcd("/v3/maintenance/status", {})
         return "leader" in status and status["leader"] == status["header"]["member_id"]
 
 

@@ -14,6 +14,7 @@ from typing import Callable
 from trial.local import HERE, Cluster, Node
 
 FAULTS = (OSError, http.client.HTTPException)
+STALE = {"Cache-Control": "max-stale"}  # of a read that may be as old as the node
 
 
 class Wrong(Exception):
@@ -38,6 +39,10 @@ def ask(node: Node, method: str, target: str, body: bytes | None = None, **field
             return found.status, found.read()
     except urllib.error.HTTPError as fault:
         return fault.code, fault.read()
+
+
+def mode(path: pathlib.Path) -> int:
+    return path.stat().st_mode & 0o777
 
 
 def end_on_sigterm() -> None:
@@ -65,10 +70,22 @@ class LocalTrial:
             node.relay = self.relay
         self.cluster.new(self.program)
         self.cluster.start()
+        self.wait_for(lambda: all(it.health().get("status") == "ok" for it in self.nodes), "three nodes are healthy")
 
     def tear_down(self) -> None:
         if (self.cluster.folder / "n1").exists():
             self.cluster.end(signal.SIGKILL)
+
+    def files(self, node: Node) -> list[pathlib.Path]:
+        return [node.database, node.database.with_name("registry.db-wal")]
+
+    def put_aside(self, node: Node, name: str, is_kept: bool = False) -> pathlib.Path:
+        """Moves or copies the database of a node whose avroreg doesn't run."""
+        folder = self.folder / name
+        folder.mkdir()
+        for path in filter(pathlib.Path.exists, self.files(node)):
+            (shutil.copy if is_kept else shutil.move)(path, folder / path.name)
+        return folder
 
     def command(self, node: Node, *arguments: object, fails: bool = False) -> str:
         done = subprocess.run(

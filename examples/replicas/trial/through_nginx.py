@@ -37,7 +37,10 @@ class ThroughNginx(LocalTrial):
             self.check_users()
             self.check_local_reads()
             self.check_another_node()
+            self.check_hanging_relay()
             self.check_old_node()
+            self.check_own_writes()
+            self.check_two_nodes_down()
             self.check_stopped_node()
         finally:
             for it in fronts:
@@ -139,6 +142,20 @@ class ThroughNginx(LocalTrial):
         check(self.read("/subjects/a/versions") == (200, b"[1]"), "n1's avroreg is killed, and another node answers a read")
         self.cluster.start("n1", "registry")
 
+    def check_hanging_relay(self) -> None:
+        """n1's relay hangs. On a real node, systemd kills it."""
+        first, second = self.nodes[:2]
+        self.wait_for(first.local_reads.exists, "n1's relay lets nginx read from avroreg")
+        relay = first.process("relay")
+        assert relay
+        os.kill(relay, signal.SIGSTOP)
+        try:
+            check(self.register_at(second, "b", 6) == 200, "n1's relay hangs, and n2 accepts a write")
+            check(self.read("/subjects/b/versions", **FRESH) == (200, b"[1,2]"), "a fresh read at n1 has a write of n2")
+        finally:
+            os.kill(relay, signal.SIGCONT)
+        self.wait_until_equal()
+
     def check_old_node(self) -> None:
         """n1's etcd hangs, so n1 gets no writes of the other nodes."""
         first, second = self.nodes[:2]
@@ -147,15 +164,59 @@ class ThroughNginx(LocalTrial):
         assert etcd
         os.kill(etcd, signal.SIGSTOP)
         try:
+            self.wait_for(lambda: not first.local_reads.exists(), "n1's etcd hangs, so nginx doesn't read from n1's avroreg")
             check(self.send("POST", "/subjects/c/versions", schema(3)).status == 200, "n1's etcd hangs, and another node accepts a write")
             check(self.register_at(second, "a", 4) == 200, "n2 accepts another write")
-            check(self.read("/subjects/a/versions") == (200, b"[1]"), "a read at n1 lacks these writes")
+            seconds, found = self.timed_read("/subjects/a/versions")
+            check(found == (200, b"[1,2]") and seconds < 3, f"a read at n1 has these writes, after {seconds:.1f} s")
             check(self.read("/subjects/a/versions", **FRESH) == (200, b"[1,2]"), "a fresh read at n1 has them")
             check(self.read("/subjects/c/versions") == (200, b"[1]"), "n1 finds a subject that another node acknowledged")
         finally:
             os.kill(etcd, signal.SIGCONT)
         check(ask(second, "GET", "/subjects/c/versions") == (200, b"[1]"), "the write of that subject is applied exactly once")
         self.wait_until_equal()
+
+    def check_own_writes(self) -> None:
+        """n1's etcd is killed, so another node acknowledges the writes of n1's clients. They see their writes at n1, also afterwards."""
+        first = self.nodes[0]
+        self.wait_for(first.local_reads.exists, "n1's relay lets nginx read from avroreg")
+        first.end("etcd", signal.SIGKILL)
+        for level in ("FULL", "NONE", "BACKWARD"):
+            written = self.send("PUT", "/config", b'{"compatibility":"%s"}' % level.encode())
+            found = [self.read("/config") for _ in range(3)]
+            wanted = b'{"compatibilityLevel":"%s"}' % level.encode()
+            check(written.status == 200 and found == [(200, wanted)] * 3, f"n1's etcd is killed, and its clients see their write {level}")
+        first.end("relay", signal.SIGKILL)
+        written = self.send("PUT", "/config/own", b'{"compatibility":"FULL"}')
+        self.cluster.start("n1", "etcd")
+        first.start("relay")
+        while not first.local_reads.exists():
+            found = [self.read("/config/own")]
+            if written.status != 200 or found != [(200, b'{"compatibilityLevel":"FULL"}')]:
+                raise Wrong(f"n1 starts again, and its clients don't see their write: {written}, {found}")
+        check(self.read("/config/own") == (200, b'{"compatibilityLevel":"FULL"}'), "n1 starts again, and its clients see their writes all the time")
+        self.wait_until_equal()
+
+    def check_two_nodes_down(self) -> None:
+        """Without a majority, a write gets its key also from nginx's own errors, and n1 answers reads alone."""
+        others = [(node, service) for node in self.nodes[1:] for service in ("etcd", "relay")]
+        for node, service in others:
+            node.end(service, signal.SIGKILL)
+        found = self.send("POST", "/subjects/unsure/versions", schema(77))
+        check(found.status in (502, 503, 504) and re.fullmatch("[0-9a-f]{32}", found.key), f"a write gets {found.status} with its key {found.key}")
+        lookup = self.send("POST", "/subjects/a", schema(1))
+        check(lookup.status in (502, 503, 504), f"a lookup with a body gets {lookup.status}")
+        seconds, reading = self.timed_read("/subjects/a/versions")
+        check(reading == (200, b"[1,2]") and seconds < 5, f"n1 answers a read, after {seconds:.1f} s")
+        fresh = self.send("GET", "/subjects/a/versions", **FRESH)
+        check((fresh.status in (502, 503, 504), fresh.key) == (True, ""), f"a fresh read gets {fresh.status}, without a key")
+        check(self.read("/subjects/none/versions")[0] in (502, 503, 504), "an unknown subject gets no 404")
+        for node, service in others:
+            node.start(service)
+        self.wait_for(lambda: all(it.is_up("relay") for it in self.nodes), "the other nodes run again")
+        self.wait_until_equal()
+        retried = self.send("POST", "/subjects/unsure/versions", schema(77), **{"Registry-Retry-Key": found.key})
+        check((retried.status, self.read("/subjects/unsure/versions")) == (200, (200, b"[1]")), "its retry is applied exactly once")
 
     def register_at(self, node: Node, subject: str, number: int) -> int:
         for _ in range(50):

@@ -117,6 +117,7 @@ class Trial:
                   f" {fold.differing[:1] or ''}")  # fmt: skip
         writes = [it for client in self.clients for it in client.writes]
         lost, wrongly = fold.lost(writes), fold.wrong_responses(writes)
+        self.check(not fold.malformed(), f"malformed messages in the log: {fold.malformed()}")
         self.check(not lost, f"acknowledged writes that the log lacks: {len(lost)} of {len(writes)}")
         count = sum(len(it.responses) for it in writes)
         example = [(it.message(), status, body) for it, status, body in wrongly[:1]]
@@ -209,7 +210,7 @@ class Trial:
         self.rebuild(second, self.nodes[0])
 
     def try_older_database(self) -> None:
-        """n3 gets an older database next to its newer position. It must stop, and the others must go on."""
+        """n3 gets an older database next to its newer position. It must answer nothing until it has the right one again."""
         third = self.nodes[2]
         third.kill("relay", "registry")
         old = [it.read_bytes() if it.exists() else b"" for it in third.files()]
@@ -217,12 +218,30 @@ class Trial:
         self.register("before-older-database")
         self.wait_until_idle()
         third.kill("relay", "registry")
-        for path, content in zip(third.files(), old):
-            path.write_bytes(content) if content else path.unlink(missing_ok=True)
-        third.run("registry", "relay")
+        right = [it.read_bytes() if it.exists() else b"" for it in third.files()]
+        self.put_files(third, old)
         self.register("after-older-database")
-        self.check_stops(third, "answered otherwise", "a node with an older database next to its position stops")
+        self.wait_for_trouble(third)
+        statuses = [ask(third, "GET", target)[0] for target in ("/config", "/subjects", "/subjects/after-older-database/versions")]
+        self.check(statuses == [503] * 3, f"a node with an older database next to its position answers nothing: {statuses}")
         self.check_others_go_on(third)
+        third.kill("relay", "registry")
+        self.put_files(third, right)
+        self.wait_until_idle()
+        self.check(ask(third, "GET", "/subjects/after-older-database/versions")[0] == 200, "with its own database it goes on")
+
+    def put_files(self, node: SpaceNode, contents: list[bytes]) -> None:
+        """Starts a node with these files."""
+        for path, content in zip(node.files(), contents):
+            path.write_bytes(content) if content else path.unlink(missing_ok=True)
+        node.run("registry", "relay")
+
+    def wait_for_trouble(self, node: SpaceNode) -> None:
+        for _ in range(200):
+            if "another registry" in str(node.health().get("reasons")):
+                return
+            time.sleep(0.3)
+        self.check(False, f"{node.name} notices that it has another registry: {node.health()}")
 
     # --- The whole trial
 
