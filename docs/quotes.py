@@ -1,15 +1,12 @@
 #!/usr/bin/env python3
-"""Compares headline.md with the files that it quotes, and definitions.md with the definitions that it describes.
+"""Compares the quotes of docs/proofs.md with the files that it quotes.
 
 A quote is a block between lines of ```. The line before it has its file's path in backticks. The lines of the block have to
-be in that file, one after another, and each bracket that they open has to be closed. A table row that begins with the path
-of a file of definitions has the file's number of lines next, and one sentence has their sum ("the N lines of the files
-beneath"). Prints what differs, with status 1, or one line.
+be in that file, one after another, and each bracket that they open has to be closed. Prints what differs, with status 1, or
+one line.
 
-    docs/quotes.py            compares headline.md
-    docs/quotes.py --names    compares definitions.md too: each name is in its file, and each file of specs/ has a row
-    docs/quotes.py --lines    writes the numbers of lines as they are
-    docs/quotes.py --quotes   writes the quotes too: the same definitions, as their files have them now
+    docs/quotes.py            compares the page
+    docs/quotes.py --quotes   writes the quotes: the same definitions, as their files have them now
 """
 
 import re
@@ -17,11 +14,8 @@ import sys
 from pathlib import Path
 
 ROOT = Path(__file__).resolve().parent.parent
-PAGE = ROOT / "docs" / "headline.md"
-NAMES = ROOT / "docs" / "definitions.md"
+PAGE = ROOT / "docs" / "proofs.md"
 NAMED = re.compile(r"`(crates/[^`]+)`")
-COUNTED = re.compile(r"(\| `(crates/[^`]+\.antt)` \| )(\d+)( \|.*)")
-SUM = re.compile(r"(.*\bthe )([\d,]+)( lines of the files beneath\b.*)")
 DEFINED = re.compile(r"\s*(?:abbrev pub|unfoldable pub|pub record|pub data|pub fn) (\w+)")
 COMMENT = re.compile(r"\s*(--|//)")
 
@@ -64,11 +58,11 @@ def faults_of_quotes(lines):
     for number, path, quote in quotes_of(lines):
         found = lines_of(path) if path else None
         if found is None:
-            yield f"docs/headline.md:{number}: no file is named before the quote, or the file is missing"
+            yield f"docs/proofs.md:{number}: no file is named before the quote, or the file is missing"
         elif not quote or not is_in(quote, found):
-            yield f"docs/headline.md:{number}: the quote isn't in {path}"
+            yield f"docs/proofs.md:{number}: the quote isn't in {path}"
         elif not is_whole(quote):
-            yield f"docs/headline.md:{number}: the quote from {path} ends inside a bracket"
+            yield f"docs/proofs.md:{number}: the quote from {path} ends inside a bracket"
 
 
 def position_of(name, lines):
@@ -102,68 +96,18 @@ def with_quotes(lines):
     return page
 
 
-def with_counts(lines):
-    """The page with each file's number of lines, and their sum, as they are."""
-    rows = [row for line in lines if (row := COUNTED.fullmatch(line))]
-    total = sum(len(lines_of(row[2]) or []) for row in rows)
-    for line in lines:
-        row, whole = COUNTED.fullmatch(line), SUM.fullmatch(line)
-        if row and (found := lines_of(row[2])) is not None:
-            yield f"{row[1]}{len(found)}{row[4]}"
-        elif whole:
-            yield f"{whole[1]}{total:,}{whole[3]}"
-        else:
-            yield line
-
-
-def faults_of_counts(lines):
-    """Which numbers of lines are wrong."""
-    if not any(SUM.fullmatch(line) for line in lines):
-        yield "docs/headline.md: no sentence has the sum of the lines"
-    for number, (line, right) in enumerate(zip(lines, with_counts(lines)), 1):
-        row = COUNTED.fullmatch(line)
-        if row and lines_of(row[2]) is None:
-            yield f"docs/headline.md:{number}: {row[2]} is missing"
-        elif line != right:
-            yield f"docs/headline.md:{number}: the right line is {right}"
-
-
-def faults_of_names():
-    """Which names and files of definitions.md don't exist, and which files have no row."""
-    crate, seen = None, set()
-    for number, line in enumerate(NAMES.read_text(encoding="utf-8").splitlines(), 1):
-        crate = line[3:] if line.startswith("## ") else crate
-        cells = [cell.strip() for cell in line.strip("|").split(" | ")] if line.startswith("| ") else []
-        files = [f"crates/{crate}/specs/{name}" for name in re.findall(r"`([^`]+\.antt)`", cells[2])] if len(cells) == 3 else []
-        seen.update(files)
-        text = "\n".join("\n".join(lines_of(file) or []) for file in files)
-        for file in files:
-            if lines_of(file) is None:
-                yield f"docs/definitions.md:{number}: {file} is missing"
-        for name in re.findall(r"`(\w+)`", cells[0]) if files else []:
-            if not re.search(rf"\b(?:pub|record|data) {name}\b", text):
-                yield f"docs/definitions.md:{number}: {name} isn't in {' or '.join(files)}"
-    for file in sorted(ROOT.glob("crates/*/specs/**/*.antt")):
-        path = file.relative_to(ROOT).as_posix()
-        if "pub mod" not in file.read_text(encoding="utf-8") and path not in seen:
-            yield f"docs/definitions.md: {path} has no row"
-
-
 def main(options):
     lines = PAGE.read_text(encoding="utf-8").splitlines()
-    if {"--lines", "--quotes"} & set(options):
-        lines = list(with_counts(with_quotes(lines) if "--quotes" in options else lines))
+    if "--quotes" in options:
+        lines = with_quotes(lines)
         PAGE.write_text("\n".join(lines) + "\n", encoding="utf-8")
-    faults = [*faults_of_quotes(lines), *faults_of_counts(lines)]
-    if "--names" in options:
-        faults += faults_of_names()
+    faults = list(faults_of_quotes(lines))
     for fault in faults:
         print(fault)
     if not faults:
-        quotes = sum(1 for _ in quotes_of(lines))
-        files = sum(1 for line in lines if COUNTED.fullmatch(line))
-        print(f"docs/headline.md: {quotes} quotes and {files} files are right")
+        print(f"docs/proofs.md: {sum(1 for _ in quotes_of(lines))} quotes are right")
     return 1 if faults else 0
 
 
-sys.exit(main(sys.argv[1:]))
+if __name__ == "__main__":
+    sys.exit(main(sys.argv[1:]))
