@@ -14,6 +14,9 @@ from relay.config import Config
 from relay.faults import Misconfigured
 from relay.position import Position
 
+SOURCES = pathlib.Path(__file__).resolve().parents[3] / "admin" / "avroreg-admin"
+ADMIN = SOURCES if SOURCES.exists() else pathlib.Path("/usr/bin/avroreg-admin")
+
 
 class Node:
     def __init__(self, config: Config) -> None:
@@ -76,23 +79,20 @@ class Node:
     # --- Operations
 
     async def backup(self, folder: pathlib.Path) -> None:
-        """Copies the database and its position. This node's services are stopped during the copy; the other nodes go on."""
+        """Copies the position, and after it the database, while the node runs.
+
+        So the position is never newer than the database. If it is older, the relay sends some entries again, and avroreg knows their retry keys.
+        """
         folder = folder.absolute()
         check_parents(folder)
         folder.mkdir(mode=0o700)
         copy = File(folder / "registry.db")
-        self.stop()
         try:
             at = self.saved_position()
-            for suffix in ("", "-wal"):
-                if (source := self.database.next_to(suffix)).exists():
-                    copy.next_to(suffix).copy_from(source)
-        except Failed:
+            self.run(str(ADMIN), "folder", "backup", str(self.database.path), str(copy.path), "--program", str(self.config.program))
+        except (Failed, Misconfigured):
             shutil.rmtree(folder)
             raise
-        finally:
-            self.start()
-        self.merge(copy)
         position.save(folder / "position", at)
         facts = {"node": self.config.node, "revision": at.revision, "sha256": copy.digest()}
         File(folder / "backup.json").write(json.dumps(facts).encode())

@@ -1,5 +1,6 @@
 """Fresh reads: they wait until this node has applied every write that was acknowledged by any node before the read arrived."""
 import asyncio
+import time
 from typing import Awaitable, Callable
 
 from relay.faults import Unavailable
@@ -15,6 +16,7 @@ class Barrier:
         self.turn = asyncio.Lock()
         self.next_query: asyncio.Task[int] | None = None
         self.waiting: list[tuple[int, asyncio.Future[None]]] = []
+        self.awaited = 0, 0.0  # a revision that was the newest at this time; the first one that isn't applied yet
 
     def set_applied(self, revision: int) -> None:
         """Records that this node has applied the entries up to a revision."""
@@ -23,6 +25,11 @@ class Barrier:
             if wanted <= revision and not future.done():
                 future.set_result(None)
         self.waiting = [it for it in self.waiting if not it[1].done()]
+
+    def is_behind(self, seconds: float) -> bool:
+        """Whether this node hasn't applied an entry that was the newest more than these seconds ago."""
+        revision, since = self.awaited
+        return self.applied < revision and time.monotonic() > since + seconds
 
     async def wait(self, seconds: float) -> None:
         """Waits until this node has applied the entry that is the newest now."""
@@ -49,7 +56,10 @@ class Barrier:
     async def query(self) -> int:
         async with self.turn:
             self.next_query = None
-            return await self.ask_newest()
+            newest = await self.ask_newest()
+            if self.applied >= self.awaited[0]:
+                self.awaited = newest, time.monotonic()
+            return newest
 
     async def until_applied(self, revision: int) -> None:
         if self.applied < revision:

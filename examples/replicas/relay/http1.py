@@ -37,6 +37,10 @@ class Response(NamedTuple):
     fields: bytes  # without the status line and Connection, each line with its end
     body: bytes
 
+    def found_nothing(self) -> bool:
+        """Whether the registry lacks what a read asks for. The other 404 is for a path that doesn't exist."""
+        return self.status == 404 and not self.body.startswith(b'{"error_code":404,')
+
 
 def values(head: h11.Request, name: bytes) -> tuple[bytes, ...]:
     """The values of the fields with this name, in order."""

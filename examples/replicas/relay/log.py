@@ -8,7 +8,7 @@ import json
 import secrets
 from typing import Any, AsyncGenerator, NamedTuple
 
-from relay import etcd, skips
+from relay import etcd, messages, skips
 from relay.etcd import Etcd, Json
 from relay.faults import Broken, Compacted, Refused, Unavailable
 from relay.skips import Skip
@@ -30,6 +30,12 @@ class Entry(NamedTuple):
     revision: int
     name: bytes
     batch: bytes
+
+    def messages(self) -> list[bytes]:
+        try:
+            return list(messages.split(self.batch))
+        except ValueError as fault:
+            raise Broken(f"revision {self.revision} of the log is no batch of messages: avroreg-cluster skip {self.revision}") from fault
 
 
 class Base(NamedTuple):

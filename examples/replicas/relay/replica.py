@@ -19,6 +19,7 @@ from relay.log import Entry, Log
 from relay.metrics import Metrics
 from relay.position import Position
 from relay.registry import Registry
+from relay.replies import Replies
 from relay.skips import SKIPPED, Skip
 
 RETRY_SECONDS = 0.2
@@ -26,8 +27,6 @@ BOOKS_SECONDS = 1.0
 CHECK_SECONDS = 0.5  # between two checks whether nginx may read from avroreg
 CURRENT_SECONDS = 2.0  # for one such check; an election may take longer
 SLOW_SECONDS = 10.0
-NOT_FOUND = 404
-NO_SUCH_PATH = b'{"error_code":404,'
 
 logger = logging.getLogger("avroreg-relay")
 
@@ -44,6 +43,7 @@ class Replica:
         self.history = digest.History()
         self.history.add(self.position.revision, self.position.digest)
         self.metrics = Metrics()
+        self.replies = Replies()
         self.skips: dict[int, Skip] = {}
         self.in_progress: tuple[int, float] | None = None  # the revision that avroreg applies, and since when
         self.broken: str | None = None
@@ -88,8 +88,8 @@ class Replica:
             self.skips = await self.log.skips()
         self.troubles.pop("skip", None)
         if not skip or skip.decision != SKIPPED:
-            return batch_of(entry)
-        return [skip.replaced(message) for message in batch_of(entry)] if skip.key else []
+            return entry.messages()
+        return [skip.replaced(message) for message in entry.messages()] if skip.key else []
 
     async def apply(self, entry: Entry) -> None:
         """Sends each message of an entry until avroreg answers it. A message that was applied earlier changes nothing."""
@@ -100,6 +100,7 @@ class Replica:
             self.in_progress = entry.revision, time.monotonic()
             response = await self.send_until_answered(message, message is not batch[-1])
             self.registry.witness = witness.after(message, response, self.registry.witness)
+            self.replies.add(message, response)
             seen = digest.extend(seen, entry.revision, message, response.status, response.body)
             responses.append(response)
         self.in_progress = None
@@ -228,8 +229,14 @@ class Replica:
         if is_malformed(request.line, request.body):
             raise Refused(40001, "Malformed request")
         body = b"" if request.line.startswith(b"DELETE ") else request.body  # avroreg ignores it
+        message = messages.message(request.line, key, body)
+        if known := self.replies.find(message):
+            return key, known
+        if self.barrier.is_behind(self.config.patience_seconds):  # its client wouldn't get a response, and each retry would go into the log
+            self.leave_to_others()
+            raise Refused(http1.BUSY, "This node lags behind the log")
         try:
-            return key, await self.appender.response_to(messages.message(request.line, key, body))
+            return key, await self.appender.response_to(message)
         except Unavailable:
             refused = Refused(50301, "No response yet, and the write may still be applied: retry it with its key")
         except Refused as fault:
@@ -244,7 +251,7 @@ class Replica:
         message = messages.message(request.line, messages.NO_KEY, request.body)
         if request.may_be_stale or (self.is_current and not request.is_fresh):
             response = await self.registry.ask(message)
-            if response.status != NOT_FOUND or response.body.startswith(NO_SUCH_PATH):
+            if not response.found_nothing():
                 return response
         if self.lags:  # nginx asks another node at once
             raise Unavailable("this node lags behind the log")
@@ -291,10 +298,3 @@ class Replica:
         self.save_position()
         self.registry.close()
         self.log.etcd.close()
-
-
-def batch_of(entry: Entry) -> list[bytes]:
-    try:
-        return list(messages.split(entry.batch))
-    except ValueError as fault:
-        raise Broken(f"revision {entry.revision} of the log is no batch of messages: avroreg-cluster skip {entry.revision}") from fault

@@ -52,6 +52,11 @@ def code_of(response: Response) -> int:
     return int(json.loads(response.body)["error_code"])
 
 
+def is_kept(response: Response) -> bool:
+    """Whether avroreg returns this response to each retry."""
+    return code_of(response) not in NOT_KEPT
+
+
 def after(message: bytes, response: Response, earlier: Witness | None) -> Witness | None:
     """The witness after a message of the log and its response."""
-    return earlier if code_of(response) in NOT_KEPT else Witness(message, response.status, response.body)
+    return Witness(message, response.status, response.body) if is_kept(response) else earlier

@@ -1,15 +1,17 @@
-"""Digest, position, configuration, metrics, barrier."""
+"""Digest, position, configuration, metrics, retries, barrier."""
 import asyncio
 import pathlib
 import tempfile
 import unittest
+from unittest import mock
 
-from relay import config, digest, messages, position, witness
+from relay import config, digest, messages, position, replies, witness
 from relay.barrier import Barrier
 from relay.faults import Misconfigured, Unavailable
 from relay.metrics import Metrics
 from relay.http1 import Response
 from relay.position import Position
+from relay.replies import Replies
 from relay.witness import Witness
 from tests import eventually
 
@@ -112,6 +114,19 @@ class MetricsText(unittest.TestCase):
             self.assertIn(line, text.splitlines())
 
 
+class Retries(unittest.TestCase):
+    @mock.patch.object(replies, "REMEMBERED", 2)
+    def test_the_last_responses_that_avroreg_keeps(self) -> None:
+        found, kept = Replies(), Response(200, b"", b"{}")
+        for message in (b"1", b"2", b"3"):
+            found.add(message, kept)
+        for code in (40001, 42290):
+            found.add(b"4", Response(422, b"", b'{"error_code":%d}' % code))
+        self.assertEqual([found.find(it) for it in (b"1", b"2", b"3", b"4")], [None, kept, kept, None])
+        found.add(b"4", Response(422, b"", b'{"error_code":42201}'))
+        self.assertEqual([found.find(it) is None for it in (b"2", b"3", b"4")], [True, False, False])
+
+
 class Barriers(unittest.IsolatedAsyncioTestCase):
     def setUp(self) -> None:
         self.newest, self.queries, self.faults = 0, 0, 0
@@ -148,6 +163,24 @@ class Barriers(unittest.IsolatedAsyncioTestCase):
         found = await asyncio.gather(*later, return_exceptions=True)
         self.assertTrue(all(isinstance(it, Unavailable) for it in found), found)
         self.assertEqual(self.queries, 2)
+
+    async def test_it_is_behind_once_an_entry_is_late(self) -> None:
+        barrier, self.newest = Barrier(self.ask, 5), 7
+        for newest in (7, 9):
+            self.newest = newest
+            with self.assertRaises(Unavailable):
+                await barrier.wait(0.05)
+        self.assertEqual((barrier.is_behind(0), barrier.is_behind(30)), (True, False))
+        since = barrier.awaited[1]
+        barrier.set_applied(6)
+        self.assertTrue(barrier.is_behind(0))
+        barrier.set_applied(7)
+        self.assertFalse(barrier.is_behind(0))
+        with self.assertRaises(Unavailable):
+            await barrier.wait(0.05)
+        self.assertEqual(barrier.awaited[0], 9)
+        self.assertGreater(barrier.awaited[1], since)
+        self.assertTrue(barrier.is_behind(0))
 
     async def test_it_repeats_and_gives_up(self) -> None:
         barrier, self.faults = Barrier(self.ask, 5), 2

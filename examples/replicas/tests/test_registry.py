@@ -22,6 +22,7 @@ from relay.witness import Witness
 from tests import eventually
 
 READ = Request(b"GET /schemas/ids/1", (), b"", False, False)
+WRITE = Request(b"PUT /config", (b"k",), b'{"compatibility":"FULL"}', False, False)
 RELAY_TOML = pathlib.Path(__file__).parent.parent / "relay.toml"
 
 
@@ -378,11 +379,36 @@ class Applying(unittest.IsolatedAsyncioTestCase):
         self.config = dataclasses.replace(self.config, patience_seconds=0.1, failover_seconds=1.0)
         replica = self.replica(StandInLog([]))
         await eventually(self.local_reads.exists)
-        key, response = await replica.answer(Request(b"PUT /config", (b"k",), b'{"compatibility":"FULL"}', False, False))
+        key, response = await replica.answer(WRITE)
         self.assertEqual((key, response.status, self.local_reads.exists()), (b"k", 503, False))
         began = time.monotonic()
         await eventually(self.local_reads.exists)
         self.assertGreater(time.monotonic() - began, 0.9)
+
+    async def test_a_retry_of_an_applied_write(self) -> None:
+        """It gets the first response, and isn't appended, even if the node lags. Another request with the key is appended."""
+        self.config = dataclasses.replace(self.config, patience_seconds=0.1)
+        applied = messages.message(WRITE.line, WRITE.keys[0], WRITE.body)
+        replica = self.replica(StandInLog([Entry(10, b"0", applied), Entry(20, b"1", write(7))], newest=30))
+        await eventually(lambda: replica.position.revision == 20 and replica.barrier.is_behind(0.1))
+        key, response = await replica.answer(WRITE)
+        self.assertEqual((key, response.status, response.body), (b"k", 200, b"1"))
+        self.assertEqual((len(self.avroreg.got), len(replica.appender.waiting)), (2, 0))
+        with self.assertRaises(Refused):
+            await replica.answer(WRITE._replace(body=b'{"compatibility":"NONE"}'))
+
+    async def test_a_node_that_lags_appends_no_write(self) -> None:
+        """Its client wouldn't get a response, and each retry would be one more entry to apply."""
+        self.config = dataclasses.replace(self.config, patience_seconds=0.1, failover_seconds=30.0)
+        replica = self.replica(StandInLog([], newest=10))  # an entry that this node hasn't applied
+        await eventually(lambda: replica.barrier.is_behind(0.1))
+        replica.current_from = 0.0
+        with self.assertRaises(Refused) as found:
+            await replica.answer(WRITE)
+        self.assertEqual((found.exception.code, len(replica.appender.waiting)), (50305, 0))
+        self.assertGreater(replica.current_from, time.monotonic())
+        replica.barrier.set_applied(10)
+        self.assertEqual((await replica.answer(WRITE))[1].status, 503)  # appended, and not confirmed in time
 
     async def test_etcd_ends(self) -> None:
         log = StandInLog([])

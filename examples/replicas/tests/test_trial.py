@@ -5,6 +5,8 @@ from relay import messages
 from trial.clients import Write
 from trial.compare import out_of_order
 from trial.machine import Machine
+from trial.probes import Sample, healthy_spans, majority_spans
+from trial.probes import longest_gap as longest_healthy_gap
 from trial.report import Fault, longest_gap
 
 
@@ -32,6 +34,23 @@ class Gap(unittest.TestCase):
         faults = [Fault("kill all", ("n1",), False, 1, 1.5, 2), Fault("kill etcd", ("n1", "n3"), True, 2.5, 5, 6), Fault("cut", ("n2",), False, 8, 8.2, 9.5)]
         self.assertEqual(longest_gap(0, 11, faults, writes), "6.0 s (kill etcd, n1 and n3; cut, n2)")
         self.assertEqual(longest_gap(0, 30, faults, writes), "20.0 s (between faults)")
+
+
+class Health(unittest.TestCase):
+    def test_a_node_is_healthy_between_good_probes_without_a_fault(self) -> None:
+        samples = [Sample(*it) for it in ((0, True), (1, True), (2, True), (3, False), (4, True), (5, True), (8.5, True), (9, True))]
+        self.assertEqual(list(healthy_spans("n1", samples, [])), [(0, 1), (1, 2), (4, 5), (8.5, 9)])
+        faults = [Fault("kill relay", ("n1",), False, 0.5, 0.7, 2), Fault("kill relay", ("n2",), False, 1, 9, 9)]
+        self.assertEqual(list(healthy_spans("n1", samples, faults)), [(1, 2), (4, 5), (8.5, 9)])
+
+    def test_a_majority(self) -> None:
+        first, second, third = [(0.0, 1.0), (1.0, 2.0), (2.0, 3.0)], [(0.5, 1.5), (1.5, 4.0)], [(3.5, 5.0)]
+        self.assertEqual(list(majority_spans([first, second, third])), [(0.5, 3), (3.5, 4)])
+
+    def test_the_longest_healthy_time_without_a_write(self) -> None:
+        spans = [(0.0, 10.0), (12.0, 30.0), (31.0, 35.0)]  # of them, 5 to 10 and 17 to 30 count
+        for answered, gap in (([], 18), ([1, 2, 29.5], 17.5), ([7, 20, 29], 9), ([5.5, 29], 16.5), ([18, 40], 12)):
+            self.assertEqual(longest_healthy_gap(spans, 0, answered, 36), gap)
 
 
 class SecondRegistry(unittest.TestCase):

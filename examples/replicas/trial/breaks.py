@@ -30,7 +30,6 @@ class Break(NamedTuple):
 
 STOPS = "no node stops: .*answered otherwise than this node"
 TABLES = "the tables of the three nodes are the log's"
-REQUEST = "messages.message(request.line, key, body)"
 
 # n2 counts every tenth entry as applied without sending it to avroreg.
 SKIP_AN_ENTRY = Edit(
@@ -42,9 +41,9 @@ SKIP_AN_ENTRY = Edit(
 # A write goes to this node's avroreg first and then into the log.
 APPLY_BEFORE_APPEND = Edit(
     "replica.py",
-    f"            return key, await self.appender.response_to({REQUEST})\n",
-    f"            response = await self.registry.ask({REQUEST})\n"
-    f"            await self.appender.response_to({REQUEST})\n"
+    "            return key, await self.appender.response_to(message)\n",
+    "            response = await self.registry.ask(message)\n"
+    "            await self.appender.response_to(message)\n"
     "            return key, response\n",
 )
 # A client gets a response when the write is in the log, before avroreg's response.
@@ -62,6 +61,8 @@ TRUST_AN_OLD_POSITION = Edit("log.py", "        if after < trimmed:\n", "       
 TRUST_ANY_REGISTRY = Edit("registry.py", "        if self.witness:\n", "        if False:\n")
 # No node compares its digest with the others' digests.
 DROP_THE_DIGEST = Edit("digest.py", "    return 2 * len(contradicting) > nodes\n", "    return False\n")
+# After a failure of etcd, a node appends nothing for two minutes.
+WAIT_TOO_LONG = Edit("appender.py", "RETRY_SECONDS = 0.1\n", "RETRY_SECONDS = 120\n")
 
 TRIAL = {
     "skip-an-entry": Break(STOPS, (SKIP_AN_ENTRY,)),
@@ -69,6 +70,7 @@ TRIAL = {
     "answer-before-apply": Break("responses that the log doesn't give: [1-9]", (ANSWER_BEFORE_APPLY,)),
     "trust-an-old-position": Break("a node that needs entries that were trimmed stops", (TRUST_AN_OLD_POSITION,)),
     "drop-the-digest": Break("a node whose avroreg was written to past the log stops", (DROP_THE_DIGEST,)),
+    "wait-too-long": Break("a majority was healthy for", (WAIT_TOO_LONG,)),
     "trust-any-registry": Break(f"({STOPS}|{TABLES}|a fresh read of|responses that the log)", (TRUST_ANY_REGISTRY,)),
     # The nodes themselves don't detect these two, so the trial's comparison must.
     "skip-an-entry-unnoticed": Break(TABLES, (SKIP_AN_ENTRY, DROP_THE_DIGEST)),

@@ -25,6 +25,7 @@ from typing import Any
 HERE = pathlib.Path(__file__).resolve().parent.parent
 NODES = ("n1", "n2", "n3")
 SERVICES = ("etcd", "registry", "relay")
+SECONDS = 180.0  # the longest wait for a service, on a busy machine
 FAILOVER_SECONDS = 3.0  # shorter than on a real node, so that the trials take less time
 PORTS = ("peer", "registry", "relay", "admin", "https", "nodes")
 ETCD = "client:0"  # the socket that etcd makes for unix://client:0, in its working folder
@@ -186,7 +187,7 @@ class Cluster:
         names, services = arguments[:1] or NODES, arguments[1:2] or SERVICES
         return [(self.nodes[name], service) for service in services for name in names]
 
-    def start(self, *arguments: str, seconds: float = 60) -> None:
+    def start(self, *arguments: str, seconds: float = SECONDS) -> None:
         selected = self.selected(list(arguments))
         for node, service in selected:
             node.start(service)

@@ -166,6 +166,7 @@ class Operations(Accidents, Files):
         self.wait_for(self.have_published, "the nodes have published their positions")
         self.cluster.end(signal.SIGTERM, "n2", "relay")
         self.register(self.nodes[0], 5)
+        self.wait_for(lambda: self.have_published(2), "n1 and n3 have applied five entries that n2 hasn't")
         backup = self.folder / "trim-old"
         self.command(self.nodes[0], "trim")
         check("5 entries" in self.command(self.nodes[0], "status"), "trim keeps the entries that n2 hasn't applied")

@@ -11,7 +11,7 @@ import urllib.error
 import urllib.request
 from typing import Callable
 
-from trial.local import HERE, Cluster, Node
+from trial.local import HERE, SECONDS, Cluster, Node
 
 FAULTS = (OSError, http.client.HTTPException)
 STALE = {"Cache-Control": "max-stale"}  # of a read that may be as old as the node
@@ -100,7 +100,7 @@ class LocalTrial:
         ids = []
         for _ in range(count):
             self.count += 1
-            until = time.monotonic() + 60
+            until = time.monotonic() + SECONDS
             while True:
                 status, body = ask(node, "POST", f"/subjects/s{self.count}/versions", schema(self.count), **{"Registry-Retry-Key": f"k{self.count}"})
                 if status == 200:
@@ -114,7 +114,7 @@ class LocalTrial:
     def wait_until_equal(self, *nodes: Node) -> None:
         """Waits until the nodes are at one revision and have saved it. Checks that they have one digest and one fingerprint."""
         nodes = nodes or tuple(self.nodes)
-        until = time.monotonic() + 90
+        until = time.monotonic() + SECONDS
         while True:
             found = [it.health() for it in nodes]
             if len({(it.get("revision"), it.get("saved")) for it in found}) == 1 and found[0].get("status") == "ok":
@@ -127,7 +127,7 @@ class LocalTrial:
         check(len(prints) == 1, f"they have one fingerprint: {prints.pop().split()[1]}")
 
     def wait_for(self, condition: Callable[[], object], text: str) -> None:
-        until = time.monotonic() + 60
+        until = time.monotonic() + SECONDS
         while not condition():
             if time.monotonic() > until:
                 raise Wrong(text)

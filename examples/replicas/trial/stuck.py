@@ -10,6 +10,10 @@ from trial.local import Node
 from trial.steps import STALE, LocalTrial, Wrong, ask, check, mode
 
 
+def code_of(found: tuple[int, bytes]) -> int:
+    return int(json.loads(found[1])["error_code"])
+
+
 class Stuck(LocalTrial):
     def slow_check(self) -> None:
         """A check blocks every avroreg, also after restarts. The nodes agree to skip it."""
@@ -27,14 +31,17 @@ class Stuck(LocalTrial):
         check(ask(first, "POST", "/subjects/slow/versions", slow_reader(), **poison)[0] == 503, "a registration with a slow check gets 503")
         self.wait_for(lambda: all("working on revision" in str(it.health()) for it in self.nodes), "every /health names the revision")
         for node in self.nodes:
+            found = ask(node, "PUT", "/config/late", b'{"compatibility":"FULL"}')
+            check(found[0] == 503 and code_of(found) == 50305, f"{node.name} is behind, so it refuses writes before they reach the log")
+        for node in self.nodes:
             node.end("registry", signal.SIGKILL)
             node.start("registry")
         number = re.search("working on revision ([0-9]+)", str(first.health()))
         assert number
         self.skip_everywhere(int(number[1]))
         for node in self.nodes:
-            status, body = ask(node, "POST", "/subjects/slow/versions", slow_reader(), **poison)
-            check((status, json.loads(body)["error_code"]) == (422, 42290), f"a retry at {node.name} gets 42290")
+            self.wait_for(lambda: code_of(ask(node, "POST", "/subjects/slow/versions", slow_reader(), **poison)) == 42290, f"a retry at {node.name} gets 42290")
+        check(ask(second, "GET", "/config/late")[0] == 404, "the writes that were refused aren't applied")
         self.register(first, 1)
         self.wait_until_equal()
         third.end("relay", signal.SIGTERM)

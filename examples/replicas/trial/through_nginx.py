@@ -1,5 +1,6 @@
 """Clients that use the nginx of three nodes, with the repository's nginx.conf."""
 import base64
+import contextlib
 import http.client
 import json
 import os
@@ -9,7 +10,7 @@ import ssl
 import statistics
 import time
 import urllib.request
-from typing import NamedTuple
+from typing import Iterator, NamedTuple
 
 from trial import front
 from trial.local import Node
@@ -17,6 +18,18 @@ from trial.steps import FAULTS, LocalTrial, Wrong, ask, check, schema
 
 
 FRESH = {"Cache-Control": "no-cache"}
+
+
+@contextlib.contextmanager
+def hanging(node: Node, service: str) -> Iterator[None]:
+    """A service of a node hangs."""
+    process = node.process(service)
+    assert process
+    os.kill(process, signal.SIGSTOP)
+    try:
+        yield
+    finally:
+        os.kill(process, signal.SIGCONT)
 
 
 class Found(NamedTuple):
@@ -146,24 +159,16 @@ class ThroughNginx(LocalTrial):
         """n1's relay hangs. On a real node, systemd kills it."""
         first, second = self.nodes[:2]
         self.wait_for(first.local_reads.exists, "n1's relay lets nginx read from avroreg")
-        relay = first.process("relay")
-        assert relay
-        os.kill(relay, signal.SIGSTOP)
-        try:
+        with hanging(first, "relay"):
             check(self.register_at(second, "b", 6) == 200, "n1's relay hangs, and n2 accepts a write")
             check(self.read("/subjects/b/versions", **FRESH) == (200, b"[1,2]"), "a fresh read at n1 has a write of n2")
-        finally:
-            os.kill(relay, signal.SIGCONT)
         self.wait_until_equal()
 
     def check_old_node(self) -> None:
         """n1's etcd hangs, so n1 gets no writes of the other nodes."""
         first, second = self.nodes[:2]
         self.wait_for(first.local_reads.exists, "n1's relay lets nginx read from avroreg")
-        etcd = first.process("etcd")
-        assert etcd
-        os.kill(etcd, signal.SIGSTOP)
-        try:
+        with hanging(first, "etcd"):
             self.wait_for(lambda: not first.local_reads.exists(), "n1's etcd hangs, so nginx doesn't read from n1's avroreg")
             check(self.send("POST", "/subjects/c/versions", schema(3)).status == 200, "n1's etcd hangs, and another node accepts a write")
             check(self.register_at(second, "a", 4) == 200, "n2 accepts another write")
@@ -171,8 +176,6 @@ class ThroughNginx(LocalTrial):
             check(found == (200, b"[1,2]") and seconds < 3, f"a read at n1 has these writes, after {seconds:.1f} s")
             check(self.read("/subjects/a/versions", **FRESH) == (200, b"[1,2]"), "a fresh read at n1 has them")
             check(self.read("/subjects/c/versions") == (200, b"[1]"), "n1 finds a subject that another node acknowledged")
-        finally:
-            os.kill(etcd, signal.SIGCONT)
         check(ask(second, "GET", "/subjects/c/versions") == (200, b"[1]"), "the write of that subject is applied exactly once")
         self.wait_until_equal()
 

@@ -24,8 +24,12 @@ sys.path.insert(0, str(HERE))
 from trial import compare  # noqa: E402
 from trial.clients import FAULTS, Client, ask  # noqa: E402
 from trial.faults import kinds_of_faults  # noqa: E402
+from trial.local import ETCD, SECONDS  # noqa: E402
+from trial.probes import Probe, healthy_spans, longest_gap, majority_spans  # noqa: E402
 from trial.report import Fault, Outcome, table  # noqa: E402
 from trial.spaces import SpaceCluster, SpaceNode  # noqa: E402
+
+GAP_SECONDS = 30.0  # the longest healthy time without an acknowledged write
 
 
 class Trial:
@@ -79,7 +83,7 @@ class Trial:
 
     # --- Waiting
 
-    def wait_until_applied(self, seconds: float = 300) -> None:
+    def wait_until_applied(self, seconds: float = 900) -> None:
         """Waits until each node has applied the entries that any node had applied at the call."""
         until, newest = time.monotonic() + seconds, None
         while True:
@@ -106,6 +110,13 @@ class Trial:
         raise TimeoutError("the nodes don't become idle")
 
     # --- Comparison
+
+    def check_gaps(self, probes: list[Probe], began: float, ended: float) -> None:
+        """A majority of healthy nodes acknowledges writes."""
+        spans = list(majority_spans([list(healthy_spans(it.node.name, it.samples, self.faults)) for it in probes]))
+        gap = longest_gap(spans, began, [it.answered for client in self.clients for it in client.writes], ended)
+        healthy = sum(end - start for start, end in spans)
+        self.check(gap <= GAP_SECONDS, f"a majority was healthy for {healthy:.0f} s, at most {gap:.1f} s of them without an acknowledged write")
 
     def compare_all(self) -> None:
         revision = self.wait_until_idle()
@@ -158,8 +169,8 @@ class Trial:
             time.sleep(0.2)
         raise TimeoutError("a registration gets no response")
 
-    def check_stops(self, node: SpaceNode, reason: str, text: str, seconds: float = 60) -> None:
-        until = time.monotonic() + seconds
+    def check_stops(self, node: SpaceNode, reason: str, text: str) -> None:
+        until = time.monotonic() + SECONDS
         while node.health().get("status") != "stopped" and time.monotonic() < until:
             time.sleep(0.3)
         health = node.health()
@@ -237,11 +248,12 @@ class Trial:
         node.run("registry", "relay")
 
     def wait_for_trouble(self, node: SpaceNode) -> None:
-        for _ in range(200):
-            if "another registry" in str(node.health().get("reasons")):
+        until = time.monotonic() + SECONDS
+        while "another registry" not in str(node.health().get("reasons")):
+            if time.monotonic() > until:
+                self.check(False, f"{node.name} notices that it has another registry: {node.health()}")
                 return
             time.sleep(0.3)
-        self.check(False, f"{node.name} notices that it has another registry: {node.health()}")
 
     # --- The whole trial
 
@@ -251,19 +263,21 @@ class Trial:
         while not self.cluster.leader() or any(it.health().get("status") != "ok" for it in self.nodes):
             time.sleep(0.5)
         self.clients = [Client(list(self.nodes), number, options.rate, options.seed) for number in range(8)]
-        for client in self.clients:
-            client.start()
+        probes = [Probe(it) for it in self.nodes]
+        for thread in (*self.clients, *probes):
+            thread.start()
         began = time.monotonic()
         time.sleep(3)
         self.make_faults(options.seconds)
         ended = time.monotonic()
-        for client in self.clients:
-            client.stop.set()
+        for thread in (*self.clients, *probes):
+            thread.stop.set()
         for client in self.clients:
             client.join(60)
             client.give_up.set()
             client.join()
             self.wrong += client.wrong
+        self.check_gaps(probes, began, ended)
         self.compare_all()
         self.print_line(f"\n{table(began, ended, self.faults, self.clients, self.outcome)}\n")
         self.try_old_node()
@@ -291,7 +305,7 @@ def main() -> None:
             trial.check(False, f"the trial ends: {fault!r}")
         finally:
             if os.environ.get("KEEP"):
-                keep = shutil.ignore_patterns("disk.img", "avroreg", "lost+found")
+                keep = shutil.ignore_patterns("disk.img", "avroreg", "lost+found", ETCD)
                 shutil.copytree(trial.cluster.folder, os.environ["KEEP"], ignore=keep, dirs_exist_ok=True)
             trial.cluster.tear_down()
     print(f"{len(trial.wrong)} wrong")
