@@ -1,7 +1,8 @@
 #!/usr/bin/env bash
 # Measures responses a second through nginx with and without the gateway, in turns, with 1, 8 and 64 clients and without limits.
 # Prints the medians of the rounds, the median of their ratios, and the processor time of nginx's worker for a request. That time
-# depends less on other programs of a busy machine.
+# depends less on other programs of a busy machine. `known` is a registration of a known schema; `parameters` is a lookup with
+# parameters, as Java's client sends it.
 #
 #   AVROREG=PROGRAM gateway/rates.sh [ROUNDS [SECONDS [KIND..]]]     default: 15 rounds, 1 second each, all kinds
 #
@@ -12,7 +13,7 @@ need wrk curl /usr/sbin/nginx
 rounds=${1:-15}
 seconds=${2:-1}
 kinds=("${@:3}")
-[ ${#kinds[@]} != 0 ] || kinds=(id latest list lookup check known)
+[ ${#kinds[@]} != 0 ] || kinds=(id latest list lookup parameters check known)
 requests=$examples/nginx/requests.lua
 unlimited='s/rate=200r/rate=900000r/; s/burst=400/burst=900000/; s/avroreg_connections 50/avroreg_connections 500/'
 
@@ -43,11 +44,12 @@ ratio() { paste "$1" "$2" | awk '{ printf "%.3f\n", $1 / $2 }' >"$scratch/ratios
 
 wrk -t 1 -c 1 -d 1s -s "$requests" "$url" -- known first >/dev/null
 echo "load: $(cut -d' ' -f1-3 /proc/loadavg); $rounds rounds of $seconds s"
-for _ in $(seq "$rounds"); do
+for round in $(seq "$rounds"); do
+  both=(plain gateway)
+  [ $((round % 2)) = 1 ] || both=(gateway plain)
   for kind in "${kinds[@]}"; do
     for clients in 1 8 64; do
-      measure "$kind" plain $clients
-      measure "$kind" gateway $clients
+      for name in "${both[@]}"; do measure "$kind" "$name" $clients; done
     done
   done
 done

@@ -52,7 +52,7 @@ source "$here/tests/breaks.sh"
 try_hostile() {
   start_server "$scratch/hostile.db"
   start_gateway hostile "${url##*:}" "$unlimited"
-  python3 "$here/tests/hostile.py" "http://127.0.0.1:$front" || fail "a hostile schema delays others"
+  python3 "$here/tests/hostile.py" "http://127.0.0.1:$front" "$(pgrep -o -P "$nginx")" || fail "a hostile schema delays others"
 }
 
 for part in ${*:-rows roles bypass fuzz limits large down faulty hostile breaks}; do "try_$part" "$part"; done

@@ -1,7 +1,7 @@
 #!/usr/bin/env python3
 """Sends the calls of tools through the gateway, and checks that each gets a response that the tool can use.
 
-    python3 examples/clients/tools.py GATEWAY     the script uses the subject tools-orders
+    python3 examples/clients/tools.py GATEWAY [TOOL]..     default: all tools. The script uses the subject tools-orders
 
 The tools weren't run. These are the calls that we know from their public documentation and source. The calls in REFUSED have no
 truthful response: avroreg has no such write, or no such thing.
@@ -19,7 +19,7 @@ CHECK = f"/compatibility{VERSIONS}"
 
 TOOLS = {
     "load balancers": [("GET", "/"), ("HEAD", "/"), ("HEAD", "/subjects"), ("GET", "/subjects/")],
-    "Maven plugin, test-compatibility": [("POST", f"{CHECK}/?normalize=false&verbose=true", GOOD), ("POST", f"{CHECK}/latest?verbose=true", GOOD)],
+    "Maven plugin": [("POST", f"{CHECK}/?normalize=false&verbose=true", GOOD), ("POST", f"{CHECK}/latest?verbose=true", GOOD)],
     "AKHQ": [("GET", "/subjects"), ("GET", f"{VERSIONS}/latest"), ("GET", "/schemas/ids/{id}/subjects"), ("GET", "/config/tools-orders?defaultToGlobal=true"),
              ("POST", f"{CHECK}/latest", GOOD)],
     "Redpanda Console": [("GET", "/subjects?deleted=true"), ("GET", "/schemas/types"), ("GET", "/mode"), ("GET", "/config"), ("GET", "/contexts"),
@@ -41,23 +41,22 @@ REFUSED = {
 
 
 def gate(registry, path):
-    """A CI gate that accepts a schema if there are no messages, for a compatible and an incompatible schema."""
+    """The verdicts of the Maven plugin, which accepts a schema if there are no messages, for a compatible and an incompatible schema."""
     return [not registry.ask("POST", path, {"schema": schema})[1]["messages"] for schema in (SECOND, INCOMPATIBLE)]
 
 
 def main():
-    registry = Registry(sys.argv[1])
+    registry, chosen = Registry(sys.argv[1]), sys.argv[2:] or TOOLS
     for schema in FIRST, SECOND:
         status, found = registry.ask("POST", VERSIONS, {"schema": schema})
         assert status == 200, found
-    for version in "/latest", "/-1", "/2", "/", "":
+    for version in ("/latest", "/-1", "/2", "/", "") if "Maven plugin" in chosen else ():
         assert gate(registry, f"{CHECK}{version}?normalize=false&verbose=true") == [True, False], version
-    print("a gate that reads messages accepts the compatible schema only")
-    for tool, calls in TOOLS.items():
-        for method, path, *body in calls:
+    for tool in chosen:
+        for method, path, *body in TOOLS[tool]:
             status, response = registry.ask(method, path.replace("{id}", str(found["id"])), *body)
             assert status == 200, (tool, method, path, status, response)
-        print(f"{tool}: {len(calls)} calls get 200")
+        print(f"{tool}: {len(TOOLS[tool])} calls get 200")
     for wanted, calls in REFUSED.items():
         for call in calls:
             status, found = registry.ask(*call)

@@ -1,4 +1,4 @@
--- A client's requests. Argument 1 is their kind: id, latest, list, lookup, known, check or new. Argument 2 makes the names of a run unique.
+-- A client's requests. Argument 1 is their kind: id, latest, list, lookup, parameters, known, check or new. Argument 2 makes the names of a run unique.
 local kind, run, number, failed = nil, nil, 0, 0
 local function schema(name)
   local fields = {}
@@ -15,6 +15,7 @@ function request()
   if kind == "list" then return wrk.format("GET", "/subjects") end
   if kind == "check" then return wrk.format("POST", "/compatibility/subjects/orders/versions/latest", nil, schema("Order")) end
   if kind == "lookup" then return wrk.format("POST", "/subjects/orders", nil, schema("Order")) end
+  if kind == "parameters" then return wrk.format("POST", "/subjects/orders?normalize=false&deleted=false", nil, schema("Order")) end
   if kind == "known" then return wrk.format("POST", "/subjects/orders/versions", nil, schema("Order")) end
   return wrk.format("POST", "/subjects/" .. run .. "_" .. number .. "/versions", nil, schema("R" .. run .. "_" .. number))
 end

@@ -7,6 +7,8 @@ requests slash_stays s/~^(?<path_without_slash>/~^nothing(?<path_without_slash>/
 requests slash_of_a_subject_is_a_slash s,proxy_pass  http://avroreg;,proxy_pass http://avroreg/;,
 requests head_is_sent_as_head s/HEAD GET;/HEAD HEAD;/
 requests minus_one_stays s/versions\/)-1(?/versions\/)-7(?/
+requests minus_one_of_a_text_stays s/|\/-1\/schema|/|/
+lists parameters_never_reach_the_gateway s/"$registry_action:$unsupported" $gateway_route/"$registry_action:" $gateway_route/
 lists text_is_a_json_string s/return found.schema;/return JSON.stringify(found.schema);/
 lists subjects_of_an_id_repeat s/names\[names.length - 1\] !== uses\[i\].subject/true/
 lists pages_begin_at_one s/list.slice(offset, /list.slice(offset + 1, /

@@ -8,14 +8,13 @@ odd messages are those of bypass.py for the gateway's routes, targets with odd b
 would get something other than a read, bytes that nobody meant, or another subject or id than the client's target has.
 """
 import collections
-import concurrent.futures
 import json
 import random
 import re
-import socket
 import sys
 
 import bypass
+import recorder
 
 ROUTES = [("GET", "/subjects/other/versions/-1"), ("GET", "/schemas/ids/7/schema"), ("GET", "/schemas/ids/7/subjects?deleted=true"),
           ("GET", "/subjects/other/versions?deletedOnly=true&limit=2"), ("GET", "/subjects?subjectPrefix=ot&offset=0"),
@@ -43,47 +42,19 @@ def response_to(method, target):
     return {"id": 7, "schema": "\"string\"", "subject": "other", "version": 2}
 
 
-class Recorder(bypass.Recorder):
-    """As that of bypass.py, with responses that the gateway can use. A message is its head, its body and the bytes after it."""
+class Recorder(recorder.Recorder):
+    """A recorder whose responses the gateway can use."""
 
-    def record(self, connection):
-        got, body, rest, wanted = b"", b"", b"", 0
-        connection.settimeout(20)
-        try:
-            while b"\r\n\r\n" not in got and (more := connection.recv(65536)):
-                got += more
-            head, _, body = got.partition(b"\r\n\r\n")
-            length = re.search(rb"(?im)^content-length: *(\d+)", head)
-            wanted = int(length[1]) if length else 0
-            while len(body) < wanted and (more := connection.recv(65536)):
-                body += more
-            if got:  # nginx may close a connection on which it has sent nothing
-                reply = json.dumps(response_to(*head.split(b" ")[:2])).encode()
-                connection.sendall(b"HTTP/1.1 200 OK\r\nContent-Length: %d\r\nConnection: close\r\n\r\n%s" % (len(reply), reply))
-                connection.shutdown(socket.SHUT_WR)
-            rest = body[wanted:]
-            while more := connection.recv(65536):
-                rest += more
-        except OSError:
-            pass
-        connection.close()
-        with self.lock:
-            if got:
-                self.messages.append((got.partition(b"\r\n\r\n")[0], body[:wanted], rest))
-            self.closed += 1
+    def response_to(self, head):
+        return json.dumps(response_to(*head.split(b" ")[:2])).encode()
 
 
-def fault_of(head, body, rest):
+def fault_of(message):
     """What is wrong with a message to avroreg, or None."""
-    line = head.split(b"\r\n")[0]
-    if not (found := re.fullmatch(rb"(GET|POST) (/[^\x00-\x20]*) HTTP/1\.1", line)):
+    if not (found := re.fullmatch(rb"(GET|POST) (/[^\x00-\x20]*) HTTP/1\.1", message.line())):
         return "it isn't a read's request line"
-    if rest:
-        return f"bytes after the message: {rest[:60]!r}"
-    if re.search(rb"(?im)^transfer-encoding", head) or len(re.findall(rb"(?im)^content-length", head)) > 1:
-        return "the length is given in two ways"
-    if re.search(rb"(?im)^authorization", head):
-        return "the password was forwarded"
+    if fault := message.fault():
+        return fault
     if found[1] == b"POST" and not re.match(rb"/compatibility/subjects/[^/?]+/versions(/[^/?]+)?(\?|$)|/subjects/[^/?]+(\?|$)", found[2]):
         return "it is a write"
     return None
@@ -125,20 +96,6 @@ def odd_messages(count):
     return list(found)[:count]
 
 
-def send_all(messages, port, recorder):
-    """Sends the messages. Returns the wrong messages to avroreg, their number in all, and the statuses."""
-    wrong, total, statuses = [], 0, collections.Counter()
-    with concurrent.futures.ThreadPoolExecutor(bypass.BATCH) as pool:
-        for at in range(0, len(messages), bypass.BATCH):
-            for found in pool.map(lambda message: bypass.send(port, message), messages[at:at + bypass.BATCH]):
-                statuses.update(found or [b"none"])
-            for head, body, rest in recorder.take_messages():
-                total += 1
-                if fault := fault_of(head, body, rest):
-                    wrong.append((head.split(b"\r\n")[0], fault))
-    return wrong, total, statuses
-
-
 def name_in(target):
     """The subject or id of a target, or None."""
     parts = target.partition(b"?")[0].split(b"/")
@@ -147,7 +104,7 @@ def name_in(target):
     return parts[2] if parts[1] == b"subjects" else parts[3]
 
 
-def check_names(port, recorder):
+def check_names(port, server):
     """Sends one message at a time. Returns the wrong messages to avroreg, and their number in all. A message is wrong if its subject or
     id isn't the client's, or if the gateway's own read has the client's body."""
     wrong, count = [], 0
@@ -155,9 +112,9 @@ def check_names(port, recorder):
         for odd in odd_targets(target):
             if (wanted := name_in(odd)) is None:
                 continue
-            recorder.take_messages()
-            bypass.send(port, method.encode() + b" " + odd + b" HTTP/1.1\r\n" + bypass.rest_of_request(bypass.USERS["viewer"]))
-            for head, body, _ in recorder.take_messages():
+            server.take_messages()
+            recorder.send(port, method.encode() + b" " + odd + b" HTTP/1.1\r\n" + bypass.rest_of_request(bypass.USERS["viewer"]))
+            for head, body, _ in server.take_messages():
                 count += 1
                 found = head.split(b" ")[1]
                 if not found.startswith(b"/config/") and name_in(found) != wanted:  # the level of the same subject is read too
@@ -169,15 +126,16 @@ def check_names(port, recorder):
 
 def main():
     upstream, port, count = map(int, sys.argv[1:])
-    recorder = Recorder(upstream)
-    messages = odd_messages(count)
-    wrong, total, statuses = send_all(messages, port, recorder)
-    others, named = check_names(port, recorder)
-    print(f"{len(messages)} messages, {total} to avroreg, {len(wrong)} of them wrong; statuses {dict(statuses.most_common(8))}")
+    server, messages = Recorder(upstream), odd_messages(count)
+    statuses = collections.Counter()
+    forwarded = [message for recorded in recorder.send_all(port, messages, server, statuses) for message in recorded]
+    wrong = [(message.line(), fault) for message in forwarded if (fault := fault_of(message))]
+    others, named = check_names(port, server)
+    print(f"{len(messages)} messages, {len(forwarded)} to avroreg, {len(wrong)} of them wrong; statuses {dict(statuses.most_common(8))}")
     print(f"{named} messages to avroreg for odd subjects and ids, {len(others)} of them wrong")
     for each in (wrong + others)[:10]:
         print("wrong:", *each)
-    return 1 if wrong or others or total < count / 5 else 0
+    return 1 if wrong or others or len(forwarded) < count / 5 else 0
 
 
 if __name__ == "__main__":

@@ -1,7 +1,9 @@
 #!/usr/bin/env python3
 """Sends checks with messages for schemas that make the search of reasons slow, and measures how long nginx serves nobody else.
 
-    python3 gateway/tests/hostile.py GATEWAY     status 1 if it is longer than a second, or if a verdict changes
+    python3 gateway/tests/hostile.py GATEWAY PROCESS     status 1 if it is longer than a second, or if a verdict changes
+
+The time is processor time of nginx's worker, PROCESS, so other programs of a busy machine hardly change it.
 """
 import json
 import sys
@@ -51,24 +53,29 @@ CASES = [*((f"{depth} nested records", nested(depth, "int"), nested(depth, "stri
          ("4,000 fields", *(record("T", [field(f"{letter}{at}", "int") for at in range(4000)]) for letter in "fg"))]
 
 
-class Others(threading.Thread):
-    """Another client, whose requests nginx alone responds to. `slowest` is the longest wait."""
+def processor_seconds(process):
+    with open(f"/proc/{process}/schedstat", encoding="ascii") as file:
+        return int(file.read().split()[0]) / 1e9
 
-    def __init__(self, client):
+
+class Others(threading.Thread):
+    """Another client, whose requests nginx alone responds to. `slowest` is the longest work of the worker during a request."""
+
+    def __init__(self, client, process):
         super().__init__(daemon=True)
-        self.client, self.slowest = client, 0.0
+        self.client, self.process, self.slowest = client, process, 0.0
 
     def run(self):
         while True:
-            began = time.monotonic()
+            began = processor_seconds(self.process)
             self.client.get("/contexts")
-            self.slowest = max(self.slowest, time.monotonic() - began)
+            self.slowest = max(self.slowest, processor_seconds(self.process) - began)
             time.sleep(0.002)
 
 
 def main():
     client, slow = Client(sys.argv[1]), 0
-    others = Others(client)
+    others = Others(client, sys.argv[2])
     others.start()
     for at, (name, writer, reader) in enumerate(CASES):
         client.check_passed("POST", f"/subjects/hostile{at}/versions", {"schema": json.dumps(writer)})

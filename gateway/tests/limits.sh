@@ -10,18 +10,18 @@ check_counts() {
   [ "$found" = "$1" ] || fail "wanted $1 found $found"
 }
 
-# Each user's lists of schemas: one at a time, two a second. Checks with messages: 20 a second, and 40 more at once.
+# Lists of schemas and checks with messages have limits of their own, which are lower here, so that a slow machine reaches them too.
 try_limits() {
-  local codes="" at int='{"schema":"\"int\""}'
+  local at codes int='{"schema":"\"int\""}' string='{"schema":"\"string\""}'
   start_server "$scratch/limits.db"
-  start_gateway limits "${url##*:}"
+  start_gateway limits "${url##*:}" 's,rate=20r/s,rate=1r/m,; s/burst=40 /burst=4 /; s,rate=2r/s,rate=1r/m,; s/burst=10;/burst=2 nodelay;/'
   for at in $(seq 30); do status -d "$int" "http://127.0.0.1:$front/subjects/s$at/versions" >/dev/null; done
-  codes=$(for at in $(seq 80); do status -d '{"schema":"\"string\""}' "http://127.0.0.1:$front/compatibility/subjects/s1/versions?verbose=true" & done; wait)
-  [[ $codes == *429* ]] || fail "80 checks with messages at once: none gets 429"
-  codes=$(for at in $(seq 80); do status -d '{"schema":"\"string\""}' "http://127.0.0.1:$front/compatibility/subjects/s1/versions" & done; wait)
-  check_counts '80 times 200; ' "$codes"
-  codes=$(for at in $(seq 14); do status "http://127.0.0.1:$front/schemas" & done; wait)
-  [[ $codes == *429* && $codes == *200* ]] || fail "14 lists of schemas at once: $codes"
+  codes=$(for at in $(seq 6); do status -d "$string" "http://127.0.0.1:$front/compatibility/subjects/s1/versions?verbose=true"; done)
+  check_counts '5 times 200; 1 times 429; ' "$codes"
+  codes=$(for at in $(seq 40); do status -d "$string" "http://127.0.0.1:$front/compatibility/subjects/s1/versions" & done; wait)
+  check_counts '40 times 200; ' "$codes"
+  codes=$(for at in $(seq 4); do status "http://127.0.0.1:$front/schemas"; done)
+  check_counts '3 times 200; 1 times 429; ' "$codes"
   start_gateway writes "${url##*:}" 's,200r/s,1r/m,; s/burst=400/burst=10/'
   codes=$(for at in $(seq 12); do status -d "$int" "http://127.0.0.1:$front/subjects/a/versions"; done)
   check_counts '11 times 200; 1 times 429; ' "$codes"
