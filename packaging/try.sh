@@ -116,7 +116,9 @@ try_inside() {
   cp "$deb" "$scratch/booted/root/avroreg.deb"
   cp "$here/checks.sh" "$here/$1" "$scratch/booted/root/"
   mkdir -p "$scratch/booted/root/sources"
+  mkdir -p "$scratch/booted/root/sources/examples"
   cp -r "$here" "$top/admin" "$top/docs" "$scratch/booted/root/sources/"
+  cp "$top/examples/from-confluent.py" "$scratch/booted/root/sources/examples/"
   cp "$program" "$scratch/booted/root/program"
   check "a package with a higher version is built" build_other 9.9.9 "$scratch/booted/root/newer.deb"
   [ -z "${2:-}" ] || check "the tree is prepared" "$2" "$scratch/booted" || return
@@ -130,7 +132,13 @@ try_inside() {
 try_systemd() { try_inside try-booted.sh; }
 try_guard() { try_inside try-guard.sh; }
 try_upgrade() { try_inside try-upgrade.sh; }
-try_pages() { try_inside try-pages.sh; }
+# add_for_pages TREE: podman, the image, rsync, and the package of nginx.
+add_for_pages() {
+  [ -x "$1/usr/bin/rsync" ] || { cp /etc/resolv.conf "$1/etc/" && chroot "$1" env -i PATH=/usr/sbin:/usr/bin:/sbin:/bin DEBIAN_FRONTEND=noninteractive sh -c \
+    'apt-get -q update && apt-get install -y -q --no-install-recommends rsync'; } || return
+  add_podman "$1" && cp "$nginx_deb" "$1/root/avroreg-nginx_0.1.0_all.deb"
+}
+try_pages() { try_inside try-pages.sh add_for_pages; }
 try_disk() { try_inside try-disk.sh; }
 
 # add_podman TREE: installs podman in the tree, and puts the image of avroreg there.

@@ -1,1 +1,1 @@
-"""The operator's command of avroreg. `admin/README.md` describes the modules."""
+"""The operator's command of avroreg. `admin/README.md` says how to add to it."""

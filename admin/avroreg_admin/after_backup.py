@@ -1,8 +1,8 @@
 """Run the command that copies backups to another machine, as root: AVROREG_AFTER_BACKUP in the settings.
 
 The command is a line for sh. It gets the newest backup, its record, and a tar of the settings, of
-nginx's files and of nginx's log since the backup before, as AVROREG_BACKUP, AVROREG_RECORD and
-AVROREG_SETTINGS. If it fails, this fails too.
+nginx's files with users and roles, and of nginx's log since the backup before, as AVROREG_BACKUP,
+AVROREG_RECORD and AVROREG_SETTINGS. If it fails, this fails too.
 """
 
 import datetime
@@ -20,7 +20,7 @@ from .output import DONE, ERROR, Stop
 from .places import Place
 
 NAME = re.compile(r"registry-[0-9TZ-]+\.db")
-NGINX_FILES = ("conf.d/avroreg*.conf", "avroreg*")
+NGINX_FILES = ("nginx/conf.d/avroreg*.conf", "nginx/avroreg*", "avroreg-nginx/[!.]*")
 KEPT_TARS = 3
 LOG_BYTES = 256 << 20
 
@@ -56,7 +56,7 @@ def save_settings(place: Place, since: float) -> Path:
     target.unlink(missing_ok=True)
     descriptor = os.open(target, os.O_WRONLY | os.O_CREAT | os.O_EXCL | os.O_NOFOLLOW, 0o600)
     with open(descriptor, "wb") as file, tarfile.open(fileobj=file, mode="w") as tar:
-        found = [place.settings_file, *(path for pattern in NGINX_FILES for path in sorted((place.root / "etc/nginx").glob(pattern)))]
+        found = [place.settings_file, *(path for pattern in NGINX_FILES for path in sorted((place.root / "etc").glob(pattern)))]
         for path in found:
             if path.is_file():
                 tar.add(path, str(path.relative_to(place.root)))

@@ -25,6 +25,7 @@ class Subcommand:
     is_internal: bool = False  # for units and packages
     may_meet_job: bool = False  # may run while a job is unfinished
     module: str = ""
+    passes_on: bool = False  # words that it doesn't know are for another program: options.words
 
     @property
     def module_name(self) -> str:
@@ -45,10 +46,8 @@ SUBCOMMANDS = (
     reading("logs", "show the messages of avroreg, its backups and its commands", needs_registry=False),
     Subcommand("init", "make a registry, and start it", needs_registry=False),
     Subcommand("port", "serve on another port"),
-    Subcommand("nginx", "let other machines in, with TLS and users"),
-    Subcommand("user", "add, change and remove users of nginx"),
-    Subcommand("block", "refuse a client, or a subject's checks, at nginx", lock=FREE),
-    Subcommand("unblock", "end a block", lock=FREE, module="block"),
+    Subcommand("nginx", "let other machines in, with TLS and users", passes_on=True),
+    Subcommand("user", "add, change and remove users of nginx", module="nginx", passes_on=True),
     Subcommand("pause", "answer writes with 503", lock=FREE),
     Subcommand("resume", "accept writes again", lock=FREE, module="pause"),
     Subcommand("read-only", "refuse writes with 42205"),
@@ -62,7 +61,7 @@ SUBCOMMANDS = (
     Subcommand("repair", "repair owner, mode, hard links, and a log's header that was saved"),
     Subcommand("accept", "serve a file that the guard refused", needs_registry=False),
     Subcommand("upgrade", "install another release"),
-    Subcommand("rollback", "go back to the release of before", module="upgrade"),
+    Subcommand("rollback", "go back to the release of before"),
     Subcommand("move", "move the registry to a larger disk"),
     Subcommand("copy-from", "copy another registry into this one"),
     Subcommand("copy-to", "copy this registry to another one"),
@@ -113,6 +112,13 @@ def overview(shows_all: bool) -> str:
                       *(["options of all commands: --registry NAME, --json, --dry-run, --yes", ""]), STATUSES])
 
 
+def parse(command: Subcommand, words: list[str]) -> argparse.Namespace:
+    if not command.passes_on:
+        return parser_of(command).parse_args(words)
+    options, options.words = parser_of(command).parse_known_args(words)
+    return options
+
+
 def subcommand_of(name: str) -> Subcommand:
     for command in SUBCOMMANDS:
         if command.name == name and is_present(command):
@@ -123,7 +129,7 @@ def subcommand_of(name: str) -> Subcommand:
 def parser_of(command: Subcommand) -> Parser:
     module = module_of(command)
     parser = Parser(prog=f"avroreg-admin {command.name}", parents=[common()], epilog=STATUSES, formatter_class=argparse.RawDescriptionHelpFormatter,
-                    description=module.__doc__)
+                    description=module.__doc__, allow_abbrev=not command.passes_on)
     parser.set_defaults(command=command.name)
     module.add(parser)
     return parser

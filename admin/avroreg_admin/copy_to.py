@@ -8,19 +8,16 @@ Retry keys, and what each version was compared with, aren't copied. Ids without 
 subject avroreg-unused-ids, which is deleted softly, so that their messages stay readable.
 """
 
-import getpass
 import json
-import os
 import subprocess
-import sys
 from pathlib import Path
 from urllib.parse import quote
 
-from . import backup, checked_copy, difference, drafting, job, marking, program
+from . import backup, difference, drafting, job, marking, program
 from .files import remove, write_json
 from .hands import task
 from .output import DONE, ERROR, NO, Stop
-from .target import Target
+from .target import Target, password_of
 
 UNUSED = "avroreg-unused-ids"
 IMPORT, OPEN, CLOSED = "IMPORT", "READWRITE", "READONLY"
@@ -35,20 +32,11 @@ def add(parser) -> None:
     parser.add_argument("--switch", action="store_true", help="make this registry read-only, send the rest, and open the other one")
 
 
-def password_of(user: str | None) -> str | None:
-    if user is None or "TO_PASSWORD" in os.environ:
-        return os.environ.get("TO_PASSWORD")
-    if not sys.stdin.isatty():
-        raise Stop(NO, "set TO_PASSWORD")
-    return getpass.getpass(f"Password of {user}: ")
-
-
 @task
-def contents(avroreg: str, backup_file: str, folder: str) -> dict:
-    """What a backup has: [subject, version, id, deleted], the texts of the ids, levels and modes by subject."""
-    with drafting.scratch([backup_file], folder) as made:
-        copied = str(Path(made, "registry.db"))
-        checked_copy.plain_copy(backup_file, copied)
+def contents(avroreg: str, source: str, folder: str, process: int | None = None) -> dict:
+    """What a backup or a served registry has: [subject, version, id, deleted], the texts of the ids, levels and modes by subject."""
+    with drafting.scratch([source], folder) as made:
+        copied = drafting.copied(source, made, "copy", process)
         found = difference.contents_of(avroreg, copied)
         schemas = program.listing(avroreg, copied, "schemas")
     settings = {what: {name: value for (kind, name, _), value in found.items() if kind == what} for what in ("level", "mode")}
@@ -167,13 +155,20 @@ class Sender:
     @property
     def target(self) -> Target:
         if self._target is None:
-            self._target = Target(self.facts["url"], self.facts["user"], password_of(self.facts["user"]), self.facts["certificate"])
+            self._target = Target(self.facts["url"], self.facts["user"], password_of(self.facts["user"], "TO_PASSWORD"), self.facts["certificate"])
         return self._target
 
     def copy_of_now(self) -> Copy:
         """The contents of a backup that is made now."""
         made = backup.make(self.place)["record"]["file"]
-        found = self.place.hands(contents, avroreg=self.place.program, backup_file=self.place.backups / made, folder=self.place.backups)
+        return self.copy_of(self.place.backups / made, None)
+
+    def copy_for_plan(self) -> Copy:
+        """The contents of the registry. A plan makes no backup."""
+        return self.copy_of(self.place.database, self.place.process())
+
+    def copy_of(self, source: Path, process: int | None) -> Copy:
+        found = self.place.hands(contents, avroreg=self.place.program, source=source, folder=self.place.backups, process=process)
         return Copy(found, originals_of(self.place, Path(self.facts["originals"]) if self.facts["originals"] else None))
 
     def set_mode(self, mode: str) -> None:
@@ -239,7 +234,7 @@ def facts_of(context) -> dict:
 def run(context) -> int:
     facts = facts_of(context)
     sender = Sender(context, facts)
-    copy = sender.copy_of_now()
+    copy = sender.copy_for_plan()
     there = sender.target.contents()
     refuse(copy.differences(there), f"{facts['url']} isn't empty, and isn't an earlier copy of this registry")
     plan = [("versions", f"{len(copy.missing(there)):,} of {len(copy.versions):,} to send"), ("deletions", f"{len(copy.to_delete(there)):,}"),
@@ -248,6 +243,7 @@ def run(context) -> int:
         plan += [("writes", "this registry gets read-only, and stays so"), ("then", f"{facts['url']} accepts writes")]
     context.agree(plan)
     if not context.options.switch:
+        copy = sender.copy_of_now()
         context.output.ok(send(sender.target, copy))
         context.output.ok(compare(sender.target, copy))
         context.output.next(f"to switch: avroreg-admin copy-to {facts['url']} --switch")

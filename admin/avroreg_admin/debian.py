@@ -54,6 +54,19 @@ def proved_of(file: Path) -> str:
     return next((line.removeprefix("# proved: ") for line in record.splitlines() if line.startswith("# proved: ")), "not known")
 
 
+def program_of(file: Path, folder: str) -> str:
+    """Extracts the package's program to this folder."""
+    with tarfile.open(fileobj=io.BytesIO(output_of("dpkg-deb", "--fsys-tarfile", str(file)))) as files:
+        try:
+            found = files.extractfile("./usr/bin/avroreg").read()
+        except (KeyError, AttributeError):
+            raise Stop(NO, f"{file} has no program /usr/bin/avroreg") from None
+    target = Path(folder, NAME)
+    target.write_bytes(found)
+    target.chmod(0o755)
+    return str(target)
+
+
 def installed() -> str | None:
     """The installed version, or None: avroreg wasn't installed as a package."""
     result = subprocess.run(["dpkg-query", "-W", "-f", "${Version} ${db:Status-Status}", NAME], capture_output=True, text=True)

@@ -13,6 +13,7 @@ from datetime import datetime
 from pathlib import Path
 
 from . import archive, checked_copy, difference, hot_copy, mark, marking, program, reserved_ids, swap, wal
+from .files import read_json, write_json
 from .hands import task
 from .nginx_log import Since
 from .output import ERROR, NO, Stop
@@ -134,7 +135,7 @@ def survey(avroreg: str, source: str, database: str, folder: str, place: str | N
     if shutil.disk_usage(folder).free < needed:
         raise Stop(NO, f"{folder} has too little space: the draft needs {(needed >> 20) + 1} MB", "avroreg-admin backups prune --keep 3")
     return {"schemas": len(schemas), "first": planned.first, "last": planned.last, "reasons": list(planned.reasons), "conflict": planned.ids_conflict,
-            "has_old": old is not None, "differences": lost}
+            "has_old": old is not None, "old_schemas": len(old.schemas) if old else 0, "differences": lost}
 
 
 def with_reserved(avroreg: str, backup: str, planned: Plan, folder: str) -> tuple[str, set[int]]:
@@ -160,6 +161,43 @@ def check_draft(avroreg: str, draft: str, backup: reserved_ids.Schemas, planned:
         raise Stop(ERROR, f"the draft isn't as planned: it ends with id {reserved_ids.greatest_of(schemas)}, not {planned.last}; wrong ids: {wrong[:5]}")
 
 
+def noted_file(folder: str) -> str:
+    return os.path.join(folder, "listed.json")
+
+
+@task
+def note_old(avroreg: str, database: str, place: str | None, folder: str) -> None:
+    """Notes what the stopped registry has, by the program that can read it, for a draft that another release makes."""
+    os.makedirs(folder, mode=0o700, exist_ok=True)
+    with scratch([database], folder) as made:
+        old, copy = old_of(avroreg, database, place, made, None)
+        if old is None:
+            raise Stop(ERROR, f"{database} can't be read", "avroreg-admin doctor")
+        contents = difference.contents_of(avroreg, copy)
+    write_json(noted_file(folder), {"schemas": old.schemas, "is_whole": old.is_whole, "contents": [[*key, value] for key, value in contents.items()]}, 0o600)
+
+
+@task
+def is_noted(folder: str) -> bool:
+    return os.path.exists(noted_file(folder))
+
+
+@task
+def forget_old(folder: str) -> None:
+    with contextlib.suppress(FileNotFoundError):
+        os.unlink(noted_file(folder))
+    swap.remove_draft(folder)
+
+
+def replaced(avroreg: str, database: str, place: str | None, folder: str, made: str) -> tuple[OldFile | None, dict]:
+    """The file that is replaced, and its contents: as they were noted, or by this program."""
+    if (noted := read_json(noted_file(folder))) is None:
+        old, copy = old_of(avroreg, database, place, made, None)
+        return old, difference.contents_of(avroreg, copy) if old else {}
+    contents = {(what, name, version): tuple(value) if what == "version" else value for what, name, version, value in noted["contents"]}
+    return OldFile([(number, text) for number, text in noted["schemas"]], noted["is_whole"]), contents
+
+
 @task
 def make(avroreg: str, source: str, database: str, folder: str, place: str | None, known: dict) -> dict:
     """Makes the draft anew in jobs/ID/new, and notes what it has. The service is stopped. Returns the note."""
@@ -170,11 +208,11 @@ def make(avroreg: str, source: str, database: str, folder: str, place: str | Non
     with scratch([source, database], new) as made:
         backup = checked_backup(avroreg, source, made)
         schemas = reserved_ids.schemas_of(avroreg, backup)
-        old, copy = old_of(avroreg, database, place, made, None)
+        old, contents = replaced(avroreg, database, place, folder, made)
         planned = plan_of(sources_of(known, schemas, old))
         draft, refused = with_reserved(avroreg, backup, planned, made)
         check_draft(avroreg, draft, schemas, planned, refused)
-        lines = difference.compare(difference.contents_of(avroreg, copy), difference.contents_of(avroreg, backup)) if old else None
+        lines = difference.compare(contents, difference.contents_of(avroreg, backup)) if old else None
         subjects = sum(int(row[2]) > 0 for row in program.listing(avroreg, draft, "subjects"))
         target = os.path.join(new, os.path.basename(database))
         hot_copy.copy_file(draft, target)

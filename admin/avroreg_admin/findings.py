@@ -50,7 +50,8 @@ def refused(facts: Facts) -> Finding | None:
     """What the guard says of a stopped registry."""
     if facts.refusal is None or facts.job is not None:
         return None
-    return Finding(facts.refusal["id"], facts.refusal["text"] + ".", "The files are unchanged.", tuple(facts.refusal["next"]))
+    text = facts.refusal["text"]
+    return Finding(facts.refusal["id"], text if text.endswith("?") else text + ".", "The files are unchanged.", tuple(facts.refusal["next"]))
 
 
 def port_taken(facts: Facts) -> Finding | None:
@@ -100,16 +101,25 @@ def disk_full(facts: Facts) -> Finding | None:
         return None
     works = "Writes fail soon." if not facts.has_nginx else "Writes get 503."
     reads = "Reads work. " if facts.probe.status == 200 else ""
+    resume = "Writes resume by themselves" if facts.has_nginx else f"Writes resume by themselves, at most three times an hour; then: systemctl restart {facts.unit}"
     return Finding("disk-full", f"{facts.folder} has {size_of(facts.free)} free.", reads + works,
-                   (facts.command("backups prune --keep 3"), facts.command("move DIR"), "or remove other files. Writes resume by themselves"),
-                   details=largest(facts))
+                   (*ways_to_space(facts), f"or remove other files. {resume}"), details=largest(facts))
 
 
 def disk_low(facts: Facts) -> Finding | None:
     if facts.free < facts.floor or facts.free >= max(2 * facts.size, LOW_BYTES):
         return None
-    return Finding("disk-low", f"{facts.folder} has {size_of(facts.free)} free.", "Everything works.", (facts.command("backups prune --keep 3"),),
-                   details=largest(facts))
+    return Finding("disk-low", f"{facts.folder} has {size_of(facts.free)} free.", working(facts), ways_to_space(facts), details=largest(facts))
+
+
+def working(facts: Facts) -> str:
+    """What a problem that stops nothing leaves, unless another one has stopped avroreg."""
+    return "Everything works." if facts.probe.status == 200 else ""
+
+
+def ways_to_space(facts: Facts) -> tuple[str, ...]:
+    """Old backups help only on the same disk."""
+    return (*([facts.command("backups prune --keep 3")] if facts.same_disk else []), facts.command("move DIR"))
 
 
 def largest(facts: Facts) -> tuple[str, ...]:
@@ -133,13 +143,13 @@ def backup_old(facts: Facts) -> Finding | None:
     if newest is not None and facts.now - newest["time"] <= 1.5 * facts.backup_interval:
         return None
     what = f"the newest good backup is of {clock(newest['time'])}." if newest else "there is no good backup."
-    return Finding("backup-old", what, "Everything works.", (facts.command("backup"),))
+    return Finding("backup-old", what, working(facts), (facts.command("backup"),))
 
 
 def backup_failed(facts: Facts) -> Finding | None:
     if not facts.backup_failed:
         return None
-    return Finding("backup-failed", f"the last backup failed: {facts.backup_failed}.", "Everything works.", (facts.command("backup"), facts.command("rescue")))
+    return Finding("backup-failed", f"the last backup failed: {facts.backup_failed}.", working(facts), (facts.command("backup"), facts.command("rescue --over-http")))
 
 
 def evidence(facts: Facts) -> Finding | None:
@@ -170,7 +180,7 @@ def memory(facts: Facts) -> Finding | None:
     if not is_high and not usage.out_of_memory:
         return None
     killed = f" The kernel killed it {usage.out_of_memory} times for its memory." if usage.out_of_memory else ""
-    return Finding("memory", f"avroreg uses {size_of(usage.resident or 0)} of {size_of(usage.limit or 0)}.{killed}", "Everything works.",
+    return Finding("memory", f"avroreg uses {size_of(usage.resident or 0)} of {size_of(usage.limit or 0)}.{killed}", working(facts),
                    (f"raise MemoryMax: systemctl edit {facts.unit}",))
 
 
@@ -191,7 +201,7 @@ def certificate(facts: Facts) -> Finding | None:
     if facts.certificate_end is None or facts.certificate_end - facts.now > CERTIFICATE_SECONDS:
         return None
     return Finding("certificate", f"nginx's certificate ends at {clock(facts.certificate_end)}.", "Everything works until then.",
-                   ("renew it, then systemctl reload nginx",))
+                   ("renew it, then " + facts.command("nginx renew"),))
 
 
 def program_changed(facts: Facts) -> Finding | None:
@@ -199,12 +209,13 @@ def program_changed(facts: Facts) -> Finding | None:
 
 
 def writes_paused(facts: Facts) -> Finding | None:
-    if not facts.pauses:
+    """A pause of an unfinished command ends with the command."""
+    if not facts.pauses or facts.job is not None:
         return None
     first = facts.pauses[0]
     who = "watch" if first.by == "watch" else first.by
     is_own = first.by == "watch"
-    return Finding("writes-paused", f"writes get 503 since {clock(first.since)}: {who} paused them ({first.reason}).", "Reads work.",
+    return Finding("writes-paused", f"writes get 503 since {clock(first.since)}: {who} paused them ({first.reason}).", "Reads work." if facts.probe.status == 200 else "",
                    () if is_own else (facts.command("resume"),), is_information=True)
 
 

@@ -36,7 +36,7 @@ def run(context) -> int:
     with contextlib.nullcontext() if context.lock else job.Lock(place):
         opened = job.new_job(place, "init", context.person, {"port": port, "adopt": options.adopt, "image": options.image})
         job.advance(place, opened, steps(context, opened), context.output)
-    context.output.next("let other machines in: put nginx in front, as examples/nginx shows")
+    context.output.next("let other machines in: avroreg-admin nginx on --name HOST --cert FILE --key FILE")
     return DONE
 
 

@@ -6,6 +6,7 @@ the steps that were done, the last one first. While the file exists, the guard s
 the job itself put in place.
 """
 
+import contextlib
 import fcntl
 import json
 import os
@@ -51,10 +52,27 @@ class Step:
 
 
 def new_job(place: Place, command: str, person: str, facts: dict) -> Job:
+    """Begins a job. Its id is the time, or a second later if a job of this second has ended: each one has its own folder."""
     now = time.time()
-    job = Job(command, time.strftime("%Y%m%dT%H%M%SZ", time.gmtime(now)), person, now, facts)
+    ended = {entry.get("id") for entry in history(place)}
+    while (name := time.strftime("%Y%m%dT%H%M%SZ", time.gmtime(now))) in ended:
+        now += 1
+    job = Job(command, name, person, now, facts)
     job.save(place)
     return job
+
+
+def history(place: Place) -> list[dict]:
+    """The entries of history.jsonl. A killed command may have left half a line."""
+    try:
+        lines = (place.state / "history.jsonl").read_text(encoding="utf-8").splitlines()
+    except FileNotFoundError:
+        return []
+    entries = []
+    for line in lines:
+        with contextlib.suppress(ValueError):
+            entries.append(json.loads(line))
+    return [entry for entry in entries if isinstance(entry, dict)]
 
 
 def open_job(place: Place) -> Job | None:
@@ -79,23 +97,28 @@ def clock(seconds: float) -> str:
 
 
 class Signals:
-    """SIGINT and SIGTERM end a job after the current step. SIGHUP does so too, except before steps that ignore it."""
+    """SIGINT and SIGTERM end a job after the current step. SIGHUP does so too, but a step that ignores it doesn't notice a lost terminal, nor do
+    the programs that it runs. A command that began without SIGHUP, such as with nohup, stays so.
+    """
 
     def __init__(self):
         self.received: int | None = None
-        self.ignores_hangup = False
 
     def __enter__(self) -> "Signals":
         self.before = {number: signal.signal(number, self._note) for number in (signal.SIGINT, signal.SIGTERM, signal.SIGHUP)}
+        self.ignore_hangup(False)
         return self
 
     def __exit__(self, *_) -> None:
         for number, handler in self.before.items():
             signal.signal(number, handler)
 
+    def ignore_hangup(self, ignores: bool) -> None:
+        is_ignored = ignores or self.before[signal.SIGHUP] == signal.SIG_IGN
+        signal.signal(signal.SIGHUP, signal.SIG_IGN if is_ignored else self._note)
+
     def _note(self, number: int, _frame) -> None:
-        if number != signal.SIGHUP or not self.ignores_hangup:
-            self.received = number
+        self.received = number
 
 
 def advance(place: Place, job: Job, steps: list[Step], output) -> None:
@@ -104,7 +127,7 @@ def advance(place: Place, job: Job, steps: list[Step], output) -> None:
         raise Stop(NO, f"{job.command} is being undone", "avroreg-admin undo")
     with Signals() as signals:
         for number, step in enumerate(steps, 1):
-            signals.ignores_hangup = step.ignores_hangup
+            signals.ignore_hangup(step.ignores_hangup)
             if signals.received:
                 raise Stop(STOPPED, f"{job.command} stopped before step {number} of {len(steps)}", "avroreg-admin continue")
             if step.is_done():
@@ -128,7 +151,8 @@ def _take(step: Step, number: int, count: int, job: Job) -> str:
 
 def take_back(place: Place, job: Job, steps: list[Step], output) -> None:
     """Undoes the steps, the last one first. A step's `undo` refuses with Stop(NO, ..) after the point of no return."""
-    with Signals():
+    with Signals() as signals:
+        signals.ignore_hangup(True)
         for step in reversed(steps):
             if step.undo is not None:
                 step.undo()

@@ -118,7 +118,7 @@ def main() -> int:
     output = Output()
     try:
         command = arguments.subcommand_of(words[0])
-        options = arguments.parser_of(command).parse_args(words[1:])
+        options = arguments.parse(command, words[1:])
         output = Output(as_json=options.json)
         return perform(command, options, output)
     except Stop as stop:

@@ -124,9 +124,9 @@ class Move:
             job.Step("copy", self.copy, lambda: self.aside.is_dir(), undo=self.remove_copies, ignores_hangup=True),
             job.Step("old files", self.put_aside, lambda: self.aside.is_dir() and self.place.folder.is_dir(), undo=self.put_back, ignores_hangup=True),
             job.Step("mount", self.ask_for_mount, self.is_mounted),
-            job.Step("mark", self.mark, lambda: self.drop_in.exists() and self.is_marked(), undo=self.refuse_mounted),
-            job.Step("start", self.start, lambda: not self.facts["was_running"] or self.place.process() is not None),
-            job.Step("resume", self.resume, lambda: self.facts["was_paused"] or not self.place.paused_file.exists()),
+            job.Step("mark", self.mark, lambda: self.drop_in.exists() and self.is_marked(), undo=self.refuse_mounted, ignores_hangup=True),
+            job.Step("start", self.start, lambda: not self.facts["was_running"] or self.place.process() is not None, ignores_hangup=True),
+            job.Step("resume", self.resume, lambda: self.facts["was_paused"] or not self.place.paused_file.exists(), ignores_hangup=True),
         ]
 
     def stop(self) -> str:

@@ -56,7 +56,7 @@ class Output:
         first, *rest = printable(of_registry(text, self.registry)).split("\n")
         colour = COLOURS.get(label) if self.has_colours else None
         shown = f"\033[{colour}m{label}\033[0m{' ' * max(0, LABEL_WIDTH - len(label))}" if colour else f"{label:<{LABEL_WIDTH}}"
-        print("\n".join([f"{shown}{'' if shown.endswith(' ') else ' '}{first}", *(" " * LABEL_WIDTH + line for line in rest)]), file=self.stream, flush=True)
+        write("\n".join([f"{shown}{'' if shown.endswith(' ') else ' '}{first}", *(" " * LABEL_WIDTH + line for line in rest)]), self.stream)
 
     def ok(self, text: str) -> None:
         self.line("ok", text)
@@ -88,7 +88,7 @@ class Output:
     def data(self, value) -> None:
         """The result for `--json`."""
         if self.as_json:
-            print(json.dumps(value, ensure_ascii=False, default=lambda item: asdict(item)), file=self.stream, flush=True)
+            write(json.dumps(value, ensure_ascii=False, default=lambda item: asdict(item)), self.stream)
 
 
 def of_registry(text: str, name: str) -> str:
@@ -101,5 +101,14 @@ def printable(text: str) -> str:
     return "".join(character if character == "\n" or character.isprintable() else "\\x%02x" % ord(character) for character in text)
 
 
+def write(text: str, stream) -> None:
+    """Prints a text. If nobody reads it any more, such as on a lost terminal, the command goes on in silence."""
+    try:
+        print(text, file=stream, flush=True)
+    except OSError:
+        with open(os.devnull, "w", encoding="utf-8") as nothing:
+            os.dup2(nothing.fileno(), stream.fileno())
+
+
 def error(message: str) -> None:
-    print(f"avroreg-admin: {printable(message)}", file=sys.stderr, flush=True)
+    write(f"avroreg-admin: {printable(message)}", sys.stderr)

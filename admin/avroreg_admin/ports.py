@@ -1,7 +1,9 @@
 """Whether a port of 127.0.0.1 is free, and who has it."""
 
+import contextlib
 import os
 import socket
+from collections.abc import Iterator
 from pathlib import Path
 
 LISTENING = "0A"
@@ -27,10 +29,25 @@ def listeners(port: int) -> set[str]:
 def holder(port: int) -> str:
     """The program that listens on this port, with its pid, as far as this user may see it."""
     wanted = {f"socket:[{inode}]" for inode in listeners(port)}
-    for folder in Path("/proc").glob("[0-9]*/fd"):
-        try:
-            if any(os.readlink(entry) in wanted for entry in folder.iterdir()):
-                return f"{(folder.parent / 'comm').read_text().strip()} (pid {folder.parent.name})"
-        except OSError:
-            continue
+    for pid in filter(str.isdigit, os.listdir("/proc")):
+        if wanted & set(links_of(f"/proc/{pid}/fd")):
+            return f"{name_of(pid)} (pid {pid})"
     return "another program"
+
+
+def links_of(folder: str) -> Iterator[str]:
+    """What the links of a folder name. Those that vanish meanwhile are left out: processes end, and close files."""
+    try:
+        names = os.listdir(folder)
+    except OSError:
+        return
+    for name in names:
+        with contextlib.suppress(OSError):
+            yield os.readlink(os.path.join(folder, name))
+
+
+def name_of(pid: str) -> str:
+    try:
+        return Path(f"/proc/{pid}/comm").read_text().strip()
+    except OSError:
+        return "a program that has ended"

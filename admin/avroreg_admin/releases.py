@@ -17,6 +17,9 @@ class Package:
     def install(self, file: str) -> None:
         debian.install(Path(file))
 
+    def program_of(self, file: str, folder: str) -> str:
+        return debian.program_of(Path(file), folder)
+
     def migrate(self, place) -> str:
         return place.hands(program.migrate, program=place.program, database=place.database)
 
@@ -34,6 +37,16 @@ class Image:
     def install(self, image: str) -> None:
         check_image(image)
         settings.change(self.place.settings_file, {"IMAGE": image})
+
+    def program_of(self, image: str, folder: str) -> str:
+        """Copies the image's program to this folder."""
+        made = subprocess.run(["podman", "create", "--pull", "never", image], capture_output=True, text=True)
+        target = str(Path(folder, "avroreg"))
+        copied = subprocess.run(["podman", "cp", f"{made.stdout.strip()}:/usr/bin/avroreg", target], capture_output=True, text=True)
+        subprocess.run(["podman", "rm", "-f", made.stdout.strip()], capture_output=True)
+        if copied.returncode != 0:
+            raise Stop(ERROR, f"podman copies no program out of {image}: {' '.join((made.stderr + copied.stderr).split())}")
+        return target
 
     def migrate(self, place) -> str:
         """By the program in the image, which may be of another release than the host's."""

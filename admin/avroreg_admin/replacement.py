@@ -208,6 +208,6 @@ def plan_rows(place: Place, facts: dict, found: dict, log: nginx_log.Since | Non
     differences = f"{len(found['differences'])} differences to the old file" if found["has_old"] else (
         f"{len(log.writes)} writes, by nginx's log" if log else "not known: the old file and nginx's log are gone")
     return [("backup", facts["name"].partition(" with ")[0] + f", {found['schemas']:,} schemas, audit holds"),
-            ("old file", f"kept in {place.jobs}" if found["has_old"] else "none that avroreg can read"),
+            ("old file", f"{found['old_schemas']:,} schemas, kept in {place.jobs}" if found["has_old"] else "none that avroreg can read"),
             ("lost ids", lost), ("lost", differences),
             ("nginx", "its cache gets a new key, because ids conflict" if found["conflict"] else "the cache stays: no id gets another schema")]

@@ -3,6 +3,9 @@
 It suspends avroreg for some seconds, copies both files out of the process, audits the copy, puts it in
 place and restarts avroreg. No acknowledged write is lost. If avroreg was stopped meanwhile, its stop
 made the copy, and this puts it in place.
+
+With --over-http it copies what avroreg serves into a new file, and audits that: for a file whose audits
+fail. It restores nothing, and names the command that does. Retry keys and evidence aren't copied.
 """
 
 import calendar
@@ -10,14 +13,15 @@ import os
 import signal
 import time
 
-from . import drafting, job, marking, removed, replacement, seen, swap
+from . import copying, drafting, job, marking, removed, replacement, seen, swap
+from .files import sync_folder
 from .hands import task
 from .output import DONE, NO, Stop
 from .program import listing
 
 
-def add(_parser) -> None:
-    pass
+def add(parser) -> None:
+    parser.add_argument("--over-http", action="store_true", help="copy what avroreg serves into a new file")
 
 
 def reason(place, pid: int) -> str:
@@ -32,6 +36,8 @@ def reason(place, pid: int) -> str:
 def run(context) -> int:
     place = context.place
     pid = place.process()
+    if context.options.over_http:
+        return copy_served(context, pid)
     if pid is None:
         return put_in_place(context, copy_of_stop(context), was_running=False)
     what = reason(place, pid)
@@ -47,6 +53,33 @@ def run(context) -> int:
         if place.process() == pid:
             place.hands(marking.note_rescued, database=place.database, copy=None)
             os.kill(pid, signal.SIGCONT)
+
+
+def copy_served(context, pid: int | None) -> int:
+    """Copies what the server responds with into a file next to the registry's."""
+    place = context.place
+    if pid is None:
+        raise Stop(NO, "avroreg doesn't run, so it serves nothing", "avroreg-admin doctor")
+    target = place.folder / time.strftime("over-http-%Y%m%dT%H%M%SZ.db", time.gmtime())
+    context.agree([("copy", f"what {place.url} serves, to {target}"), ("not copied", "retry keys, and what each version was compared with")], asks=False)
+    folder = place.jobs / "over-http"
+    place.hands(copying.forget, folder=folder)
+    try:
+        counts = copying.copy(place, copying.Source(place.url, words=("--fill-ids",)), folder / "registry.db", context.output)
+        place.hands(put_aside, copied=folder / "registry.db", target=target)
+    finally:
+        place.hands(copying.forget, folder=folder)
+    context.output.ok(f"copied and compared, audit holds: {target}, {counts['schemas']:,} schemas")
+    context.output.next(f"to put it in place: avroreg-admin restore --file {target}")
+    return DONE
+
+
+@task
+def put_aside(copied: str, target: str) -> None:
+    """Moves the copy to its own name, which replaces nothing."""
+    os.link(copied, target)
+    os.unlink(copied)
+    sync_folder(os.path.dirname(target))
 
 
 def copy_of_stop(context) -> str:
@@ -100,6 +133,9 @@ class Rescue(replacement.Replacement):
     def draft(self) -> str:
         ready = self.place.hands(make_draft, avroreg=self.place.program, source=self.facts["source"], database=self.place.database, folder=self.folder)
         return f"draft made: {ready['schemas']:,} schemas, {ready['subjects']:,} subjects"
+
+    def say_end(self) -> None:
+        self.context.output.text(f"Nothing was lost: the copy has every write. The old files are in {self.folder}/old")
 
 
 def steps(context, opened) -> list[job.Step]:

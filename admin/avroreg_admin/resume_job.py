@@ -5,8 +5,6 @@ import importlib
 from . import job
 from .output import DONE, NO, Stop
 
-MODULES = {"lost-ids": "lost_ids", "rollback": "upgrade", "copy-from": "copy_from"}
-
 
 def add(_parser) -> None:
     pass
@@ -17,7 +15,7 @@ def run(context) -> int:
     opened = job.open_job(context.place)
     if opened is None:
         raise Stop(NO, "no command is unfinished")
-    module = importlib.import_module(f"{__package__}.{MODULES.get(opened.command, opened.command.replace('-', '_'))}")
+    module = importlib.import_module(f"{__package__}.{opened.command.replace('-', '_')}")
     steps = module.steps(context, opened)
     if context.options.command == "undo":
         context.agree([("undo", f"{opened.command} of {job.clock(opened.begun)} by {opened.person}")])

@@ -32,8 +32,10 @@ class Service(Place):
         return found["pid"] if is_served else None
 
     def start(self) -> None:
+        if self.show("ActiveState") in ("activating", "deactivating"):
+            self.systemctl("stop", self.unit)  # systemd still tries a start that was refused: the end of that one may look like a start
         self.systemctl("reset-failed", self.unit)
-        if self.systemctl("start", self.unit).returncode != 0:
+        if self.systemctl("start", self.unit).returncode != 0 or self.process() is None:
             journal = subprocess.run(["journalctl", "-u", self.unit, "-o", "cat", "-n", "20"], capture_output=True, text=True).stdout
             said = [line for line in journal.splitlines() if line.startswith(("avroreg", "guard"))]
             raise Stop(ERROR, f"{self.unit} doesn't start: {said[-1] if said else 'see journalctl -u ' + self.unit}", "avroreg-admin doctor")

@@ -1,9 +1,12 @@
-"""The registry that `copy-to` writes to: its contents, and the writes. It has Confluent's REST interface with the mode IMPORT."""
+"""Another registry, with Confluent's REST interface: its contents, its settings, and writes."""
 
 import base64
+import getpass
 import http.client
 import json
+import os
 import ssl
+import sys
 from urllib.parse import quote, urlsplit
 
 from .output import ERROR, NO, Stop
@@ -12,6 +15,15 @@ SECONDS = 60
 TRIES = 3
 CONTENT_TYPE = "application/vnd.schemaregistry.v1+json"
 BODY_BYTES = 64 << 20
+
+
+def password_of(user: str | None, variable: str) -> str | None:
+    """The user's password, from the environment or a prompt."""
+    if user is None or variable in os.environ:
+        return os.environ.get(variable)
+    if not sys.stdin.isatty():
+        raise Stop(NO, f"set {variable}")
+    return getpass.getpass(f"Password of {user}: ")
 
 
 class Target:

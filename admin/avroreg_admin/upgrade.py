@@ -1,15 +1,14 @@
-"""Install another release (`upgrade FILE.deb`, for a container `upgrade --image TAG`), or go back to the one of before (`rollback`).
+"""Install another release: `upgrade FILE.deb`, for a container `upgrade --image TAG`. `rollback` goes back to the one of before.
 
 All registries that use it are backed up, stopped, migrated and started again. The backups are pinned,
 and the packages are kept in /var/lib/avroreg-admin/packages.
 """
 
 import contextlib
-import json
 import os
 from pathlib import Path
 
-from . import backup, debian, job, marking, places, releases
+from . import backup, debian, job, layouts, marking, places, releases
 from .archive import listed
 from .files import remove, write_json
 from .output import DONE, ERROR, NO, Stop
@@ -18,19 +17,14 @@ ADMIN = "/usr/bin/avroreg-admin"
 
 
 def add(parser) -> None:
-    parser.add_argument("package", metavar="FILE.deb", nargs="?", type=Path, help="upgrade: the new package; rollback: the package to go back to, if it wasn't kept")
-    parser.add_argument("--image", metavar="TAG", help="upgrade: the new image of a container")
-    parser.add_argument("--old", metavar="FILE.deb", type=Path, help="upgrade: the package of the installed release, for a rollback")
+    parser.add_argument("package", metavar="FILE.deb", nargs="?", type=Path, help="the new package")
+    parser.add_argument("--image", metavar="TAG", help="the new image of a container")
+    parser.add_argument("--old", metavar="FILE.deb", type=Path, help="the package of the installed release, for a rollback")
 
 
 def last_upgrade(place) -> dict | None:
     """The newest upgrade in the history that was finished."""
-    try:
-        lines = (place.state / "history.jsonl").read_text(encoding="utf-8").splitlines()
-    except FileNotFoundError:
-        return None
-    entries = [json.loads(line) for line in lines if line.startswith("{")]
-    done = [entry for entry in entries if entry.get("command") in ("upgrade", "rollback") and entry.get("result") == "done"]
+    done = [entry for entry in job.history(place) if entry.get("command") in ("upgrade", "rollback") and entry.get("result") == "done"]
     return done[-1] if done and done[-1]["command"] == "upgrade" else None
 
 
@@ -51,7 +45,16 @@ def chosen(context) -> Path:
 
 
 def facts_of(context) -> dict:
-    return image_facts(context) if isinstance(context.place, places.Container) else package_facts(context)
+    facts = image_facts(context) if isinstance(context.place, places.Container) else package_facts(context)
+    found = layouts.survey(release_of(context.place, facts), facts, context.place.state)
+    if found and (facts["is_image"] or context.options.command == "upgrade"):
+        raise Stop(NO, f"{facts['to']} can't read {', '.join(found)}: the layout is newer" + ("" if facts["is_image"] else f". It is older than {facts['from']}"),
+                   *(() if facts["is_image"] else (f"avroreg-admin rollback {facts['file']}",)))
+    return facts | {"layouts": found}
+
+
+def release_of(place, facts: dict):
+    return releases.Image(place) if facts["is_image"] else releases.Package()
 
 
 def image_facts(context) -> dict:
@@ -86,21 +89,27 @@ def package_facts(context) -> dict:
             "running": running, "subjects": {}, "is_image": False}
 
 
-def plan_of(facts: dict) -> list[tuple[str, str]]:
-    back = "avroreg-admin rollback" if facts["old"] else f"not possible: there is no package of {facts['from']}. Name it with --old FILE.deb"
+def plan_of(command: str, facts: dict) -> list[tuple[str, str]]:
+    again = "avroreg-admin rollback" if command == "upgrade" else f"avroreg-admin upgrade {'--image ' if facts['is_image'] else ''}{facts['old']}"
+    back = again if facts["old"] else f"not possible: there is no package of {facts['from']}. Name it with --old FILE.deb"
     return [("release", f"{facts['from']} -> {facts['to']}, proved: {facts['proved']}"), ("registries", ", ".join(facts["registries"])),
-            ("backups", f"made and pinned: before {facts['to']}"), ("offline", "from the stop to the start, some seconds"), ("way back", back)]
+            ("backups", f"made and pinned: before {facts['to']}"), ("offline", "from the stop to the start, some seconds"), ("way back", back), *layouts.plan_rows(facts)]
 
 
 def run(context) -> int:
+    return carry_out(context, steps)
+
+
+def carry_out(context, steps_of) -> int:
+    """Plans, asks, and runs the job of an upgrade or of a rollback."""
     facts = facts_of(context)
-    context.agree(plan_of(facts))
+    context.agree(plan_of(context.options.command, facts))
     for name in ("file", "old"):
         if facts[name] and not facts["is_image"]:
             facts[name] = str(debian.keep(debian.read(Path(facts[name]))))
     opened = job.new_job(context.place, context.options.command, context.person, facts)
     with others_locked(context, facts):
-        job.advance(context.place, opened, steps(context, opened), context.output)
+        job.advance(context.place, opened, steps_of(context, opened), context.output)
     if context.options.command == "upgrade" and facts["old"]:
         context.output.next("to go back: avroreg-admin rollback")
     return DONE
@@ -122,7 +131,7 @@ class Upgrade:
     def __init__(self, context, opened: job.Job):
         self.context, self.job, self.facts = context, opened, opened.facts
         self.all = [context.place if name == context.place.name else places.place_of(name) for name in self.facts["registries"]]
-        self.release = releases.Image(context.place) if self.facts["is_image"] else releases.Package()
+        self.release = release_of(context.place, self.facts)
         self.running = [place for place in self.all if place.name in self.facts["running"]]
 
     def steps(self) -> list[job.Step]:
@@ -132,7 +141,7 @@ class Upgrade:
             job.Step("install", self.install, lambda: self.release.is_installed(self.facts["to"]), undo=self.install_old, ignores_hangup=True),
             job.Step("migrate", self.migrate, self.is_up, ignores_hangup=True),
             job.Step("start", self.start, self.is_up, undo=self.refuse_served, ignores_hangup=True),
-            job.Step("resume", self.resume, lambda: not any(self.is_paused(place) for place in self.all), undo=self.resume, ignores_hangup=True),
+            job.Step("resume", self.resume, lambda: not any(self.is_paused(place) for place in self.all), ignores_hangup=True),
         ]
 
     def back_up(self) -> str:
@@ -217,6 +226,7 @@ class Upgrade:
         self.allow()
         for place in self.running:
             place.start()
+        self.resume()
 
     def refuse_served(self) -> None:
         """Once the new release has served, its writes would be lost by an undo: `rollback` keeps them."""

@@ -16,7 +16,7 @@ from dataclasses import dataclass
 from pathlib import Path
 
 HERE = Path(__file__).resolve().parent
-TEST_SECONDS = 300
+TEST_SECONDS = 900
 COPIES = "    copy_file(source, target)\n    copy_file(log_of(source), log_of(target))\n"
 CERTAIN = "copies"
 
@@ -121,6 +121,31 @@ BREAKS = {
     "switch-without-read-only": Break("copy_to", "        self.set_mode(CLOSED)\n", "", "test_copy_to -k the_switch"),
     "switch-that-no-restart-survives": Break("copy_to", "        self.place.hands(marking.allow, database=self.place.database, job=self.job.id)  # a restart meanwhile is let through\n", "",
                                              "test_copy_to -k switch_that_fails"),
+    # copy-from
+    "other-registry-stays-open": Break("copy_from", '        self.there.expect("PUT", "/mode", {"mode": CLOSED})\n', "", "test_copy_from -k the_switch"),
+    "other-registry-stays-closed": Break("copy_from", '            self.there.expect("PUT", "/mode", {"mode": self.facts["mode"]})\n', "            pass\n", "test_copy_from -k killed_after"),
+    "copy-not-opened": Break("copy_from", 'mode=CLOSED if self.facts["mode"] == CLOSED else OPEN', "mode=CLOSED", "test_copy_from -k the_switch"),
+    "replaced-unasked": Break("copy_from", "if here and not context.options.replace:", "if False:", "test_copy_from -k only_on_demand"),
+    "replaced-not-named": Break("copy_from", "if old and old.schemas else []", "if False else []", "test_copy_from -k only_on_demand"),
+    "ids-not-used-up": Break("copying", "    if used_ids and not os.path.exists(database):", "    if False:", "test_copy_from -k begin_later"),
+    "rehearsal-left": Break("copy_from", "    finally:\n        place.hands(copying.forget, folder=folder)", "    finally:\n        pass", "test_copy_from -k rehearsal"),
+    # upgrade and rollback
+    "hangup-reaches-programs": Break("job", "signal.signal(signal.SIGHUP, signal.SIG_IGN if is_ignored else self._note)", "signal.signal(signal.SIGHUP, self._note)",
+                                     "test_upgrade -k rollback_goes_on"),
+    "lost-terminal-ends-it": Break("output", "        print(text, file=stream, flush=True)\n    except OSError:", "        print(text, file=stream, flush=True)\n    except KeyError:",
+                                   "test_upgrade -k restore_goes_on"),
+    "nohup-not-kept": Break("job", "ignores or self.before[signal.SIGHUP] == signal.SIG_IGN", "ignores", "test_upgrade -k nohup"),
+    "move-hears-a-hangup": Break("move", "undo=self.start_again, ignores_hangup=True)", "undo=self.start_again)", "test_move -k lost_terminal"),
+    "layout-not-asked": Break("layouts", "if NEWER in seen[\"fault\"]:", "if False:", "test_upgrade -k lost_ids_keep"),
+    "lost-schemas-not-listed": Break("drafting", "    if (noted := read_json(noted_file(folder))) is None:", "    if True:", "test_upgrade -k lost_ids_keep"),
+    "any-backup-restored": Break("layouts", 'record["pinned"] == f"before {facts[\'from\']}" and', "", "test_upgrade -k without_a_backup"),
+    "rollback-undone-after-serving": Break("rollback", "            one.refuse_served()\n", "            pass\n", "test_upgrade -k OtherLayoutCase.test_killed"),
+    "upgrade-undone-after-serving": Break("upgrade", "        if self.running and self.is_up():\n            raise", "        if False:\n            raise", "test_upgrade -k has_served"),
+    # read-only
+    "own-modes-forgotten": Break("read_only", '            write_json(note_of(place), {"subjects": subjects})', "            pass", "test_acts -k mode_of_their_own"),
+    "earlier-modes-forgotten": Break("read_only", "sorted({*noted(place), *writable})", "sorted(writable)", "test_acts -k mode_of_their_own"),
+    # nginx
+    "other-registry-served": Break("nginx", '        commands.insert(0, ["set", "--registry", place.name, "--registry-port", str(place.settings.port)])', "        pass", "test_nginx"),
     # restore
     "link-not-refused": Break("swap", "        if os.path.islink(part):", "        if False:", "test_restore -k link"),
     "lock-not-taken": Break("swap", "fcntl.lockf(files[-1], fcntl.LOCK_EX | fcntl.LOCK_NB, LOCK_BYTES, LOCK_START)", "pass", "test_restore -k another_avroreg"),
@@ -200,6 +225,8 @@ def try_break(name: str, found: Break) -> bool:
         os.chmod(scratch, 0o755)  # a test as root uses another user
         folder = Path(scratch, "admin")
         shutil.copytree(HERE.parent, folder, ignore=shutil.ignore_patterns("__pycache__"))
+        (folder.parent / "examples").mkdir()
+        shutil.copy(HERE.parents[1] / "examples/from-confluent.py", folder.parent / "examples")
         (folder / "scratch").mkdir()
         module = folder / f"avroreg_admin/{found.module}.py"
         text = module.read_text(encoding="utf-8")
@@ -221,6 +248,7 @@ def try_break(name: str, found: Break) -> bool:
 
 def main() -> int:
     os.environ["AVROREG"] = os.path.realpath(os.environ["AVROREG"])
+    os.environ["AVROREG_PATIENCE"] = "60"  # of test_disk
     names = sys.argv[1:] or list(BREAKS)
     missed = [name for name in names if not try_break(name, BREAKS[name])]
     print(f"breaks: {len(names)} tried, {len(missed)} not detected", flush=True)

@@ -8,10 +8,9 @@ import time
 import unittest
 from pathlib import Path
 
-from support import CommandCase
+from support import CommandCase, free_port
 
 from avroreg_admin import facts, job, marking, pauses, places, removed, seen, server, watch
-from avroreg_admin.drill import free_port
 
 FACTS = {"source": "/x", "name": "x", "since": None, "greatest": None, "count": None, "was_running": True, "was_paused": False, "is_new": False}
 
@@ -133,6 +132,24 @@ class ActsCase(CommandCase):
         self.assertIn("warn  read-only", self.run_command("doctor"))
         self.run_command("read-only", "off")
         self.assertEqual(self.place.ask("PUT", "/config", {"compatibility": "FULL"})[0], 200)
+
+    def code_of_write(self, subject: str) -> int | None:
+        status, body = self.place.ask("PUT", f"/config/{subject}", {"compatibility": "FULL"})
+        return None if status == 200 else body["error_code"]
+
+    def test_read_only_for_subjects_with_a_mode_of_their_own(self):
+        self.go_on()
+        self.registry.write("PUT", "/mode/s-b", {"mode": "READWRITE"})
+        self.run_command("read-only", "on")
+        self.assertEqual([self.code_of_write(name) for name in ("s-b", "s-d")], [None, 42205])
+        self.run_command("read-only", "on", "--all-subjects", "--dry-run")
+        self.assertIsNone(self.code_of_write("s-b"))
+        self.assertIn("also of 1 subjects", self.run_command("read-only", "on", "--all-subjects"))
+        self.run_command("read-only", "on", "--all-subjects")  # again: it forgets none
+        self.assertEqual([self.code_of_write(name) for name in ("s-b", "s-d")], [42205, 42205])
+        self.run_command("read-only", "off")
+        self.assertEqual([self.code_of_write(name) for name in ("s-b", "s-c", "s-d")], [None, 42205, None])
+        self.assertNotIn("also of", self.run_command("read-only", "off"))
 
 
 class SecondCase(CommandCase):

@@ -239,6 +239,9 @@ class BackupCase(CommandCase):
         nginx.mkdir(parents=True)
         (nginx / "avroreg.conf").write_text("server { }")
         (nginx.parent / "avroreg.users").write_text("ops:hash")
+        package = self.registry.root / "etc/avroreg-nginx"
+        package.mkdir()
+        (package / "roles").write_text("ops admin")
         self.place.access_log.parent.mkdir(parents=True)
         lines = [json.dumps({"time": f"{year}-01-01T00:00:00+00:00", "method": "GET", "path": "/", "status": 200}) + "\n" for year in (2020, 2090)]
         self.place.access_log.write_text("".join(lines))
@@ -250,7 +253,7 @@ class BackupCase(CommandCase):
         tar = next(far.glob("settings-*.tar"))
         self.assertEqual((self.place.state / tar.name).stat().st_mode & 0o777, 0o600)
         with tarfile.open(tar) as opened:
-            self.assertEqual(opened.getnames(), ["etc/default/avroreg", "etc/nginx/conf.d/avroreg.conf", "etc/nginx/avroreg.users", "avroreg.log"])
+            self.assertEqual(opened.getnames(), ["etc/default/avroreg", "etc/nginx/conf.d/avroreg.conf", "etc/nginx/avroreg.users", "etc/avroreg-nginx/roles", "avroreg.log"])
             self.assertEqual(opened.extractfile("avroreg.log").read().decode(), lines[1])
         self.assertIn(newest, self.run_command("backups"))
 

@@ -4,8 +4,11 @@ import contextlib
 import os
 import subprocess
 import unittest
+from unittest import mock
 
 from support import CommandCase, state_of
+
+import releasing
 
 
 @unittest.skipIf(os.geteuid() != 0, "needs root")
@@ -101,6 +104,19 @@ class MoveCase(CommandCase):
                         self.run_command("continue")
                     self.assertEqual(state_of(self.place.database), self.registry.old)
                     self.assertIsNotNone(self.place.process())
+
+    def test_on_a_lost_terminal_both_halves_go_on(self):
+        self.enterContext(mock.patch.dict(os.environ, AVROREG_REAL=os.environ["AVROREG"]))
+        for first, second in ((1, 5), (2, 6), (3, 7)):
+            with self.subTest(first=first):
+                releasing.make(self.registry.root)
+                self.assertEqual(releasing.lose_terminal(self.registry.root, first, "move", str(self.new), "--yes"), 3)
+                self.mount()
+                self.assertEqual(releasing.lose_terminal(self.registry.root, second, "continue"), 0)
+                self.assertFalse(self.place.job_file.exists() or self.place.paused_file.exists())
+                self.assertEqual(state_of(self.place.database), self.registry.old)
+                self.assertIsNotNone(self.place.process())
+            self.again()
 
     def again(self) -> None:
         self.unmount()

@@ -3,10 +3,9 @@
 import os
 import unittest
 
-from support import CommandCase
+from support import CommandCase, free_port
 
 from avroreg_admin import job
-from avroreg_admin.drill import free_port
 from avroreg_admin.output import BUSY, DONE
 
 CHANGES = (

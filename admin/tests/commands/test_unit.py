@@ -8,10 +8,9 @@ import time
 import unittest
 import unittest.mock
 
-from support import CommandCase
+from support import CommandCase, free_port
 
 from avroreg_admin import init, job, marking, program
-from avroreg_admin.drill import free_port
 from avroreg_admin.output import Stop
 
 
@@ -109,8 +108,8 @@ class InitCase(CommandCase):
 
     def test_a_taken_port_is_refused_with_its_program(self):
         port = self.empty()
-        with socket.create_server(("127.0.0.1", port)):
-            self.refused("init", "--port", str(port), text=f"(pid {os.getpid()}) listens on port {port}")
+        with socket.create_server(("127.0.0.1", port)) as taken:  # the command runs in a fork, which has the socket too
+            self.refused("init", "--port", str(port), text=f"(pid {os.getpid()}) listens on port {port}", prepare=taken.close)
         self.assertFalse(self.place.folder.exists())
 
     def test_backups_of_a_lost_registry_are_restored_instead(self):
@@ -222,7 +221,7 @@ class PortCase(CommandCase):
 
     def test_a_taken_port_is_refused(self):
         with socket.create_server(("127.0.0.1", self.port)):
-            self.refused("port", str(self.port), "--yes", text="listens on port")
+            self.refused("port", str(self.port), "--yes", text=f"listens on port {self.port}")
         self.assertEqual(self.place.ask("GET", "/config")[0], 200)
 
     def test_if_it_fails_the_old_port_is_back(self):
