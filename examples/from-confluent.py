@@ -19,8 +19,8 @@ copied unchanged, it prints the reason, and writes nothing without an option tha
   --fill-ids       keeps all ids, even if avroreg wouldn't assign them as 1, 2, 3.. in the order of the versions. For an id
                    that comes later, it registers the schema early; for an id that no version has, a placeholder. Both
                    get a subject that it deletes at the end, and the ids stay used up. This takes a write for each such id.
-  --used-ids N     expects that the ids 1 to N are used up in the file of TO, which takes no writes. Make that file with
-                   from-confluent/used-ids.py. Confluent Cloud's ids begin at 100,001: use 100000.
+  --used-ids N     expects that the ids 1 to N are used up in the file of TO. `avroreg-admin copy-from --used-ids N` makes such
+                   a file. Confluent Cloud's ids begin at 100,001: use 100000.
   --new-ids        gives new ids, and prints each change. Messages that were written with the old ids become unreadable.
   --without-modes  leaves out modes that avroreg doesn't have, such as IMPORT: a subject with such a mode gets none of its
                    own. If the global mode is one, the global mode of TO is READWRITE.
@@ -905,8 +905,7 @@ def unused_before(registry: Registry, used: int) -> str:
     first = min((version.id for _, version in registry.versions()), default=1)
     if first - used <= 1000:
         return ""
-    return (f"; {FILL} takes {first - used - 1:,} writes for the ids before {first}, and none if the file of TO is made by "
-            f"from-confluent/used-ids.py, with {USED} {first - 1}")
+    return f"; {FILL} takes {first - used - 1:,} writes for the ids before {first}. `avroreg-admin copy-from {USED} {first - 1}` uses them up first"
 
 
 def print_cost(plan: Plan, target: Server):

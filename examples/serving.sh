@@ -7,7 +7,7 @@ examples=$(cd "$(dirname "${BASH_SOURCE[0]}")" && pwd)
 trials=$(cd "$examples/../trials" && pwd)
 avroreg=${AVROREG:-$examples/../crates/avroreg/out/avroreg}
 key_field=Registry-Retry-Key
-start_tries=600 # every tenth of a second: a busy machine takes long to start a program
+start_tries=600 # every tenth of a second: a busy machine takes long to start a program or nginx
 scratch=$(mktemp -d)
 started=()
 
@@ -64,6 +64,16 @@ free_port() {
   echo "$port"
 }
 
+# wait_for_port PORT: waits until a process listens there. Returns 1 if none does.
+wait_for_port() {
+  local _
+  for _ in $(seq "$start_tries"); do
+    (exec 3<>"/dev/tcp/127.0.0.1/$1") 2>/dev/null && return
+    sleep 0.1
+  done
+  return 1
+}
+
 # start_server FILE [PORT]: serves the registry in FILE, by default on a free port. It sets $server to the process and $url to
 # its address.
 start_server() {
@@ -84,9 +94,10 @@ start_server() {
 # start_nginx NAME PORT [EDIT]: starts nginx in front of PORT, with the configuration of examples/nginx. sed's EDIT changes the
 # configuration first: `s/#gateway //` switches the gateway on. It sets $front to nginx's port and $nginx to the process. In
 # $scratch/NAME, avroreg.log is the log of that configuration, and access.log has status, method and target.
-# $worker_connections replaces the number of connections.
+# $worker_connections replaces the number of connections. $runner is a command that runs nginx, such as valgrind.
+runner=()
 start_nginx() {
-  local folder=$scratch/$1 user="" module="" _
+  local folder=$scratch/$1 user="" module=""
   [ "$(id -u)" != 0 ] || user='user root;'
   front=$(free_port)
   write_nginx_files "$folder" "$2" "${3:-}"
@@ -109,14 +120,10 @@ http {
     include avroreg.conf;
 }
 CONF
-  /usr/sbin/nginx -p "$folder" -c nginx.conf -e error.log &
+  ${runner[@]+"${runner[@]}"} /usr/sbin/nginx -p "$folder" -c nginx.conf -e error.log &
   nginx=$!
   started+=("$nginx")
-  for _ in $(seq 100); do
-    (exec 3<>"/dev/tcp/127.0.0.1/$front") 2>/dev/null && return
-    sleep 0.1
-  done
-  fail "nginx doesn't listen: $(cat "$folder/error.log")"
+  wait_for_port "$front" || fail "nginx doesn't listen: $(cat "$folder/error.log")"
 }
 
 # write_nginx_files FOLDER PORT EDIT: writes the configuration, its roles and the gateway, each changed by EDIT.

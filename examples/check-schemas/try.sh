@@ -237,10 +237,7 @@ rm "$HOME/.netrc"
 port=$(free_port)
 python3 "$examples/check-schemas/busy.py" "$port" &
 started+=("$!")
-for _ in $(seq 100); do
-  (exec 3<>"/dev/tcp/127.0.0.1/$port") 2>/dev/null && break
-  sleep 0.1
-done
+wait_for_port "$port" || fail "busy.py doesn't answer"
 rm -rf "$scratch/odd"/{linked,windows,zz}.avsc
 register 0 "$scratch/odd" "http://127.0.0.1:$port" --commit abc123
 [ "$(cat "$scratch/table")" = "$(printf '%-30s %-30s registered  {"id":7,"more":"\\x1b[2J"}' aaa.avsc aaa)" ] ||

@@ -14,16 +14,12 @@ mkfifo "$scratch/lines"
 
 # start_stand_in [OPTION]..: starts a registry to read from, at $source.
 start_stand_in() {
-  local port _
+  local port
   port=$(free_port)
   python3 "$here/standin.py" "$port" "${size[@]}" "$@" &
   started+=("$!")
   source=http://127.0.0.1:$port
-  for _ in $(seq 100); do
-    (exec 3<>"/dev/tcp/127.0.0.1/$port") 2>/dev/null && return
-    sleep 0.1
-  done
-  fail "the stand-in doesn't answer"
+  wait_for_port "$port" || fail "the stand-in doesn't answer"
 }
 
 # move STATUS [OPTION].. FROM TO: runs the mover, and checks its status. Its output is in $scratch/moved.
@@ -125,14 +121,16 @@ printf '\nIds from 20,001 on, and a terminal\n'
 start_stand_in --first-id 20001
 start_server "$scratch/late.db"
 move 1 "$source" "$url"
-check_output '--fill-ids takes 20,000 writes for the ids before 20001, and none if'
+check_output '--fill-ids takes 20,000 writes for the ids before 20001.'
 move 0 --dry-run --fill-ids "$source" "$url"
 check_output ', 20,000 of them for ids that'
 check_new "$url"
 move 3 --used-ids 20000 "$source" "$url"
 check_output 'expected 200 {"id": 20001}, got 200 {"id": 1}'
-python3 "$here/used-ids.py" "$scratch/used.db" 20000 || fail "used-ids.py made no file"
-! python3 "$here/used-ids.py" "$scratch/used.db" 1 2>/dev/null || fail "used-ids.py overwrote an existing file"
+python3 -c 'import sys
+sys.path.insert(0, sys.argv[1])
+from avroreg_admin import copying
+copying.use_up(sys.argv[2], sys.argv[3], 20000)' "$examples/../admin" "$avroreg" "$scratch/used.db" || fail "the ids aren't used up"
 start_server "$scratch/used.db"
 move 64 --used-ids 20000 --new-ids "$source" "$url"
 move 1 --used-ids 20001 "$source" "$url"
