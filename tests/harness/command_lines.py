@@ -1,4 +1,26 @@
-"""Runs command lines over files, and checks the output, the status, and the files afterwards."""
+"""Runs command lines over files, and checks the output, the status, and the files afterwards.
+
+Before a command line:
+
+    file NAME TEXT        a file, without a line end after the text; with `:=` it can have any bytes
+    move NAME NEW, link NAME FILE    renames a file, makes a symbolic link
+    sql FILE STATEMENT    executes a statement on a database
+    given FILE            sends the requests below it to a run over the file
+    hold FILE             starts a run that answers the requests below it and keeps the database open; `release` ends it, `kill` kills it
+    connect FILE          a server that ends after as many connections as there are requests below it, each on its own connection
+    alternate FILE        as `connect`, but two clients keep their connections, and send the requests in turn
+    beside FILE KIND      sends the first request from other clients (dripping, mute, pipelining, idle or half-closed, see crowds.py),
+                          and each further one from a client of its own, which must have its response in 5 seconds
+    crowd FILE COUNT places|descriptors    more clients than COUNT send the request and keep their connections: the server must close
+                          those that have been idle longest
+    starve FILE           as `connect`, but the server has no descriptor for its second connection until several accepts failed
+
+A server is followed by `prints` (the responses), `err` and `status`. `avroreg ARGUMENTS` is a command line. Requests and `bytes :=
+EXPRESSION` below it are its standard input. With `> /dev/full` each write fails, with `< .` each read. After it come `out LINE`,
+`err LINE`, `status N`, or `prints TEXT` for output without a line end; without them, it must print nothing and have status 0. `usage`
+expects status 64 and a usage text, or a hint at `--help`. `unchanged FILE` and `missing FILE` look at a file, and `rows FILE SELECT ..`
+at a database.
+"""
 
 import os
 import shlex

@@ -1,4 +1,8 @@
-"""Checks whether a reader's schema is compatible with a writer's schema."""
+"""Checks whether a reader's schema is compatible with a writer's schema, by `avroreg check`.
+
+A `writer` and a `reader` apply until the next one of their kind. Each verdict, `compatible` or `incompatible`, is one check.
+`exchanged` before a verdict swaps the two schemas.
+"""
 
 from .program import CaseError, check_outcome, run_program, shorten, write_file
 

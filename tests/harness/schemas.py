@@ -1,4 +1,8 @@
-"""Checks the identity text of the schema that a text denotes, or that the text is an invalid schema."""
+"""Checks the identity text of the schema that a text denotes, or that the text is an invalid schema.
+
+`text` is a text, and `is` its identity text, as `avroreg text` prints it; `is none` means that the text is an invalid schema. If a
+request has room for the text, it is also registered, and the stored schema is read.
+"""
 
 from .messages import NORMAL_END, build_error_response, build_request, build_response, check_responses
 from .program import CaseError, check_outcome, describe_request, run_program, shorten, write_file

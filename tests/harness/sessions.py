@@ -1,4 +1,21 @@
-"""Sends requests to a new registry in memory, over a file and through a socket, and compares the responses."""
+"""Sends requests to a new registry, and compares the bytes of the responses.
+
+Each session runs in memory, over a file, and through a socket. With `cut at every byte`, it also runs with each shorter prefix of
+its input. With `in pieces`, it repeats its requests in pieces of 1 to 64 bytes, over standard input and through a socket.
+
+A request is a method, a target and an optional body: a literal text, `schema S` for `{"schema":".."}`, `level L` for
+`{"compatibility":"L"}`, or `mode M` for `{"mode":"M"}`. `[KEY]` before the method is the retry key. Below it are further header
+fields. `bytes` sends the lines below it: each begins with a bar, which isn't sent, nor is a space after it; CR LF is between
+them, and spaces at the end of a line are dropped. `bytes := EXPRESSION` sends the value of an expression.
+
+A response is a status and a body, or only an error code. If it has `Allow` or `Connection: close`, they stand below it; all further
+fields are always compared. A request without a response below it gets none, as after a request that closes the connection. `ends
+malformed` means that the run ends with `malformed input`.
+
+These lines end a run, and what follows is another run over the same file; a session with more than one run doesn't run in
+memory: `restart`; `list subjects`, `list versions` and `list schemas` (the listing is below); `audit evidence holds` or `audit
+evidence does not hold`; `rows SELECT ..` (the rows are below, with a bar between cells); `sql STATEMENT`, which changes the file.
+"""
 
 import re
 import socket
