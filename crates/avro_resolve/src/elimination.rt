@@ -109,8 +109,10 @@ struct Dependents {
 /// together, with one pass over each list of unions.
 type Run<'a> = &'a [(u16, u16)];
 
-/// From this length on, comparing two rows is faster than looking up each pair of the run.
-const LONG_RUN: usize = 64;
+/// From this length on, comparing two rows is faster than looking up each pair of the run. Rows have
+/// at most 4,096 columns, and comparing eight takes as long as one lookup. So a run costs at most as
+/// much as its lookups.
+const LONG_RUN: usize = 512;
 
 /// Pops from the worklist all pairs at its end that are in the row of `last`. The run becomes these
 /// pairs and then `last`, which was popped before.
