@@ -1,16 +1,12 @@
--- The runs of a text that a JSON string copies unchanged, and the escaped bytes between them.
-use Rattle.std.proofs.Common.{◌≡◌, ℕ, zero, suc, ◌+◌, ◌-◌, ◌<◌, ◌≤◌, List, [], ◌∷◌, ◌++◌, length, take, drop, get_or, Bool, true, false, ◌||◌, Some, None, inl, inr, refl, sym, ap, ap₂, ◌∙◌, append_assoc, length-drop, lt-ltb, get_or-drop, arith}
-use Rattle.std.specs.Prelude.{◌==◌, nat_lt, slice_range}
-use Rattle.std.specs.List.{position, position_or_len}
-use Rattle.std.proofs.lemmas.Bool.{or_parts, eqb-true, eqb-false, ltb-true, ltb-false, cases_lt}
-use Rattle.std.proofs.lemmas.List.{take_all, take_rest}
-use Rattle.std.proofs.lemmas.List.Quantifiers.{position-Some}
-use Rattle.std.proofs.lemmas.List.Sums.{fails_before_first}
-use Rattle.std.proofs.lemmas.Option.{none-some}
+-- The escaped bytes of JSON strings.
+use Rattle.std.proofs.Common.{◌≡◌, ℕ, zero, suc, ◌+◌, ◌-◌, ◌<◌, ◌≤◌, List, [], ◌∷◌, ◌++◌, length, take, drop, get_or, Bool, true, false, refl, sym, ap, ap₂, ◌∙◌, append_assoc, append-nil, arith}
+use Rattle.std.specs.Prelude.{◌==◌, ◌||◌, nat_lt}
+use Rattle.std.proofs.Math.Seq.{take-add}
+use Rattle.std.proofs.lemmas.Bool.{or_parts, eqb-true, eqb-false, ltb-true, ltb-false}
+use Rattle.std.proofs.lemmas.List.{drop-drop, take_all}
 use Rattle.std.proofs.lemmas.List.Concat.{flat_map-append}
 use Rattle.json.specs.Print.{escape, escape_byte}
 use Rattle.json.proofs.Printed.Strings.{escape_byte_plain}
-use Rattle.avro_nodes.proofs.Runs.{range_more, range_join}
 
 -- a quotation mark, a backslash or a control character
 abbrev pub needs_escape : ℕ → Bool
@@ -22,83 +18,67 @@ plain_kept c is =
     let two = or_parts (c == 92) (nat_lt c 32) one.1 in
     escape_byte_plain c (eqb-false c 34 one.0) (eqb-false c 92 two.0) (ltb-false c 32 two.1)
 
-pub mark_small : (c : ℕ) → needs_escape c ≡ true → c < 128
-mark_small c is = split (c == 34) (c == 92) refl refl where
-  split : (a b : Bool) → (c == 34) ≡ a → (c == 92) ≡ b → c < 128
-  split true b e f = omega (arith, eqb-true c 34 e)
-  split false true e f = omega (arith, eqb-true c 92 f)
-  split false false e f = omega (arith, ltb-true c 32 (rw (e, f) at is))
+pub quote_escaped : (a c : ℕ) → a ≡ 92 → c ≡ 34 → escape_byte c ≡ a ∷ c ∷ []
+unfolding escape_byte
+quote_escaped a c e f = rw (e, f) refl
+
+pub backslash_escaped : (a c : ℕ) → a ≡ 92 → c ≡ 92 → escape_byte c ≡ a ∷ c ∷ []
+unfolding escape_byte
+backslash_escaped a c e f = rw (e, f) refl
 
 pub mark_escaped : (c : ℕ) → needs_escape c ≡ true → 32 ≤ c → escape_byte c ≡ 92 ∷ c ∷ []
-unfolding escape_byte
 mark_escaped c is h = split (c == 34) (c == 92) refl refl where
   split : (a b : Bool) → (c == 34) ≡ a → (c == 92) ≡ b → escape_byte c ≡ 92 ∷ c ∷ []
-  split true b e f = rw (eqb-true c 34 e) refl
-  split false true e f = rw (eqb-true c 92 f) refl
+  split true b e f = quote_escaped 92 c refl (eqb-true c 34 e)
+  split false true e f = backslash_escaped 92 c refl (eqb-true c 92 f)
   split false false e f = absurd (omega (arith, h, ltb-true c 32 (rw (e, f) at is)))
 
--- a run without bytes to escape is copied unchanged
-plain_run : (xs : List ℕ) (n : ℕ) → n ≤ length xs → ((k : ℕ) → k < n → needs_escape (get_or xs k 0) ≡ false) → escape (take n xs) ≡ take n xs
-plain_run xs zero within none = refl
-plain_run [] (suc n) within none = refl
-plain_run (x ∷ xs) (suc n) within none = ap₂ (λ (a b : List ℕ). a ++ b) (plain_kept x (none 0 (omega arith))) (plain_run xs n (omega arith) (λ k lt. none (suc k) (omega arith)))
+-- a backslash and the byte, appended one after the other
+pub mark_written : (old one two : List ℕ) (c : ℕ) → needs_escape c ≡ true → 32 ≤ c → one ≡ old ++ 92 ∷ [] → two ≡ one ++ c ∷ [] → two ≡ old ++ escape_byte c
+mark_written old one two c is h first second =
+    second ∙ ap (λ (xs : List ℕ). xs ++ c ∷ []) first ∙ append_assoc old (92 ∷ []) (c ∷ []) ∙ ap (λ (xs : List ℕ). old ++ xs) (sym (mark_escaped c is h))
 
-abbrev after : List ℕ → ℕ → List ℕ
-after bs from = take (length bs - from) (drop from bs)
+-- ---- parts of a text
 
--- the found byte needs an escape, and those before it don't
-pub escape_found : (bs : List ℕ) (from n : ℕ) → Some n ≡ position needs_escape (after bs from)
-    → (needs_escape (get_or bs (from + n) 0) ≡ true) × (escape (slice_range bs from (from + n)) ≡ slice_range bs from (from + n))
-escape_found bs from n is =
-    let (inside, found, plain) = position-Some needs_escape (drop from bs) n 0 (ap (position needs_escape) (sym (take_rest bs from)) ∙ sym is) in
-    let same : from + n - from ≡ n = omega arith in
-    (ap needs_escape (sym (get_or-drop from bs n 0)) ∙ found, rw same (plain_run (drop from bs) n (omega (arith, inside)) plain))
+one_byte : (xs : List ℕ) (n : ℕ) → n < length xs → take 1 (drop n xs) ≡ get_or xs n 0 ∷ []
+one_byte [] n h = absurd (omega arith)
+one_byte (x ∷ xs) zero h = refl
+one_byte (x ∷ xs) (suc n) h = one_byte xs n (omega arith)
 
--- no byte needs an escape
-pub escape_absent : (bs : List ℕ) (from : ℕ) → None ≡ position needs_escape (after bs from)
-    → escape (slice_range bs from (length bs)) ≡ slice_range bs from (length bs)
-escape_absent bs from is = plain_run rest (length bs - from) (omega (arith, length-drop from bs)) (λ k lt. plain k (omega (arith, lt, length-drop from bs)))
-  where
-    rest : List ℕ
-    rest = drop from bs
+two_bytes : (xs : List ℕ) (n : ℕ) → n + 1 < length xs → take 2 (drop n xs) ≡ get_or xs n 0 ∷ get_or xs (n + 1) 0 ∷ []
+two_bytes xs n h =
+    take-add 1 1 (drop n xs) ∙ ap₂ (λ (a b : List ℕ). a ++ b) (one_byte xs n (omega arith)) (ap (take 1) (drop-drop 1 n xs) ∙ one_byte xs (n + 1) (omega arith))
 
-    plain : (k : ℕ) → k < length rest → needs_escape (get_or rest k 0) ≡ false
-    plain k lt = elim (cases_lt (position_or_len needs_escape rest) (length rest)) [
-      | inl inside ↦ absurd (none-some (position_or_len needs_escape rest) (is ∙ ap (position needs_escape) (take_rest bs from) ∙ (rw (lt-ltb (position_or_len needs_escape rest) (length rest) inside) refl)))
-      | inr past ↦ fails_before_first needs_escape rest k 0 (omega arith)
-    ]
+-- ---- writing
 
-from_start : (bs : List ℕ) (at : ℕ) → slice_range bs 0 at ≡ take at bs
-from_start bs at = let same : at - 0 ≡ at = omega arith in rw same refl
+pub byte_written : (bs out next : List ℕ) (i : ℕ) → i < length bs → out ≡ 34 ∷ escape (take i bs) → next ≡ out ++ escape_byte (get_or bs i 0) → next ≡ 34 ∷ escape (take (i + 1) bs)
+byte_written bs out next i within so_far step =
+    let more : escape (take (i + 1) bs) ≡ escape (take i bs) ++ escape_byte (get_or bs i 0) =
+    ap escape (take-add i 1 bs ∙ ap (λ (xs : List ℕ). take i bs ++ xs) (one_byte bs i within)) ∙ flat_map-append escape_byte (take i bs) (get_or bs i 0 ∷ []) ∙ ap (λ (xs : List ℕ). escape (take i bs) ++ xs) (append-nil (escape_byte (get_or bs i 0))) in
+    step ∙ ap (λ (xs : List ℕ). xs ++ escape_byte (get_or bs i 0)) so_far ∙ ap (λ (xs : List ℕ). 34 ∷ xs) (sym more)
 
-one_byte : (bs : List ℕ) (at : ℕ) → at < length bs → slice_range bs at (at + 1) ≡ get_or bs at 0 ∷ []
-one_byte bs at h = range_more bs at at (omega arith) h ∙ (let none : at - at ≡ 0 = omega arith in rw none refl)
+pub all_written : (bs out last : List ℕ) (i : ℕ) → length bs ≤ i → out ≡ 34 ∷ escape (take i bs) → last ≡ out ++ 34 ∷ [] → last ≡ 34 ∷ (escape bs ++ 34 ∷ [])
+all_written bs out last i past so_far step = step ∙ ap (λ (xs : List ℕ). xs ++ 34 ∷ []) (so_far ∙ ap (λ (xs : List ℕ). 34 ∷ escape xs) (take_all i bs past))
 
-pub first_run : (bs out : List ℕ) (at : ℕ) → out ≡ 34 ∷ [] → escape (slice_range bs 0 at) ≡ slice_range bs 0 at → out ++ slice_range bs 0 at ≡ 34 ∷ escape (take at bs)
-first_run bs out at is plain =
-    ap (λ (xs : List ℕ). xs ++ slice_range bs 0 at) is ∙ ap (λ (xs : List ℕ). 34 ∷ xs) (sym plain ∙ ap escape (from_start bs at))
+-- ---- reading
 
--- an escaped byte follows its backslash, and begins the next run
-pub next_run : (bs out : List ℕ) (from mark next : ℕ) → from ≤ mark → mark < length bs → mark + 1 ≤ next → escape_byte (get_or bs mark 0) ≡ 92 ∷ get_or bs mark 0 ∷ []
-    → escape (slice_range bs (mark + 1) next) ≡ slice_range bs (mark + 1) next
-    → out ++ slice_range bs from mark ≡ 34 ∷ escape (take mark bs)
-    → ((out ++ slice_range bs from mark) ++ 92 ∷ []) ++ slice_range bs mark next ≡ 34 ∷ escape (take next bs)
-next_run bs out from mark next a h b escaped plain so_far =
-    let q = get_or bs mark 0 in
-    let run = slice_range bs (mark + 1) next in
-    let here : slice_range bs mark next ≡ q ∷ run = sym (range_join bs mark (mark + 1) next (omega arith) b) ∙ ap (λ (xs : List ℕ). xs ++ run) (one_byte bs mark h) in
-    let all : take next bs ≡ take mark bs ++ q ∷ run =
-    sym (from_start bs next) ∙ sym (range_join bs 0 mark next (omega arith) (omega (arith, b))) ∙ ap (λ (xs : List ℕ). xs ++ slice_range bs mark next) (from_start bs mark) ∙ ap (λ (xs : List ℕ). take mark bs ++ xs) here in
-    let written : escape (take next bs) ≡ escape (take mark bs) ++ 92 ∷ q ∷ run =
-    ap escape all ∙ flat_map-append escape_byte (take mark bs) (q ∷ run) ∙ ap (λ (xs : List ℕ). escape (take mark bs) ++ (xs ++ escape run)) escaped ∙ ap (λ (xs : List ℕ). escape (take mark bs) ++ 92 ∷ q ∷ xs) plain in
-    rw (so_far, here) (append_assoc (34 ∷ escape (take mark bs)) (92 ∷ []) (q ∷ run) ∙ ap (λ (xs : List ℕ). 34 ∷ xs) (sym written))
+pub one_spelled : (es : List ℕ) (at : ℕ) → at < length es → needs_escape (get_or es at 0) ≡ false → escape_byte (get_or es at 0) ≡ take (at + 1 - at) (drop at es)
+one_spelled es at within plain =
+    let one : 1 ≡ at + 1 - at = omega arith in
+    plain_kept (get_or es at 0) plain ∙ sym (one_byte es at within) ∙ ap (λ n. take n (drop at es)) one
 
-pub last_run : (bs out : List ℕ) (from mark : ℕ) → from ≤ mark → mark ≡ length bs → out ++ slice_range bs from mark ≡ 34 ∷ escape (take mark bs)
-    → (out ++ drop from bs) ++ 34 ∷ [] ≡ 34 ∷ (escape bs ++ 34 ∷ [])
-last_run bs out from mark a end so_far =
-    let rest : slice_range bs from mark ≡ drop from bs = take_all (mark - from) (drop from bs) (omega (arith, end, length-drop from bs)) in
-    let all : take mark bs ≡ bs = take_all mark bs (omega (arith, end)) in
-    ap (λ (xs : List ℕ). xs ++ 34 ∷ []) (ap (λ (xs : List ℕ). out ++ xs) (sym rest) ∙ so_far ∙ ap (λ (xs : List ℕ). 34 ∷ escape xs) all)
+pub two_spelled : (es : List ℕ) (at : ℕ) → at + 1 < length es → escape_byte (get_or es (at + 1) 0) ≡ get_or es at 0 ∷ get_or es (at + 1) 0 ∷ [] → escape_byte (get_or es (at + 1) 0) ≡ take (at + 2 - at) (drop at es)
+two_spelled es at within escaped =
+    let two : 2 ≡ at + 2 - at = omega arith in
+    escaped ∙ sym (two_bytes es at within) ∙ ap (λ n. take n (drop at es)) two
+
+pub more_spelled : (es out new : List ℕ) (at next byte : ℕ) → at < next → escape out ≡ take at es → new ≡ out ++ byte ∷ [] → escape_byte byte ≡ take (next - at) (drop at es) → escape new ≡ take next es
+more_spelled es out new at next byte after so_far step is =
+    let whole : at + (next - at) ≡ next = omega arith in
+    ap escape step ∙ flat_map-append escape_byte out (byte ∷ []) ∙ ap₂ (λ (a b : List ℕ). a ++ b) so_far (append-nil (escape_byte byte) ∙ is) ∙ sym (take-add at (next - at) es) ∙ ap (λ n. take n es) whole
+
+pub all_spelled : (es out : List ℕ) (at : ℕ) → length es ≤ at → escape out ≡ take at es → escape out ≡ es
+all_spelled es out at past so_far = so_far ∙ take_all at es past
 
 -- nine parts appended in order
 pub joined_nine : (a b c d e f g h i : List ℕ) → (((((((([] ++ a) ++ b) ++ c) ++ d) ++ e) ++ f) ++ g) ++ h) ++ i ≡ a ++ (b ++ (c ++ (d ++ (e ++ (f ++ (g ++ (h ++ i)))))))

@@ -35,7 +35,6 @@ mod comparing;
 mod deleting;
 mod modes;
 mod needs;
-mod quoting;
 mod reading;
 mod registering;
 mod rows;

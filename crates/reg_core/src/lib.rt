@@ -9,6 +9,7 @@ mod compatibility;
 mod decision;
 mod delivery;
 mod evidence;
+mod json_strings;
 mod key;
 mod laws;
 mod level;
@@ -30,6 +31,7 @@ pub use decision::{
 };
 pub use delivery::Delivery;
 pub use evidence::Evidence;
+pub use json_strings::unescaped;
 pub use key::Key;
 pub use laws::{
     additions_are_admitted, commands_preserve_invariant, commands_reply_as_commands,

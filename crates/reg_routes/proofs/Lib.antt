@@ -1,3 +1,4 @@
 pub mod Adding
 pub mod Keys
 pub mod Rejections
+pub mod OnlySchemaBodies

@@ -6,3 +6,4 @@ pub mod Bodies
 pub mod Keys
 pub mod Commands
 pub mod Deliveries
+pub mod OnlySchema

@@ -5,6 +5,7 @@ ghost use Rattle.serde_json.specs.Find.{as_str};
 ghost use Rattle.serde_json.specs.View.{view};
 ghost use Rattle.reg_routes.specs.Bodies.{has_no_references, is_avro, is_supported, body_json, body_schema, string_member, body_string_member};
 
+use crate::only_schema::only_schema;
 use reg_core::{OutOfMemory, Text};
 use serde_json::Value;
 use std::alloc::Global;
@@ -121,6 +122,12 @@ pub fn body_string_member(
 pub fn body_schema(alloc: Global, body: &[u8]) -> Result<Option<SentSchema>, OutOfMemory>
     ensures { IfOk result (λ schema. schema ≡ body_schema body.now) }
 {
+    if let Some(text) = only_schema(alloc, body)? {
+        return Ok(Some(SentSchema {
+            text: Text::from(text),
+            supported: true,
+        }));
+    }
     let Some(value) = body_json(alloc, body)? else {
         return Ok(None);
     };

@@ -6,6 +6,7 @@
 mod body;
 mod command;
 mod delivery;
+mod only_schema;
 mod path_segments;
 mod query;
 mod resource;

@@ -6,7 +6,7 @@ ghost use Rattle.serde_json.specs.Written.{compact_text, has_float};
 ghost use Rattle.reg_core.specs.Bodies.{number_body, numbers_body, subject_version_data, subject_versions_body, schema_body, strings_body, version_body};
 ghost use Rattle.reg_core.specs.Replies.{success};
 
-use crate::decision::quoting::quoted;
+use crate::json_strings::quoted;
 use crate::reply::Reply;
 use crate::row::Row;
 use avro_nodes::OutOfMemory;
