@@ -30,90 +30,57 @@ pub record CanBeMade (sql : List ℕ) (schema : Schema) (table : Table) : Type 0
   pub fits : is_fit (Text (codes "table")) (Text table.name) (Text table.name) (Text sql) ≡ true
   pub short : 2 * length table.name + length sql + 200 < 10 ^ 9
 
+-- for our tables each condition computes
+made : {sql : List ℕ} {schema : Schema} {table : Table} → IsOneStatement sql 0 (understood schema sql) → IsUtf8 sql → IsUtf8 table.name
+    → (is_used schema table.name ≡ false) × AllByRecursion (λ i. is_used schema i.name ≡ false) (automatics table 0 0 table.uniques) × (is_reserved table.name ≡ false)
+    → (next_tree schema + length table.uniques < 65536) × (table_reals table < 2 ^ 64) × AllByRecursion (λ key. index_reals (table_reals table) key < 2 ^ 64) table.uniques
+    → (is_formed table ≡ true) × (is_fit (Text (codes "table")) (Text table.name) (Text table.name) (Text sql) ≡ true) × (2 * length table.name + length sql + 200 < 10 ^ 9) → CanBeMade sql schema table
+made whole text named names room form = record {
+  whole = whole;
+  text = text;
+  named = named;
+  unused = names.0;
+  indexes = names.1;
+  unreserved = names.2;
+  room = room.0;
+  reals = room.1;
+  key_reals = room.2;
+  formed = form.0;
+  fits = form.1;
+  short = form.2;
+}
+
 pub texts_can_be : CanBeMade make_texts empty_schema texts
 unfolding understood everything same_name same_word begins is_free_name fits_kind value_cmp lib.Utf8.encode lib.Ieee.is_nan lib.Ieee.lt
-texts_can_be = record {
-  whole = (lit≤ tt, refl);
-  text = (make_texts, (refl, refl));
-  named = (codes "texts", (refl, refl));
-  unused = refl;
-  indexes = (refl, tt);
-  unreserved = refl;
-  room = lit< tt;
-  reals = lit< tt;
-  key_reals = (lit< tt, tt);
-  formed = refl;
-  fits = refl;
-  short = lit< tt;
-}
+texts_can_be = made (lit≤ tt, refl) (make_texts, (refl, refl)) (codes "texts", (refl, refl)) (refl, (refl, tt), refl) (lit< tt, lit< tt, (lit< tt, tt)) (refl, refl, lit< tt)
 
 pub versions_can_be : CanBeMade make_versions (partial_layout_one 1) (record versions { tree = 0 })
 unfolding understood everything same_name same_word begins is_free_name fits_kind value_cmp lib.Utf8.encode lib.Ieee.is_nan lib.Ieee.lt
-versions_can_be = record {
-  whole = (lit≤ tt, refl);
-  text = (make_versions, (refl, refl));
-  named = (codes "versions", (refl, refl));
-  unused = refl;
-  indexes = (refl, tt);
-  unreserved = refl;
-  room = lit< tt;
-  reals = lit< tt;
-  key_reals = (lit< tt, tt);
-  formed = refl;
-  fits = refl;
-  short = lit< tt;
-}
+versions_can_be = made (lit≤ tt, refl) (make_versions, (refl, refl)) (codes "versions", (refl, refl)) (refl, (refl, tt), refl) (lit< tt, lit< tt, (lit< tt, tt)) (refl, refl, lit< tt)
 
 pub levels_can_be : CanBeMade make_levels (partial_layout_one 2) (record levels { tree = 0 })
 unfolding understood everything same_name same_word begins is_free_name fits_kind value_cmp lib.Utf8.encode lib.Ieee.is_nan lib.Ieee.lt
-levels_can_be = record {
-  whole = (lit≤ tt, refl);
-  text = (make_levels, (refl, refl));
-  named = (codes "levels", (refl, refl));
-  unused = refl;
-  indexes = (refl, tt);
-  unreserved = refl;
-  room = lit< tt;
-  reals = lit< tt;
-  key_reals = (lit< tt, tt);
-  formed = refl;
-  fits = refl;
-  short = lit< tt;
-}
+levels_can_be = made (lit≤ tt, refl) (make_levels, (refl, refl)) (codes "levels", (refl, refl)) (refl, (refl, tt), refl) (lit< tt, lit< tt, (lit< tt, tt)) (refl, refl, lit< tt)
 
 pub kept_can_be : CanBeMade make_kept (partial_layout_one 3) (record kept { tree = 0 })
 unfolding understood everything same_name same_word begins is_free_name fits_kind value_cmp lib.Utf8.encode lib.Ieee.is_nan lib.Ieee.lt
-kept_can_be = record {
-  whole = (lit≤ tt, refl);
-  text = (make_kept, (refl, refl));
-  named = (codes "kept", (refl, refl));
-  unused = refl;
-  indexes = (refl, tt);
-  unreserved = refl;
-  room = lit< tt;
-  reals = lit< tt;
-  key_reals = (lit< tt, tt);
-  formed = refl;
-  fits = refl;
-  short = lit< tt;
-}
+kept_can_be = made (lit≤ tt, refl) (make_kept, (refl, refl)) (codes "kept", (refl, refl)) (refl, (refl, tt), refl) (lit< tt, lit< tt, (lit< tt, tt)) (refl, refl, lit< tt)
 
 pub meta_can_be : CanBeMade make_meta (partial_layout_one 4) (record meta { tree = 0 })
 unfolding understood everything same_name same_word begins is_free_name fits_kind value_cmp lib.Utf8.encode lib.Ieee.is_nan lib.Ieee.lt
-meta_can_be = record {
-  whole = (lit≤ tt, refl);
-  text = (make_meta, (refl, refl));
-  named = (codes "meta", (refl, refl));
-  unused = refl;
-  indexes = (refl, tt);
-  unreserved = refl;
-  room = lit< tt;
-  reals = lit< tt;
-  key_reals = (lit< tt, tt);
-  formed = refl;
-  fits = refl;
-  short = lit< tt;
-}
+meta_can_be = made (lit≤ tt, refl) (make_meta, (refl, refl)) (codes "meta", (refl, refl)) (refl, (refl, tt), refl) (lit< tt, lit< tt, (lit< tt, tt)) (refl, refl, lit< tt)
+
+pub modes_can_be : CanBeMade make_modes (partial_layout_two 0) (record (modes 11) { tree = 0 })
+unfolding understood everything same_name same_word begins is_free_name fits_kind value_cmp lib.Utf8.encode lib.Ieee.is_nan lib.Ieee.lt
+modes_can_be = made (lit≤ tt, refl) (make_modes, (refl, refl)) (codes "modes", (refl, refl)) (refl, (refl, tt), refl) (lit< tt, lit< tt, (lit< tt, tt)) (refl, refl, lit< tt)
+
+pub evidence_can_be : CanBeMade make_evidence (partial_layout_two 1) (record (evidence 13) { tree = 0 })
+unfolding understood everything same_name same_word begins is_free_name fits_kind value_cmp lib.Utf8.encode lib.Ieee.is_nan lib.Ieee.lt
+evidence_can_be = made (lit≤ tt, refl) (make_evidence, (refl, refl)) (codes "evidence", (refl, refl)) (refl, (refl, tt), refl) (lit< tt, lit< tt, (lit< tt, tt)) (refl, refl, lit< tt)
+
+pub against_can_be : CanBeMade make_against (partial_layout_two 2) (record (against 15) { tree = 0 })
+unfolding understood everything same_name same_word begins is_free_name fits_kind value_cmp lib.Utf8.encode lib.Ieee.is_nan lib.Ieee.lt
+against_can_be = made (lit≤ tt, refl) (make_against, (refl, refl)) (codes "against", (refl, refl)) (refl, (refl, tt), refl) (lit< tt, lit< tt, (lit< tt, tt)) (refl, refl, lit< tt)
 
 -- SQLite doesn't reject a table that meets these conditions
 module _ (sql : List ℕ) (before : Schema) (table : Table) (after : Schema) (m : MakesTable sql before table after) (can : CanBeMade sql before table) where
@@ -189,56 +156,3 @@ module _ (sql : List ℕ) (before : Schema) (table : Table) (after : Schema) (m 
         refused : Does old.step_limit (mode_of old) [] (record old.now { schema = before }) sql None CreateTable (Err (Some e)) → ⊥
         refused (inl stopped) = made stopped.0 (let same = stopped.2 in cc) stopped.1
         refused (inr done) = let e = done.2 in cc
-
--- ---- the tables that layout 2 adds
-
-pub modes_can_be : CanBeMade make_modes (partial_layout_two 0) (record (modes 11) { tree = 0 })
-unfolding understood everything same_name same_word begins is_free_name fits_kind value_cmp lib.Utf8.encode lib.Ieee.is_nan lib.Ieee.lt
-modes_can_be = record {
-  whole = (lit≤ tt, refl);
-  text = (make_modes, (refl, refl));
-  named = (codes "modes", (refl, refl));
-  unused = refl;
-  indexes = (refl, tt);
-  unreserved = refl;
-  room = lit< tt;
-  reals = lit< tt;
-  key_reals = (lit< tt, tt);
-  formed = refl;
-  fits = refl;
-  short = lit< tt;
-}
-
-pub evidence_can_be : CanBeMade make_evidence (partial_layout_two 1) (record (evidence 13) { tree = 0 })
-unfolding understood everything same_name same_word begins is_free_name fits_kind value_cmp lib.Utf8.encode lib.Ieee.is_nan lib.Ieee.lt
-evidence_can_be = record {
-  whole = (lit≤ tt, refl);
-  text = (make_evidence, (refl, refl));
-  named = (codes "evidence", (refl, refl));
-  unused = refl;
-  indexes = (refl, tt);
-  unreserved = refl;
-  room = lit< tt;
-  reals = lit< tt;
-  key_reals = (lit< tt, tt);
-  formed = refl;
-  fits = refl;
-  short = lit< tt;
-}
-
-pub against_can_be : CanBeMade make_against (partial_layout_two 2) (record (against 15) { tree = 0 })
-unfolding understood everything same_name same_word begins is_free_name fits_kind value_cmp lib.Utf8.encode lib.Ieee.is_nan lib.Ieee.lt
-against_can_be = record {
-  whole = (lit≤ tt, refl);
-  text = (make_against, (refl, refl));
-  named = (codes "against", (refl, refl));
-  unused = refl;
-  indexes = (refl, tt);
-  unreserved = refl;
-  room = lit< tt;
-  reals = lit< tt;
-  key_reals = (lit< tt, tt);
-  formed = refl;
-  fits = refl;
-  short = lit< tt;
-}

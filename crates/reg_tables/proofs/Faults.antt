@@ -68,21 +68,6 @@ module _ (sql : List ℕ) (params : Row) (old new : State) (known : IsTrue old.i
       let bare = subst IsPlain late.1.is (known late.5.0.was_open).is.command.plain in
       absurd (let none = subst IsSome bare.0 late.2 in cc)
 
--- reading a readable value fails only if allocation fails
-pub memory_if_readable : (at : ℕ) (value : Value) (e : Error) (P : Type 0) → P → IsReadError at value e → (e ≢ SqliteFailure code.OutOfMemory → ¬ P) → e ≡ SqliteFailure code.OutOfMemory
-memory_if_readable at value e P readable named kind =
-    let other = λ (x : Error) (is : e ≡ x) (apart : x ≢ SqliteFailure code.OutOfMemory). kind (λ h. apart (sym is ∙ h)) readable in
-    elim named [
-      | inl index ↦ absurd (other (InvalidColumnIndex at) index (λ h. cc))
-      | inr rest ↦ elim rest [
-        | inl type ↦ absurd (other (InvalidColumnType at (type_of value)) type (λ h. cc))
-        | inr rest ↦ elim rest [
-          | inl range ↦ absurd (other (IntegralValueOutOfRange at) range (λ h. cc))
-          | inr rest ↦ elim rest [ inl utf8 ↦ absurd (other (Utf8Error at) utf8 (λ h. cc)) | inr memory ↦ memory ]
-        ]
-      ]
-    ]
-
 pub memory_is_fault : (old new : State) (e : Error) → e ≡ SqliteFailure code.OutOfMemory → IsFault old new e
 memory_is_fault old new e is = inl (OutOfMemory, is, tt)
 

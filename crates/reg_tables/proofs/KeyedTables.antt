@@ -305,11 +305,3 @@ module _ {K V : Type 0} (form : RowForm K V) (R : K → K → Ordering) (order :
 pub none_of : {X : Type 0} (o : Option X) → ((x : X) → o ≡ Some x → ⊥) → o ≡ None
 none_of None f = refl
 none_of (Some x) f = absurd (f x refl)
-
--- the value in the first returned row
-pub first_found : {K V : Type 0} (form : RowForm K V) (value : Option V) (found : List Row) → FindsValue form value found → (o : Option Row) → o ≡ slice_get found 0
-    → MatchOption o (value ≡ None) (λ row. (v : V) × (value ≡ Some v) × (row ≡ form.value_cells v))
-first_found form value [] f None is = none_of value (λ v there. f.complete v there)
-first_found form value (r ∷ found) f None is = absurd (cc)
-first_found form value [] f (Some row) is = absurd (cc)
-first_found form value (r ∷ found) f (Some row) is = let same : row ≡ r = cc in f.sound row (inl same)

@@ -1,14 +1,13 @@
 -- The lists of the tables determine the contents.
 use Rattle.std.proofs.Common.{◌≡◌, inl, inr, ℕ, ℤ, List, [], map, Option, None, Some, slice_get, refl, sym, ap, subst, ◌∙◌}
 use Rattle.reg_tables.proofs.Kit.{from_entries, empty, IsSome, unwrap_or, Schema, Table, Trees, Database, IsDatabase}
-use Rattle.std.specs.List.{IsDistinct}
 use Rattle.reg_tables.specs.Layout.{five_tables_then, texts, versions, levels, kept, meta, IsLayoutOne, HasFiveTables}
 use Rattle.reg_tables.specs.Contents.{text_form, version_form, pair_form, kept_form, evidence_form, against_form, TableName, Texts, Versions, Levels, Kept, Meta, Modes, Evidence, Against, ordinal_of, KeyOf, ValueOf, cmp_of, form_of, MapOf, map_of, Contents, ShowsIn, ShowsAll, HoldsContents}
 use Rattle.reg_tables.specs.TableMaps.{RowForm}
 use Rattle.reg_tables.specs.Listings.{HasNoDuplicates, Lists, without_rowid, text_entry, version_entry, level_entry, kept_entry, meta_entry, mode_entry, evidence_entry, against_entry}
 use Rattle.reg_tables.specs.Inside.AllRawRows.{entry_of, RawRows, ListsIn, ListsAll, HaveNoDuplicates, map_in, contents_of}
 use Rattle.reg_tables.proofs.Keys.{key_laws}
-use Rattle.reg_tables.proofs.ListingLemmas.{shows_if_listed, listed_if_shown}
+use Rattle.reg_tables.proofs.ListingLemmas.{shows_if_listed}
 
 map_of_lines : (name : TableName) (lines : RawRows) → map_of name (contents_of lines) ≡ map_in name lines
 map_of_lines Texts lines = refl
@@ -26,21 +25,6 @@ module _ (name : TableName) (trees : Trees) (entries : List (ℤ × KeyOf name �
   shows_listed apart None none = ap (λ (es : List (ℤ × KeyOf name × ValueOf name)). from_entries {R = cmp_of name} (map without_rowid es)) none
   shows_listed apart (Some table) lists = shows_if_listed (form_of name) (cmp_of name) (key_laws name).order (key_laws name).distinct (trees table.tree) entries lists apart
 
-  -- the entries of a table are such a list, and make up the map that it shows
-  pub record AreOf (held : MapOf name) : Type 0 where
-    pub apart : HasNoDuplicates (cmp_of name) entries
-    pub is : held ≡ from_entries (map without_rowid entries)
-
-  pub listed_shown : (held : MapOf name) (table : Option Table) → ListsIn (form_of name) trees table entries → ShowsIn (form_of name) trees table held → AreOf held
-  unfolding IsDistinct
-  listed_shown held None none empty = record {
-    apart = subst (HasNoDuplicates (cmp_of name)) (sym none) (record { rowids = tt; keys = tt });
-    is = empty ∙ sym (ap (λ (es : List (ℤ × KeyOf name × ValueOf name)). from_entries {R = cmp_of name} (map without_rowid es)) none);
-  }
-  listed_shown held (Some table) lists shows =
-      let it = listed_if_shown (form_of name) (cmp_of name) (key_laws name).order (key_laws name).distinct (trees table.tree) entries lists held (key_laws name).distinct_values shows in
-      record { apart = it.apart; is = it.is }
-
 module _ (schema : Schema) (db : Database) (lines : RawRows) (lists : ListsAll schema db.trees lines) where
   -- lists without duplicate rowids or keys are those of the contents that they make up
   pub holds_if_listed : db.schema ≡ schema → IsDatabase db → HaveNoDuplicates lines → HoldsContents schema db (contents_of lines)
@@ -50,26 +34,6 @@ module _ (schema : Schema) (db : Database) (lines : RawRows) (lists : ListsAll s
     shows = λ name. subst (λ m. ShowsIn (form_of name) db.trees (slice_get schema.tables (ordinal_of name)) m) (sym (map_of_lines name lines))
         (shows_listed name db.trees (map (entry_of name) (lines name)) (apart name) (slice_get schema.tables (ordinal_of name)) (lists name));
   }
-
-  -- the lists of some contents are such lists, and make up these contents
-  module _ (contents : Contents) (h : HoldsContents schema db contents) where
-    of_table : (name : TableName) → AreOf name db.trees (map (entry_of name) (lines name)) (map_of name contents)
-    of_table name = listed_shown name db.trees (map (entry_of name) (lines name)) (map_of name contents) (slice_get schema.tables (ordinal_of name)) (lists name) (h.shows name)
-
-    pub listed_if_holds : HaveNoDuplicates lines × (contents ≡ contents_of lines)
-    listed_if_holds = (
-      λ name. (of_table name).apart,
-      λ i. record {
-        texts = (of_table Texts).is i;
-        versions = (of_table Versions).is i;
-        levels = (of_table Levels).is i;
-        kept = (of_table Kept).is i;
-        meta = (of_table Meta).is i;
-        modes = (of_table Modes).is i;
-        evidence = (of_table Evidence).is i;
-        against = (of_table Against).is i;
-      },
-    )
 
 -- ---- the lists of each table by name
 

@@ -95,10 +95,6 @@ module _ {K V : Type 0} {R : K → K → Ordering} (form : RowForm K V) (map : F
 
   -- if the schema has the table, the table shows the map
   module _ (trees : Trees) (other : Table) where
-    pub shows_in : (table : Option Table) → IsSome table → ShowsMap form (trees (unwrap_or table other).tree) (get map) → ShowsIn form trees table map
-    shows_in None there shows = absurd (cc)
-    shows_in (Some table) there shows = shows
-
     pub shown_in : (table : Option Table) → IsSome table → ShowsIn form trees table map → ShowsMap form (trees (unwrap_or table other).tree) (get map)
     shown_in None there shows = absurd (cc)
     shown_in (Some table) there shows = shows

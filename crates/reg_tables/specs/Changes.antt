@@ -8,9 +8,6 @@ use Rattle.reg_tables.specs.Contents.{version_cmp, PositionKey, position_cmp, Te
 abbrev pub with_meta : List ℕ → List ℕ → Contents → Contents
 with_meta name value contents = record contents { meta = insert contents.meta name value }
 
-abbrev pub without_meta : List ℕ → Contents → Contents
-without_meta name contents = record contents { meta = remove contents.meta name }
-
 abbrev pub with_global : List ℕ → Contents → Contents
 with_global level = with_meta (codes "global") level
 

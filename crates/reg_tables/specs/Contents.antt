@@ -5,7 +5,7 @@ use Rattle.std.specs.Ordering.{nat_cmp, on, then_cmp}
 use Rattle.std.specs.Cmp.Lexicographic.{slice_cmp}
 use Rattle.std.specs.FinMap.{FinMap, get, empty}
 use Rattle.sqlite.specs.declared.types.Value.{Value}
-use Rattle.sqlite.specs.declared.types.Value.TheVariants.{Null, Int, Text}
+use Rattle.sqlite.specs.declared.types.Value.TheVariants.{Int, Text}
 use Rattle.sqlite.specs.Order.{Row, column}
 use Rattle.sqlite.specs.Table.{Table}
 use Rattle.sqlite.specs.Schema.{Schema}
@@ -81,11 +81,7 @@ kept_cells reply = Text reply.command ∷ Int (pos reply.status) ∷ Text reply.
 abbrev pub position_key_cells : PositionKey → Row
 position_key_cells key = Text key.0.0 ∷ Int (pos key.0.1) ∷ Int (pos key.1) ∷ []
 
--- a row of `texts` after its rowid; the column `id` is an alias of the rowid, and is stored as NULL
-abbrev pub text_row_cells : List ℕ → Row
-text_row_cells text = Null ∷ text_cells text
-
--- the id is the rowid
+-- the id is the rowid; its column is stored as NULL
 abbrev pub text_form : RowForm ℕ (List ℕ)
 text_form = record { key_of = λ row. column row 0 ∷ []; value_of = λ row. column row 2 ∷ []; key_cells = number_cells; value_cells = text_cells }
 

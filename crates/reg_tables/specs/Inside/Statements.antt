@@ -1,10 +1,9 @@
 -- What an SQL text means in a schema.
 use Rattle.std.specs.Prelude.{◌≡◌, ℕ, ◌≤◌, pos, negsuc, true, false, Bool, List, [], ◌∷◌, length, None, Ok, Err, Result}
-use Rattle.std.specs.List.{list_all}
 use Rattle.sqlite_value.specs.declared.keys.Key.{Key}
 use Rattle.sqlite.specs.declared.types.Value.TheVariants.{Int}
 use Rattle.sqlite.specs.Order.{Row}
-use Rattle.sqlite.specs.Term.{Term, lit, col, op2, holds}
+use Rattle.sqlite.specs.Term.{Term, lit, col, op2}
 use Rattle.sqlite.specs.Collation.TheVariants.{Binary}
 use Rattle.sqlite_sql.specs.declared.ops.BinaryOp.TheVariants.{Compare}
 use Rattle.sqlite_sql.specs.declared.ops.CompareOp.TheVariants.{Eq}
@@ -44,10 +43,6 @@ ordered_query tree tests shown order limit = record {
 -- the same without ORDER BY and LIMIT
 abbrev pub plain_query : ℕ → List Term → List Term → Query
 plain_query tree tests shown = ordered_query tree tests shown [] no_limit
-
--- a row passes the tests
-abbrev pub passes_tests : List Term → Row → Row → Bool
-passes_tests tests params row = list_all (holds (params ∷ row ∷ [])) tests
 
 -- the SQL text selects these terms of the rows of a table that pass the tests, in this order
 pub record TableQuery : Type 0 where
