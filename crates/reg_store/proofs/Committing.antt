@@ -115,6 +115,11 @@ pub leaves_new : (layout : Layout) (db : Trees) (now : Database) → db ≡ now.
 leaves_new One db now is spells = left_if_spelled db now new_stored is spells
 leaves_new Two db now is spells = left_if_spelled db now new_stored is spells
 
+-- what a crash leaves of a connection over a new registry
+pub recovers_new : (layout : Layout) (s : State) → RecoversLastCommit s → IsOpenOverNew layout s → (db : Trees) → s.may_leave db → RecoversToNew layout db
+recovers_new One s only over db it = left_if_spelled db s.now new_stored (only over.is_open db it ∙ ap (λ (d : Database). d.trees) over.settled) over.spells
+recovers_new Two s only over db it = left_if_spelled db s.now new_stored (only over.is_open db it ∙ ap (λ (d : Database). d.trees) over.settled) over.spells
+
 -- a connection that keeps and shows the last commit spells what it spelled
 pub still_spells : (old new : State) (was : Stored) → KeepsCommit old new → (IsTrue new.is_open → new.now ≡ new.committed) → SpellsWhileOpen old was → SpellsWhileOpen new was
 still_spells old new was keeps settled s is_open =

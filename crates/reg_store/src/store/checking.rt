@@ -26,7 +26,7 @@ use std::alloc::Global;
 /// damaged or the connection is closed.
 pub fn check_first<S: Alter>(
     alloc: Global,
-    mut connection: Connection<S>,
+    connection: Connection<S>,
 ) -> (Result<u64, StoreError>, Connection<S>)
     requires { connection.in_transaction ≡ false }
     ensures idle { result.1.in_transaction ≡ false }
@@ -37,13 +37,7 @@ pub fn check_first<S: Alter>(
     ensures fails { HasCleanDisk (state S.Store result.1)
         → IfErr result.0 (IsCheckFailure (state S.Store connection) (state S.Store result.1)) }
 {
-    connection.set_step_limit(None);
-    let _idle = connection.is_autocommit();
-    let mut db = Conn {
-        idle: reg_tables::AutocommitConnection { conn: connection },
-    };
+    let mut db = Conn::new(connection);
     let found = check_layout_one(alloc, &mut db);
-    let Conn { idle } = db;
-    let reg_tables::AutocommitConnection { conn } = idle;
-    (found, conn)
+    (found, db.idle.conn)
 }

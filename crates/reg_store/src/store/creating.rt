@@ -35,7 +35,7 @@ impl<S: Alter> Store<S> {
     /// disk failed too, a crash may leave the new registry.
     pub fn create(
         alloc: Global,
-        mut connection: Connection<S>,
+        connection: Connection<S>,
     ) -> Result<Store<S>, (StoreError, Connection<S>)>
         requires { connection.in_transaction ≡ false }
         ensures done { IfOk result (λ store. HasCleanDisk (state_of store)
@@ -55,27 +55,14 @@ impl<S: Alter> Store<S> {
         ensures crash_after { IfOk result (λ store. HasCleanDisk (state_of store) → (db : Trees)
             → (state_of store).may_leave db → RecoversTo db new_stored) }
     {
-        connection.set_step_limit(None);
-        if !is_empty_database(&connection) {
-            let _idle = connection.is_autocommit();
-            return Err((StoreError::NotARegistry, connection));
-        }
-        let mut db = Conn {
-            idle: reg_tables::AutocommitConnection { conn: connection },
-        };
-        let made = create_in(&mut db, Layout::Two);
-        let _idle = db.idle.conn.is_autocommit();
+        let (made, db) = create_layout(connection, Layout::Two);
         match made {
             Ok(()) => Ok(Store {
                 alloc,
                 db,
                 failed: false,
             }),
-            Err(error) => {
-                let Conn { idle } = db;
-                let reg_tables::AutocommitConnection { conn } = idle;
-                Err((StoreError::from(error), conn))
-            }
+            Err(error) => Err((error, db.idle.conn)),
         }
     }
 
@@ -92,14 +79,7 @@ impl<S: Alter> Store<S> {
         ensures same { result ≡ connection_of self }
         ensures idle { result.in_transaction ≡ false }
     {
-        let Store {
-            alloc: _,
-            db,
-            failed: _,
-        } = self;
-        let Conn { idle } = db;
-        let reg_tables::AutocommitConnection { conn } = idle;
-        conn
+        self.db.idle.conn
     }
 }
 
@@ -113,9 +93,7 @@ impl<S: Alter> Store<S> {
 /// if an allocation fails, `Disk` if the disk fails, the file is damaged or the connection is
 /// closed. The database stays as it was. But after `Disk`, or after `Memory` if the disk failed
 /// too, a crash may leave the new registry.
-pub fn create_first<S: Alter>(
-    mut connection: Connection<S>,
-) -> (Result<(), StoreError>, Connection<S>)
+pub fn create_first<S: Alter>(connection: Connection<S>) -> (Result<(), StoreError>, Connection<S>)
     requires { connection.in_transaction ≡ false }
     ensures idle { result.1.in_transaction ≡ false }
     ensures unlimited { result.1.step_limit ≡ None }
@@ -131,21 +109,35 @@ pub fn create_first<S: Alter>(
     ensures crash_after { HasCleanDisk (state S.Store result.1) → OnOk result.0 ((db : Trees)
         → (state S.Store result.1).may_leave db → RecoversToLayoutOne db new_stored) }
 {
-    connection.set_step_limit(None);
-    if !is_empty_database(&connection) {
-        let _idle = connection.is_autocommit();
-        return (Err(StoreError::NotARegistry), connection);
+    let (made, db) = create_layout(connection, Layout::One);
+    (made, db.idle.conn)
+}
+
+/// Creates a new registry of this layout in an empty database. `create` says when it fails.
+fn create_layout<S: Alter>(
+    connection: Connection<S>,
+    layout: Layout,
+) -> (Result<(), StoreError>, Conn<S>)
+    requires { connection.in_transaction ≡ false }
+    ensures done { HasCleanDisk (shown result.1)
+        → OnOk result.0 (IsOpenOverNew layout (shown result.1)) }
+    ensures shield { OnOk result.0 ((state S.Store connection).IsShielded → (shown result.1).IsShielded) }
+    ensures full { (state S.Store connection).now.schema ≢ empty_schema
+        → IsErrAnd result.0 (λ e. e ≡ StoreError.NotARegistry) }
+    ensures fails { IfErr result.0
+        (IsCreateFailure (RecoversToNew layout) (state S.Store connection) (shown result.1)) }
+    ensures crash_after { HasCleanDisk (shown result.1) → OnOk result.0 ((db : Trees)
+        → (shown result.1).may_leave db → RecoversToNew layout db) }
+{
+    let mut db = Conn::new(connection);
+    if !is_empty_database(&db.idle.conn) {
+        return (Err(StoreError::NotARegistry), db);
     }
-    let mut db = Conn {
-        idle: reg_tables::AutocommitConnection { conn: connection },
-    };
-    let made = create_in(&mut db, Layout::One);
-    let _idle = db.idle.conn.is_autocommit();
-    let Conn { idle } = db;
-    let reg_tables::AutocommitConnection { conn } = idle;
+    let made = create_in(&mut db, layout);
+    let _settled = db.idle.conn.is_autocommit();
     match made {
-        Ok(()) => (Ok(()), conn),
-        Err(error) => (Err(StoreError::from(error)), conn),
+        Ok(()) => (Ok(()), db),
+        Err(error) => (Err(StoreError::from(error)), db),
     }
 }
 

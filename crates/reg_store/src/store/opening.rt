@@ -38,7 +38,7 @@ impl<S: Alter> Store<S> {
     /// addition.
     pub fn open(
         alloc: Global,
-        mut connection: Connection<S>,
+        connection: Connection<S>,
     ) -> Result<Store<S>, (StoreError, Connection<S>)>
         requires { connection.in_transaction ≡ false }
         ensures done { IfOk result (λ store. HasCleanDisk (state_of store)
@@ -66,22 +66,14 @@ impl<S: Alter> Store<S> {
             → (state S.Store e.1).may_leave db
             → (state S.Store connection).may_leave db ⊎ IsIndexed (state S.Store connection).now db) }
     {
-        connection.set_step_limit(None);
-        let _idle = connection.is_autocommit();
-        let mut db = Conn {
-            idle: reg_tables::AutocommitConnection { conn: connection },
-        };
+        let mut db = Conn::new(connection);
         match make_ready(alloc, &mut db) {
             Ok(()) => Ok(Store {
                 alloc,
                 db,
                 failed: false,
             }),
-            Err(error) => {
-                let Conn { idle } = db;
-                let reg_tables::AutocommitConnection { conn } = idle;
-                Err((error, conn))
-            }
+            Err(error) => Err((error, db.idle.conn)),
         }
     }
 }
