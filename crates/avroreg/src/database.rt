@@ -6,6 +6,7 @@ ghost use Rattle.reg_jobs.specs.Opening.{OpensExisting, OpensOrCreates};
 use crate::log::{has_first_log, has_frames, has_log, is_unfinished, remove_log};
 use avro_nodes::OutOfMemory;
 use reg_jobs::Opened;
+use reg_store::StoreError;
 use sqlite::{Connection, Error, ErrorCode, FileFrom, FileStore, Wary};
 use std::io::Read;
 use std::rt::Files;
@@ -113,7 +114,7 @@ fn failed(error: Error) -> Result<Opened<FileDatabase>, OutOfMemory>
 {
     match error {
         Error::SqliteFailure(ErrorCode::OutOfMemory) => Err(OutOfMemory),
-        _ => Ok(Opened::Failed),
+        _ => Ok(Opened::Failed(StoreError::Disk)),
     }
 }
 
@@ -124,7 +125,7 @@ fn unexamined(error: io::Error) -> Result<Opened<FileDatabase>, OutOfMemory>
 {
     match error.kind() {
         io::ErrorKind::OutOfMemory => Err(OutOfMemory),
-        _ => Ok(Opened::Failed),
+        _ => Ok(Opened::Failed(StoreError::Disk)),
     }
 }
 
@@ -164,8 +165,8 @@ pub fn open_or_create_database(
     match state_of_file(rt, file) {
         Ok(FileState::Missing | FileState::Empty | FileState::Database) => connect(rt, file, false),
         Ok(FileState::Unfinished) => connect(rt, file, true),
-        Ok(FileState::OrphanedLog) => Ok(Opened::OrphanedLog),
-        Ok(FileState::Other) => Ok(Opened::Failed),
+        Ok(FileState::OrphanedLog) => Ok(Opened::Failed(StoreError::NotARegistry)),
+        Ok(FileState::Other) => Ok(Opened::Failed(StoreError::Disk)),
         Err(error) => unexamined(error),
     }
 }
@@ -195,9 +196,10 @@ pub fn open_existing_database(
 {
     match state_of_file(rt, file) {
         Ok(FileState::Database) => connect_existing(rt, file),
-        Ok(FileState::Empty | FileState::Unfinished) => Ok(Opened::NoContents),
-        Ok(FileState::OrphanedLog) => Ok(Opened::OrphanedLog),
-        Ok(FileState::Missing | FileState::Other) => Ok(Opened::Failed),
+        Ok(FileState::Empty | FileState::Unfinished | FileState::OrphanedLog) => {
+            Ok(Opened::Failed(StoreError::NotARegistry))
+        }
+        Ok(FileState::Missing | FileState::Other) => Ok(Opened::Failed(StoreError::Disk)),
         Err(error) => unexamined(error),
     }
 }

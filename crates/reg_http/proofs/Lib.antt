@@ -1,4 +1,3 @@
-pub mod ByteLemmas
 pub mod Ranges
 pub mod ReplyLemmas
 pub mod SessionLemmas

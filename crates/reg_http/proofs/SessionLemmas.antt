@@ -16,7 +16,8 @@ use Rattle.reg_messages.specs.Messages.{Message, StartsWithMessage, StartsWithMe
 use Rattle.reg_messages.specs.Closing.{closes}
 use Rattle.reg_messages.proofs.Fronts.{StartsWithMessage-more}
 use Rattle.reg_routes.specs.Deliveries.{delivery_of}
-use Rattle.reg_http.specs.Output.{AnsweredMessage, response_to, exchange_of, exchanges, AreFaultsIfRejected, NoneCloses, responses, IsPrefix}
+use Rattle.reg_http.specs.Output.{AnsweredMessage, response_to, exchange_of, exchanges, AreFaultsIfRejected, NoneCloses, responses}
+use Rattle.reg_output.specs.Prefixes.{IsPrefix}
 use Rattle.reg_http.specs.Inside.Replying.{IsReplyTo}
 use Rattle.reg_http.specs.Sessions.{ProcessesMessages}
 use Rattle.reg_http.specs.Inside.SessionSteps.{FaultAs, NextAs, step_outcome}

@@ -1,7 +1,7 @@
 -- The bytes written for messages and their replies, and the replies to messages without a delivery.
-use Rattle.std.specs.Prelude.{◌≡◌, ◌⊎◌, ℕ, true, false, List, [], ◌∷◌, ◌++◌, Result, Ok, Err, Option}
+use Rattle.std.specs.Prelude.{◌≡◌, ◌⊎◌, ℕ, true, false, List, [], ◌∷◌, ◌++◌, Result, Ok, Err}
 use Rattle.std.specs.List.{flat_map}
-use Rattle.std.specs.Io.KnownBytes.{Appends}
+use Rattle.reg_output.specs.Prefixes.{IsPrefix}
 use Rattle.reg_core.specs.declared.code.Code.{Code}
 use Rattle.reg_core.specs.declared.code.Code.TheVariants.{BackendFault}
 use Rattle.reg_core.specs.Replies.{ReplyView, fault}
@@ -66,15 +66,6 @@ tail_response (Faulty code) = fault_response code
 -- the whole output if no message ends the connection: the responses in order, then the response to a fault
 abbrev pub output : List AnsweredMessage → Tail → List ℕ
 output xs tail = responses xs ++ tail_response tail
-
--- `front` is a beginning of `all`, perhaps empty or whole
-abbrev pub IsPrefix : List ℕ → List ℕ → Type 0
-IsPrefix front all = (rest : List ℕ) × (front ++ rest ≡ all)
-
--- A beginning of `all` was written, perhaps none or all of it. `old` and `new` are what the writer has before and after. If `old` is known, so is
--- `new`. If `old` is `None`, which means unknown, this says nothing.
-abbrev pub AppendsPrefix : Option (List ℕ) → Option (List ℕ) → List ℕ → Type 0
-AppendsPrefix old new all = (part : List ℕ) × IsPrefix part all × Appends old new part
 
 -- every earlier response was written in full, and a beginning of the last one
 pub record LastCutShort (xs : List AnsweredMessage) (out : List ℕ) : Type 0 where

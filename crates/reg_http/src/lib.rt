@@ -16,4 +16,3 @@ pub use reg_messages::bytes_of;
 pub use reg_routes::{Routes, command_of};
 pub use serving::{Ended, serve};
 pub use workspace::Workspace;
-pub use writing::write_whole;

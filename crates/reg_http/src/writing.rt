@@ -1,14 +1,15 @@
-//! Writes bytes in full.
+//! Writes responses.
 
-ghost use Rattle.std.specs.Prelude.{◌≡◌, ◌≤◌, ℕ, List, length, take, IsTrue, option_map};
+ghost use Rattle.std.specs.Prelude.{◌≡◌, option_map};
 ghost use Rattle.std.specs.Io.KnownBytes.{Appends};
+ghost use Rattle.reg_output.specs.Prefixes.{AppendsPrefix};
 ghost use Rattle.reg_messages.specs.Responses.{response_bytes};
-ghost use Rattle.reg_http.specs.Output.{IsPrefix};
 
 use reg_core::Reply;
 use reg_messages::bytes_of;
+use reg_output::write_whole;
 use std::alloc::Global;
-use std::io::{ErrorKind, Write};
+use std::io::Write;
 
 /// The result of writing a response.
 #[derive(Clone, Copy)]
@@ -21,28 +22,6 @@ pub enum WriteOutcome {
     OutOfMemory,
 }
 
-/// Writes the bytes, and retries interrupted writes. Returns whether all were written; if not, a
-/// beginning of them was.
-pub fn write_whole<W: Write>(writer: &mut W, bytes: &[u8]) -> bool
-    ensures front { (n : ℕ) × (n ≤ length bytes.now)
-        × Appends (W.contents writer.old) (W.contents writer.new) (take n bytes.now) }
-    ensures whole { IsTrue result → Appends (W.contents writer.old) (W.contents writer.new) bytes.now }
-{
-    let mut at = 0;
-    for _ in 0..u64::MAX {
-        if at == bytes.len() {
-            return true;
-        }
-        match writer.write(&bytes[at..]) {
-            Ok(0) => return false,
-            Ok(n) => at += n,
-            Err(error) if error.kind() == ErrorKind::Interrupted => {}
-            Err(_) => return false,
-        }
-    }
-    false
-}
-
 /// Writes a response, with one write if the writer takes it in full. `allow` is the value of its
 /// `Allow` field. If `close` is true, the response has `Connection: close`. If allocating the
 /// response fails, nothing is written.
@@ -53,9 +32,8 @@ pub fn send<W: Write>(
     allow: Option<&str>,
     close: bool,
 ) -> WriteOutcome
-    ensures front { (part : List ℕ)
-        × IsPrefix part (response_bytes reply.now (option_map (λ text. text.now) allow.entry) close)
-        × Appends (W.contents writer.old) (W.contents writer.new) part }
+    ensures front { AppendsPrefix (W.contents writer.old) (W.contents writer.new)
+        (response_bytes reply.now (option_map (λ text. text.now) allow.entry) close) }
     ensures whole { result ≡ WriteOutcome.Whole → Appends (W.contents writer.old) (W.contents writer.new)
         (response_bytes reply.now (option_map (λ text. text.now) allow.entry) close) }
 {

@@ -7,8 +7,8 @@ use Rattle.sqlite_trees.specs.declared.store.Store.{Ghosts}
 use Rattle.reg_core.specs.Stored.{Stored, new_stored}
 use Rattle.reg_http.specs.declared.serving.Ended.{Ended}
 use Rattle.reg_service.specs.declared.service.Service.{Service}
-use Rattle.reg_jobs.specs.declared.job.Opened.{Opened}
-use Rattle.reg_jobs.specs.declared.job.Opened.TheVariants.{Nothing, Texts, Failed, NoContents, OrphanedLog, Fresh, Database}
+use Rattle.reg_jobs.specs.declared.opening.Opened.{Opened}
+use Rattle.reg_jobs.specs.declared.opening.Opened.TheVariants.{Nothing, Texts, Failed, Fresh, Database}
 use Rattle.reg_store.specs.declared.error.StoreError.{StoreError}
 use Rattle.reg_store.specs.declared.error.StoreError.TheVariants.{Memory, Disk, NotARegistry, OldLayout, NewerLayout}
 use Rattle.reg_store.specs.Failures.{IsFaultBy, IsFaultOver, is_fault}
@@ -29,9 +29,7 @@ use Rattle.reg_jobs.specs.Jobs.{AuditsOver, SessionStartsFrom, OpensRegistry, Li
 begins_over : {S : Type 0} (g : Ghosts S) (opened : Opened S) (begun : State) → OpensRegistry g opened begun → BeginsOver g opened begun
 begins_over g Nothing begun has = absurd has
 begins_over g (Texts texts) begun has = absurd has
-begins_over g Failed begun has = absurd has
-begins_over g NoContents begun has = absurd has
-begins_over g OrphanedLog begun has = absurd has
+begins_over g (Failed error) begun has = absurd has
 begins_over g (Fresh old) begun has = record { was = new_stored; begins = (has.empty, refl); is_open = has.spells }
 begins_over g (Database old) begun has = record { was = has.stored; begins = has.spelled; is_open = has.spells }
 
@@ -68,9 +66,7 @@ IfUnread-fault OutOfMemory begun new was fault spells = tt
 pub OpenedDatabaseSatisfies-map : {S : Type 0} (g : Ghosts S) (opened : Opened S) (P Q : State → Type 0) → ((old : State) → P old → Q old) → OpenedDatabaseSatisfies g opened P → OpenedDatabaseSatisfies g opened Q
 OpenedDatabaseSatisfies-map g Nothing P Q follows over = over
 OpenedDatabaseSatisfies-map g (Texts texts) P Q follows over = over
-OpenedDatabaseSatisfies-map g Failed P Q follows over = over
-OpenedDatabaseSatisfies-map g NoContents P Q follows over = over
-OpenedDatabaseSatisfies-map g OrphanedLog P Q follows over = over
+OpenedDatabaseSatisfies-map g (Failed error) P Q follows over = over
 OpenedDatabaseSatisfies-map g (Fresh old) P Q follows over = over
 OpenedDatabaseSatisfies-map g (Database old) P Q follows over = follows (state g old) over
 

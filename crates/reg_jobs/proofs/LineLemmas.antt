@@ -1,30 +1,26 @@
 -- Lines on standard error, written in parts.
-use Rattle.std.proofs.Common.{◌≡◌, ℕ, ◌+◌, ◌<◌, ◌≤◌, Bool, true, false, not, List, [], ◌∷◌, ◌++◌, take, drop, length, get_or, refl, sym, ap, ◌∙◌, subst, append_assoc, append-nil}
+use Rattle.std.proofs.Common.{◌≡◌, ℕ, ◌+◌, ◌<◌, Bool, true, false, not, List, [], ◌∷◌, ◌++◌, take, drop, length, get_or, refl, sym, ap, ◌∙◌, subst, append-nil}
 use Rattle.std.specs.Prelude.{IsTrue, Option}
 use Rattle.std.specs.List.{flat_map}
 use Rattle.std.specs.Io.KnownBytes.{Appends}
 use Rattle.std.proofs.KnownBytes.{Appends-nil, Appends-trans}
 use Rattle.std.proofs.lemmas.List.{take-append-drop, take_more}
 use Rattle.std.proofs.lemmas.List.Concat.{flat_map-append}
-use Rattle.reg_http.specs.Output.{AppendsPrefix}
+use Rattle.reg_output.specs.Prefixes.{AppendsPrefix}
+use Rattle.reg_output.proofs.PrefixLemmas.{AppendsPrefix-after, AppendsPrefix-longer, AppendsPrefix-still, AppendsPrefix-whole}
 use Rattle.reg_jobs.specs.declared.errors.ErrorWriter.{ErrorWriter}
 use Rattle.reg_jobs.specs.Errors.{Puts, WritesUnlessLost}
-
--- after bytes that were written in full
-AppendsPrefix-after : (old mid new : Option (List ℕ)) (xs ys : List ℕ) → Appends old mid xs → AppendsPrefix mid new ys → AppendsPrefix old new (xs ++ ys)
-AppendsPrefix-after old mid new xs ys a b =
-    (xs ++ b.0, (b.1.0, append_assoc xs b.0 b.1.0 ∙ ap (λ t. xs ++ t) b.1.1), Appends-trans old mid new xs b.0 a b.2)
 
 -- more bytes, but none of them was written
 AppendsPrefix-more : (old mid new : Option (List ℕ)) (xs ys : List ℕ) → AppendsPrefix old mid xs → Appends mid new [] → AppendsPrefix old new (xs ++ ys)
 AppendsPrefix-more old mid new xs ys b none =
-    (b.0, (b.1.0 ++ ys, sym (append_assoc b.0 b.1.0 ys) ∙ ap (λ t. t ++ ys) b.1.1), subst (Appends old new) (append-nil b.0) (Appends-trans old mid new b.0 [] b.2 none))
+    AppendsPrefix-longer old new xs ys (AppendsPrefix-still old mid new xs b (AppendsPrefix-whole mid new [] none))
 
 -- the bytes that a writer took, if nothing was lost before
-pub WritesUnlessLost-taken : (written : Bool) (old new : Option (List ℕ)) (bytes : List ℕ) → (n : ℕ) × (n ≤ length bytes) × Appends old new (take n bytes)
+pub WritesUnlessLost-taken : (written : Bool) (old new : Option (List ℕ)) (bytes : List ℕ) → AppendsPrefix old new bytes
     → (IsTrue written → Appends old new bytes) → WritesUnlessLost false (not written) old new bytes
 WritesUnlessLost-taken true old new bytes front whole = whole refl
-WritesUnlessLost-taken false old new bytes front whole = (take front.0 bytes, (drop front.0 bytes, take-append-drop front.0 bytes), front.2)
+WritesUnlessLost-taken false old new bytes front whole = front
 
 WritesUnlessLost-append : (l m n : Bool) (old mid new : Option (List ℕ)) (xs ys : List ℕ)
     → WritesUnlessLost l m old mid xs → WritesUnlessLost m n mid new ys → WritesUnlessLost l n old new (xs ++ ys)
@@ -49,10 +45,6 @@ pub Puts-append : {E : Type 0} (contents : E → Option (List ℕ)) (a b c : Err
     → Puts contents a b xs → Puts contents b c ys → Puts contents a c (xs ++ ys)
 Puts-append contents a b c xs ys p q =
     WritesUnlessLost-append a.has_lost b.has_lost c.has_lost (contents a.writer) (contents b.writer) (contents c.writer) xs ys p q
-
--- a beginning is a beginning of more bytes
-AppendsPrefix-longer : (old new : Option (List ℕ)) (xs ys : List ℕ) → AppendsPrefix old new xs → AppendsPrefix old new (xs ++ ys)
-AppendsPrefix-longer old new xs ys b = (b.0, (b.1.0 ++ ys, sym (append_assoc b.0 b.1.0 ys) ∙ ap (λ t. t ++ ys) b.1.1), b.2)
 
 -- the text of a list's first items and one more
 flat_map-more : {A : Type 0} (text : A → List ℕ) (items : List A) (i : ℕ) (d : A) → i < length items

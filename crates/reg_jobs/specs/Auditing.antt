@@ -4,7 +4,7 @@ use Rattle.std.specs.Io.KnownBytes.{Appends}
 use Rattle.reg_core.specs.Stored.{Stored, HasTrueEvidence}
 use Rattle.reg_store.specs.declared.error.StoreError.{StoreError}
 use Rattle.reg_store.specs.Failures.{is_fault}
-use Rattle.reg_http.specs.Output.{AppendsPrefix}
+use Rattle.reg_output.specs.Prefixes.{AppendsPrefix}
 use Rattle.reg_jobs.specs.declared.auditing.AuditOutcome.{AuditOutcome}
 use Rattle.reg_jobs.specs.declared.auditing.AuditOutcome.TheVariants.{Verdict, Unread, NotWritten}
 

@@ -1,7 +1,7 @@
 -- Standard error, and whether part of its lines was lost.
 use Rattle.std.specs.Prelude.{ℕ, Bool, true, false, List, [], Option}
 use Rattle.std.specs.Io.KnownBytes.{Appends}
-use Rattle.reg_http.specs.Output.{AppendsPrefix}
+use Rattle.reg_output.specs.Prefixes.{AppendsPrefix}
 use Rattle.reg_jobs.specs.declared.errors.ErrorWriter.{ErrorWriter}
 
 -- what was written of the bytes: all if nothing is lost, a beginning if some are lost now, nothing if something was lost before

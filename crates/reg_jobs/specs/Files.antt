@@ -12,7 +12,7 @@ use Rattle.reg_jobs.specs.declared.files.TextOutcome.TheVariants.{Whole, Nothing
 use Rattle.reg_jobs.specs.declared.files.CheckOutcome.{CheckOutcome}
 use Rattle.reg_jobs.specs.declared.files.CheckOutcome.TheVariants.{Verdict, Reader, Writer, OutOfMemory as CheckOutOfMemory, NotWritten as VerdictNotWritten}
 use Rattle.avro_resolve.specs.Resolution.{Resolves}
-use Rattle.reg_http.specs.Output.{IsPrefix}
+use Rattle.reg_output.specs.Prefixes.{AppendsPrefix}
 
 -- the file could be read, and its bytes are a text that denotes this schema
 abbrev pub FileHolds : Option (List ℕ) → List NodeView → Type 0
@@ -35,8 +35,7 @@ identity_line nodes = identity nodes ++ 10 ∷ []
 abbrev pub PrintsTextAs : Option (List ℕ) → Option (List ℕ) → Option (List ℕ) → TextOutcome → Type 0
 PrintsTextAs file old new Whole = (nodes : List NodeView) × FileHolds file nodes × Appends old new (identity_line nodes)
 PrintsTextAs file old new (Nothing fault) = FailsAs file fault × Appends old new []
-PrintsTextAs file old new NotWritten =
-    (nodes : List NodeView) × (part : List ℕ) × FileHolds file nodes × IsPrefix part (identity_line nodes) × Appends old new part
+PrintsTextAs file old new NotWritten = (nodes : List NodeView) × FileHolds file nodes × AppendsPrefix old new (identity_line nodes)
 
 -- the line that `check` prints for a verdict
 abbrev pub verdict_line : Bool → List ℕ
@@ -49,7 +48,7 @@ PrintsVerdict good old new (Verdict told) = (told ≡ good) × Appends old new (
 PrintsVerdict good old new (Reader fault) = ⊥
 PrintsVerdict good old new (Writer fault) = ⊥
 PrintsVerdict good old new CheckOutOfMemory = ⊥
-PrintsVerdict good old new VerdictNotWritten = (part : List ℕ) × IsPrefix part (verdict_line good) × Appends old new part
+PrintsVerdict good old new VerdictNotWritten = AppendsPrefix old new (verdict_line good)
 
 -- the schemas in the reader's and the writer's file, and whether the reader's can read what the writer's writes
 pub record Judges (reader_file writer_file : Option (List ℕ)) (good : Bool) : Type 0 where
@@ -65,5 +64,4 @@ ChecksAs reader_file writer_file old new (Verdict good) = Judges reader_file wri
 ChecksAs reader_file writer_file old new (Reader fault) = FailsAs reader_file fault × Appends old new []
 ChecksAs reader_file writer_file old new (Writer fault) = (nodes : List NodeView) × FileHolds reader_file nodes × FailsAs writer_file fault × Appends old new []
 ChecksAs reader_file writer_file old new CheckOutOfMemory = Appends old new []
-ChecksAs reader_file writer_file old new VerdictNotWritten =
-    (good : Bool) × (part : List ℕ) × Judges reader_file writer_file good × IsPrefix part (verdict_line good) × Appends old new part
+ChecksAs reader_file writer_file old new VerdictNotWritten = (good : Bool) × Judges reader_file writer_file good × AppendsPrefix old new (verdict_line good)

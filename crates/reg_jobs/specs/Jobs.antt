@@ -1,6 +1,5 @@
 -- What a job does.
-use Rattle.std.specs.Prelude.{◌≡◌, ◌≢◌, ℕ, Bool, true, false, IsTrue, List, [], slice_get, is_some, Option, None, Some, Result, Vec, string_bytes}
-use Rattle.std.specs.Global.{Global}
+use Rattle.std.specs.Prelude.{◌≡◌, ◌≢◌, ◌⊎◌, ℕ, Bool, true, false, IsTrue, List, [], is_some, Option, None, Some, Result, string_bytes}
 use Rattle.sqlite.specs.Held.{Held, state}
 use Rattle.sqlite.specs.State.{State, HasCleanDisk}
 use Rattle.sqlite_trees.specs.declared.store.Store.{Ghosts}
@@ -17,17 +16,15 @@ use Rattle.reg_service.specs.Deliveries.{Serves, served}
 use Rattle.reg_service.specs.Services.{state_in, store_in}
 use Rattle.reg_store.specs.Stores.{connection_of}
 use Rattle.reg_http.specs.declared.serving.Ended.{Ended}
-use Rattle.reg_jobs.specs.declared.files.TextOutcome.{TextOutcome}
-use Rattle.reg_jobs.specs.declared.files.CheckOutcome.{CheckOutcome}
 use Rattle.reg_cli.specs.declared.task.Job.{Job}
 use Rattle.reg_cli.specs.declared.task.Job.TheVariants.{Run, Text as TextJob, Check as CheckJob, List as ListJob, Migrate, Audit}
 use Rattle.reg_cli.specs.declared.task.ListingKind.{ListingKind}
 use Rattle.reg_jobs.specs.declared.errors.ErrorWriter.{ErrorWriter}
-use Rattle.reg_jobs.specs.declared.job.Opened.{Opened}
-use Rattle.reg_jobs.specs.declared.job.Opened.TheVariants.{Nothing, Texts, Failed, NoContents, OrphanedLog, Fresh, Database}
+use Rattle.reg_jobs.specs.declared.opening.Opened.{Opened}
+use Rattle.reg_jobs.specs.declared.opening.Opened.TheVariants.{Nothing, Texts, Failed, Fresh, Database}
 use Rattle.reg_jobs.specs.declared.outcome.Fault.{Fault}
 use Rattle.reg_jobs.specs.declared.outcome.Outcome.{Outcome}
-use Rattle.reg_jobs.specs.declared.outcome.Outcome.TheVariants.{Session as SessionEnded, Unopened, NotListening, Text as TextEnded, Check as CheckEnded, List as ListEnded, Migrate as MigrateEnded, Audit as AuditEnded}
+use Rattle.reg_jobs.specs.declared.outcome.Outcome.TheVariants.{Session as SessionEnded, Unopened, Text as TextEnded, Check as CheckEnded, List as ListEnded, Audit as AuditEnded}
 use Rattle.reg_jobs.specs.Auditing.{AuditsAs}
 use Rattle.reg_jobs.specs.declared.auditing.AuditOutcome.{AuditOutcome}
 use Rattle.reg_jobs.specs.Databases.{ReturnsConnection, IsCreatedIn, CreatesNone, OpensNone}
@@ -35,6 +32,7 @@ use Rattle.reg_jobs.specs.Files.{PrintsTextAs, ChecksAs}
 use Rattle.reg_jobs.specs.Listening.{ServesConnections}
 use Rattle.reg_jobs.specs.Listings.{IfUnread, ListsAs, listing_of}
 use Rattle.reg_jobs.specs.Migration.{MigratesAs}
+use Rattle.reg_jobs.specs.Opening.{text_at, connection_in}
 use Rattle.reg_jobs.specs.declared.listings.ListOutcome.{ListOutcome}
 use Rattle.reg_jobs.specs.Outcomes.{result_of, status_of, ReportsResult}
 use Rattle.reg_http.specs.Sessions.{Session}
@@ -62,31 +60,9 @@ writer_schema_file_of (Audit database) = string_bytes database
 abbrev pub job_result : Job → Outcome → Result ℕ (Fault × List ℕ)
 job_result job outcome = result_of outcome (file_of job) (writer_schema_file_of job)
 
--- a file's bytes; none if no such file was given, or it couldn't be read
-abbrev pub file_bytes : Option (Option (Vec ℕ Global)) → Option (List ℕ)
-file_bytes None = None
-file_bytes (Some None) = None
-file_bytes (Some (Some bytes)) = Some bytes.items
-
--- the bytes of the file at a position among those that the job names
-abbrev pub text_at : {S : Type 0} → Opened S → ℕ → Option (List ℕ)
-text_at Nothing position = None
-text_at (Texts texts) position = file_bytes (slice_get texts.items position)
-text_at Failed position = None
-text_at NoContents position = None
-text_at OrphanedLog position = None
-text_at (Fresh connection) position = None
-text_at (Database connection) position = None
-
--- the opened connection, or `None`
-abbrev pub connection_in : {S : Type 0} → Opened S → Option (Held S)
-connection_in Nothing = None
-connection_in (Texts texts) = None
-connection_in Failed = None
-connection_in NoContents = None
-connection_in OrphanedLog = None
-connection_in (Fresh connection) = Some connection
-connection_in (Database connection) = Some connection
+-- the outcome is `made x`, for an x of which P is true
+abbrev pub IsOutcome : {T : Type 0} → (T → Outcome) → (T → Type 0) → Outcome → Type 0
+IsOutcome {T} made P outcome = (x : T) × (outcome ≡ made x) × P x
 
 -- a session over a new registry
 pub record RunsInMemory (reader reader' writer writer' : Option (List ℕ)) (outcome : Outcome) : Type 0 where
@@ -100,9 +76,7 @@ pub record RunsInMemory (reader reader' writer writer' : Option (List ℕ)) (out
 abbrev pub OpensRegistry : {S : Type 0} (g : Ghosts S) → Opened S → State → Type 0
 OpensRegistry g Nothing new = ⊥
 OpensRegistry g (Texts texts) new = ⊥
-OpensRegistry g Failed new = ⊥
-OpensRegistry g NoContents new = ⊥
-OpensRegistry g OrphanedLog new = ⊥
+OpensRegistry g (Failed error) new = ⊥
 OpensRegistry g (Fresh old) new = IsCreatedIn (state g old) new
 OpensRegistry g (Database old) new = OpensOver (state g old) new
 
@@ -111,9 +85,7 @@ OpensRegistry g (Database old) new = OpensOver (state g old) new
 abbrev pub OpensNoRegistry : {S : Type 0} (g : Ghosts S) → Opened S → Option (Held S) → StoreError → Type 0
 OpensNoRegistry g Nothing returned error = (returned ≡ None) × (error ≡ Disk)
 OpensNoRegistry g (Texts texts) returned error = (returned ≡ None) × (error ≡ Disk)
-OpensNoRegistry g Failed returned error = (returned ≡ None) × (error ≡ Disk)
-OpensNoRegistry g NoContents returned error = (returned ≡ None) × (error ≡ NotARegistry)
-OpensNoRegistry g OrphanedLog returned error = (returned ≡ None) × (error ≡ NotARegistry)
+OpensNoRegistry g (Failed why) returned error = (returned ≡ None) × (error ≡ why)
 OpensNoRegistry g (Fresh old) returned error = ReturnsConnection g returned (λ new. CreatesNone (state g old) new error)
 OpensNoRegistry g (Database old) returned error = ReturnsConnection g returned (λ new. OpensNone (state g old) new error)
 
@@ -121,9 +93,7 @@ OpensNoRegistry g (Database old) returned error = ReturnsConnection g returned (
 abbrev pub SessionStartsFrom : {S : Type 0} (g : Ghosts S) → Opened S → Stored → Type 0
 SessionStartsFrom g Nothing was = ⊥
 SessionStartsFrom g (Texts texts) was = ⊥
-SessionStartsFrom g Failed was = ⊥
-SessionStartsFrom g NoContents was = ⊥
-SessionStartsFrom g OrphanedLog was = ⊥
+SessionStartsFrom g (Failed error) was = ⊥
 SessionStartsFrom g (Fresh old) was = ¬ ((state g old).now.schema ≢ empty_schema) × (was ≡ new_stored)
 SessionStartsFrom g (Database old) was = SpellsUnopened (state g old).now was
 
@@ -150,14 +120,9 @@ pub record RunsWithoutRegistry {S : Type 0} (g : Ghosts S) (opened : Opened S) (
 
 -- the outcome of a session over what was opened
 abbrev pub RunsOn : {S : Type 0} (g : Ghosts S) → Opened S → Option (Held S) → Option (List ℕ) → Option (List ℕ) → Option (List ℕ) → Option (List ℕ) → Outcome → Type 0
-RunsOn g opened returned reader reader' writer writer' (SessionEnded ended) = RunsOver g opened returned (λ before after. Session (ServesEach before after) reader reader' writer writer' ended)
-RunsOn g opened returned reader reader' writer writer' (Unopened error) = RunsWithoutRegistry g opened returned reader reader' writer writer' error
-RunsOn g opened returned reader reader' writer writer' (NotListening port) = ⊥
-RunsOn g opened returned reader reader' writer writer' (TextEnded printed) = ⊥
-RunsOn g opened returned reader reader' writer writer' (CheckEnded checked) = ⊥
-RunsOn g opened returned reader reader' writer writer' (ListEnded listed) = ⊥
-RunsOn g opened returned reader reader' writer writer' (MigrateEnded migrated) = ⊥
-RunsOn g opened returned reader reader' writer writer' (AuditEnded audited) = ⊥
+RunsOn g opened returned reader reader' writer writer' outcome =
+    IsOutcome SessionEnded (λ ended. RunsOver g opened returned (λ before after. Session (ServesEach before after) reader reader' writer writer' ended)) outcome
+    ⊎ IsOutcome Unopened (RunsWithoutRegistry g opened returned reader reader' writer writer') outcome
 
 -- the outcome of `run`: a session over what was opened if the job names a file, otherwise over a new registry in memory
 abbrev pub RunsJob : {S : Type 0} (g : Ghosts S) → Opened S → Bool → Option (Held S) → Option (List ℕ) → Option (List ℕ) → Option (List ℕ) → Option (List ℕ) → Outcome → Type 0
@@ -168,23 +133,15 @@ RunsJob g opened true returned reader reader' writer writer' outcome = RunsOn g 
 -- `ServesConnections` is true of the network and the service.
 abbrev pub ServesOn : {S I O N : Type 0} (g : Ghosts S) → (I → Option (List ℕ)) → (O → Option (List ℕ)) → (N → Option (List (I × O))) → (N → Option (List (I × O))) → ℕ
     → Opened S → Option (Held S) → N → N → Outcome → Type 0
-ServesOn g remaining contents accepted closed most opened returned network network' (SessionEnded ended) =
-    RunsOver g opened returned (ServesConnections remaining contents most (accepted network) (accepted network') (closed network) (closed network'))
-ServesOn g remaining contents accepted closed most opened returned network network' (Unopened error) = (network' ≡ network) × OpensNoRegistry g opened returned error
-ServesOn g remaining contents accepted closed most opened returned network network' (NotListening port) = ⊥
-ServesOn g remaining contents accepted closed most opened returned network network' (TextEnded printed) = ⊥
-ServesOn g remaining contents accepted closed most opened returned network network' (CheckEnded checked) = ⊥
-ServesOn g remaining contents accepted closed most opened returned network network' (ListEnded listed) = ⊥
-ServesOn g remaining contents accepted closed most opened returned network network' (MigrateEnded migrated) = ⊥
-ServesOn g remaining contents accepted closed most opened returned network network' (AuditEnded audited) = ⊥
+ServesOn g remaining contents accepted closed most opened returned network network' outcome =
+    IsOutcome SessionEnded (λ ended. RunsOver g opened returned (ServesConnections remaining contents most (accepted network) (accepted network') (closed network) (closed network'))) outcome
+    ⊎ IsOutcome Unopened (λ error. (network' ≡ network) × OpensNoRegistry g opened returned error) outcome
 
 -- What was opened is a `Database`, and P is true of the state in which it was opened. It may have no registry. False of anything else, also of `Fresh`.
 abbrev pub OpenedDatabaseSatisfies : {S : Type 0} (g : Ghosts S) → Opened S → (State → Type 0) → Type 0
 OpenedDatabaseSatisfies g Nothing P = ⊥
 OpenedDatabaseSatisfies g (Texts texts) P = ⊥
-OpenedDatabaseSatisfies g Failed P = ⊥
-OpenedDatabaseSatisfies g NoContents P = ⊥
-OpenedDatabaseSatisfies g OrphanedLog P = ⊥
+OpenedDatabaseSatisfies g (Failed error) P = ⊥
 OpenedDatabaseSatisfies g (Fresh old) P = ⊥
 OpenedDatabaseSatisfies g (Database old) P = P (state g old)
 
@@ -193,9 +150,7 @@ OpenedDatabaseSatisfies g (Database old) P = P (state g old)
 abbrev pub OpensNoExistingRegistry : {S : Type 0} (g : Ghosts S) → Opened S → Option (Held S) → StoreError → Type 0
 OpensNoExistingRegistry g Nothing returned error = OpensNoRegistry g Nothing returned error
 OpensNoExistingRegistry g (Texts texts) returned error = OpensNoRegistry g (Texts texts) returned error
-OpensNoExistingRegistry g Failed returned error = OpensNoRegistry g Failed returned error
-OpensNoExistingRegistry g NoContents returned error = OpensNoRegistry g NoContents returned error
-OpensNoExistingRegistry g OrphanedLog returned error = OpensNoRegistry g OrphanedLog returned error
+OpensNoExistingRegistry g (Failed why) returned error = OpensNoRegistry g (Failed why) returned error
 OpensNoExistingRegistry g (Fresh old) returned error = (returned ≡ Some old) × (error ≡ NotARegistry)
 OpensNoExistingRegistry g (Database old) returned error = OpensNoRegistry g (Database old) returned error
 
@@ -217,14 +172,9 @@ pub record FindsNoRegistry {S : Type 0} (g : Ghosts S) (opened : Opened S) (retu
 -- connection is returned, if any. `ListEnded`: a `Database` was opened, its connection is returned, and on a clean disk `ListsOver` says what was
 -- listed. No other outcome occurs.
 abbrev pub ListsOn : {S : Type 0} (g : Ghosts S) → Opened S → ListingKind → Option (Held S) → Option (List ℕ) → Option (List ℕ) → Outcome → Type 0
-ListsOn g opened kind returned writer writer' (SessionEnded ended) = ⊥
-ListsOn g opened kind returned writer writer' (Unopened error) = FindsNoRegistry g opened returned writer writer' error
-ListsOn g opened kind returned writer writer' (NotListening port) = ⊥
-ListsOn g opened kind returned writer writer' (TextEnded printed) = ⊥
-ListsOn g opened kind returned writer writer' (CheckEnded checked) = ⊥
-ListsOn g opened kind returned writer writer' (ListEnded listed) = OpenedDatabaseSatisfies g opened (λ old. ReturnsConnection g returned (ListsOver old kind writer writer' listed))
-ListsOn g opened kind returned writer writer' (MigrateEnded migrated) = ⊥
-ListsOn g opened kind returned writer writer' (AuditEnded audited) = ⊥
+ListsOn g opened kind returned writer writer' outcome =
+    IsOutcome ListEnded (λ listed. OpenedDatabaseSatisfies g opened (λ old. ReturnsConnection g returned (ListsOver old kind writer writer' listed))) outcome
+    ⊎ IsOutcome Unopened (FindsNoRegistry g opened returned writer writer') outcome
 
 -- an audit of the stored state of a database; if the connection is still open, the tables still spell it
 pub record AuditsOver (old : State) (writer writer' : Option (List ℕ)) (audited : AuditOutcome) (new : State) : Type 0 where
@@ -235,14 +185,9 @@ pub record AuditsOver (old : State) (writer writer' : Option (List ℕ)) (audite
 
 -- the outcome of an audit of what was opened
 abbrev pub AuditsOn : {S : Type 0} (g : Ghosts S) → Opened S → Option (Held S) → Option (List ℕ) → Option (List ℕ) → Outcome → Type 0
-AuditsOn g opened returned writer writer' (SessionEnded ended) = ⊥
-AuditsOn g opened returned writer writer' (Unopened error) = FindsNoRegistry g opened returned writer writer' error
-AuditsOn g opened returned writer writer' (NotListening port) = ⊥
-AuditsOn g opened returned writer writer' (TextEnded printed) = ⊥
-AuditsOn g opened returned writer writer' (CheckEnded checked) = ⊥
-AuditsOn g opened returned writer writer' (ListEnded listed) = ⊥
-AuditsOn g opened returned writer writer' (MigrateEnded migrated) = ⊥
-AuditsOn g opened returned writer writer' (AuditEnded audited) = OpenedDatabaseSatisfies g opened (λ old. ReturnsConnection g returned (AuditsOver old writer writer' audited))
+AuditsOn g opened returned writer writer' outcome =
+    IsOutcome AuditEnded (λ audited. OpenedDatabaseSatisfies g opened (λ old. ReturnsConnection g returned (AuditsOver old writer writer' audited))) outcome
+    ⊎ IsOutcome Unopened (FindsNoRegistry g opened returned writer writer') outcome
 
 -- nothing was opened that could be migrated, and nothing was written
 abbrev pub MigratesNothing : Option (List ℕ) → Option (List ℕ) → StoreError → Outcome → Type 0
@@ -253,29 +198,15 @@ MigratesNothing writer writer' error outcome = (writer' ≡ writer) × (outcome 
 abbrev pub MigratesOn : {S : Type 0} (g : Ghosts S) → Opened S → Option (Held S) → Option (List ℕ) → Option (List ℕ) → Outcome → Type 0
 MigratesOn g Nothing returned writer writer' outcome = (returned ≡ None) × MigratesNothing writer writer' Disk outcome
 MigratesOn g (Texts texts) returned writer writer' outcome = (returned ≡ None) × MigratesNothing writer writer' Disk outcome
-MigratesOn g Failed returned writer writer' outcome = (returned ≡ None) × MigratesNothing writer writer' Disk outcome
-MigratesOn g NoContents returned writer writer' outcome = (returned ≡ None) × MigratesNothing writer writer' NotARegistry outcome
-MigratesOn g OrphanedLog returned writer writer' outcome = (returned ≡ None) × MigratesNothing writer writer' NotARegistry outcome
+MigratesOn g (Failed why) returned writer writer' outcome = (returned ≡ None) × MigratesNothing writer writer' why outcome
 MigratesOn g (Fresh old) returned writer writer' outcome = (returned ≡ Some old) × MigratesNothing writer writer' NotARegistry outcome
 MigratesOn g (Database old) returned writer writer' outcome = ReturnsConnection g returned (λ new. MigratesAs (state g old) new writer writer' outcome)
-
--- the outcome of `text`, and what was printed
-pub record PrintsText (file writer writer' : Option (List ℕ)) (outcome : Outcome) : Type 0 where
-  pub printed : TextOutcome
-  pub prints : PrintsTextAs file writer writer' printed
-  pub outcome_is : outcome ≡ TextEnded printed
-
--- the outcome of `check`, and what was printed
-pub record ChecksFiles (reader_file writer_file writer writer' : Option (List ℕ)) (outcome : Outcome) : Type 0 where
-  pub checked : CheckOutcome
-  pub checks : ChecksAs reader_file writer_file writer writer' checked
-  pub outcome_is : outcome ≡ CheckEnded checked
 
 -- the outcome of a job, by its kind. Only a session reads its input
 abbrev pub HasOutcome : {S : Type 0} (g : Ghosts S) → Job → Opened S → Option (Held S) → Option (List ℕ) → Option (List ℕ) → Option (List ℕ) → Option (List ℕ) → Outcome → Type 0
 HasOutcome g (Run database) opened returned reader reader' writer writer' outcome = RunsJob g opened (is_some database) returned reader reader' writer writer' outcome
-HasOutcome g (TextJob file) opened returned reader reader' writer writer' outcome = (returned ≡ connection_in opened) × (reader' ≡ reader) × PrintsText (text_at opened 0) writer writer' outcome
-HasOutcome g (CheckJob r w) opened returned reader reader' writer writer' outcome = (returned ≡ connection_in opened) × (reader' ≡ reader) × ChecksFiles (text_at opened 0) (text_at opened 1) writer writer' outcome
+HasOutcome g (TextJob file) opened returned reader reader' writer writer' outcome = (returned ≡ connection_in opened) × (reader' ≡ reader) × IsOutcome TextEnded (PrintsTextAs (text_at opened 0) writer writer') outcome
+HasOutcome g (CheckJob r w) opened returned reader reader' writer writer' outcome = (returned ≡ connection_in opened) × (reader' ≡ reader) × IsOutcome CheckEnded (ChecksAs (text_at opened 0) (text_at opened 1) writer writer') outcome
 HasOutcome g (ListJob database kind) opened returned reader reader' writer writer' outcome = (reader' ≡ reader) × ListsOn g opened kind returned writer writer' outcome
 HasOutcome g (Migrate database) opened returned reader reader' writer writer' outcome = (reader' ≡ reader) × MigratesOn g opened returned writer writer' outcome
 HasOutcome g (Audit database) opened returned reader reader' writer writer' outcome = (reader' ≡ reader) × AuditsOn g opened returned writer writer' outcome

@@ -40,8 +40,8 @@ abbrev pub AreDistinct : {T : Type 0} → List (ℕ × T) → Type 0
 AreDistinct [] = Unit {0}
 AreDistinct (e ∷ es) = All (λ d. d.0 ≢ e.0) es × AreDistinct es
 
--- The connections that a network accepted and closed, and the exchanges that a service processed for them, in the order in which it did. At most `most`
--- connections were accepted. Each of them was closed once, and its bytes are those of a session with its exchanges.
+-- The connections that a network accepted and closed, and one list of the exchanges that a service processed for them. At most `most` connections were
+-- accepted. Each of them was closed once, and its bytes are those of a session with its exchanges, in their order in the list.
 pub record ServesConnections {I O : Type 0} (remaining : I → Option (List ℕ)) (contents : O → Option (List ℕ)) (most : ℕ) (accepted accepted' closed closed' : Option (List (I × O)))
     {S : Type 0} {g : Ghosts S} (old new : Service S g) : Type 0 where
   -- the exchanges of all connections

@@ -10,7 +10,7 @@ use Rattle.reg_migrate.specs.declared.error.MigrateError.{MigrateError}
 use Rattle.reg_migrate.specs.declared.error.MigrateError.TheVariants as migrating
 use Rattle.reg_migrate.specs.Errors.{KeepsCrashStates}
 use Rattle.reg_migrate.specs.Migrations.{IsReasonOver, RecoversToMigrated, CrashKeepsStored, Migrates}
-use Rattle.reg_http.specs.Output.{AppendsPrefix}
+use Rattle.reg_output.specs.Prefixes.{AppendsPrefix}
 use Rattle.reg_jobs.specs.declared.outcome.Outcome.{Outcome}
 use Rattle.reg_jobs.specs.declared.outcome.Outcome.TheVariants.{Unopened, Migrate as MigrateEnded}
 use Rattle.reg_jobs.specs.declared.migration.MigrateOutcome.{MigrateOutcome}

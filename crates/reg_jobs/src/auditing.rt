@@ -8,7 +8,7 @@ ghost use Rattle.reg_store.specs.Spells.{SpellsWhileOpen};
 ghost use Rattle.reg_store.specs.Stores.{has_failed, state_of, StillSpells};
 ghost use Rattle.reg_jobs.specs.Auditing.{AuditsAs, PrintsEvidence, evidence_line};
 
-use reg_http::write_whole;
+use reg_output::write_whole;
 use reg_store::{Store, StoreError};
 use sqlite::{Alter, Connection};
 use std::io::Write;

@@ -3,7 +3,7 @@
 ghost use Rattle.std.specs.Prelude.{◌≡◌, false};
 ghost use Rattle.reg_jobs.specs.Errors.{Puts};
 
-use reg_http::write_whole;
+use reg_output::write_whole;
 use std::io::Write;
 
 /// A writer of lines, which remembers whether part of them was lost because a write failed.

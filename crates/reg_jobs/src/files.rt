@@ -6,7 +6,7 @@ ghost use Rattle.reg_jobs.specs.Files.{FileHolds, FailsAs, PrintsTextAs, ChecksA
 
 use avro_resolve::resolves;
 use avro_schema::{Schema, SchemaError};
-use reg_http::write_whole;
+use reg_output::write_whole;
 use std::alloc::Global;
 use std::io::Write;
 use std::str;

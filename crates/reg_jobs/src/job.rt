@@ -1,6 +1,6 @@
 //! The jobs of the program.
 
-ghost use Rattle.std.specs.Prelude.{◌≡◌, IfOk, IfErr, false, option_map};
+ghost use Rattle.std.specs.Prelude.{◌≡◌, IfOk, IfErr, false};
 ghost use Rattle.sqlite.specs.State.{HasCleanDisk};
 ghost use Rattle.reg_store.specs.Opening.{OpensOver};
 ghost use Rattle.reg_store.specs.Stores.{has_failed, state_of};
@@ -15,6 +15,7 @@ use crate::line::report_result;
 use crate::listening::{Network, Output};
 use crate::listings::{list_store, listing_of};
 use crate::migration::migrate_in;
+use crate::opening::Opened;
 use crate::outcome::{Outcome, result_of};
 use reg_cli::{Job, ListingKind};
 use reg_http::{Ended, serve};
@@ -24,27 +25,6 @@ use sqlite::{Alter, Connection};
 use std::alloc::Global;
 use std::io::{Read, Write};
 use std::time::Clock;
-
-/// What was opened for a job.
-#[derive(Drop)]
-pub enum Opened<S: Alter> {
-    /// Nothing: the registry is in memory.
-    Nothing,
-    /// The bytes of the files that the job names, in order; `None` for a file that couldn't be
-    /// read.
-    Texts(Vec<Option<Vec<u8>>>),
-    /// The database of the job can't be opened.
-    Failed,
-    /// A file without a byte, or a database whose creation was interrupted, for a job that creates
-    /// no registry. It isn't opened.
-    NoContents,
-    /// A log whose database is missing or has no byte. It isn't opened.
-    OrphanedLog,
-    /// An empty database, in which the job creates its registry.
-    Fresh(Connection<S>),
-    /// Any other database. Whether it has a registry is checked later.
-    Database(Connection<S>),
-}
 
 /// The file that a job names; of two files the reader's; an empty name if there is none.
 fn file_of(job: &Job) -> &str
@@ -74,34 +54,6 @@ fn writer_schema_file_of(job: &Job) -> &str
     }
 }
 
-impl<S: Alter> Opened<S> {
-    ghost use Rattle.reg_jobs.specs.Jobs.{text_at, connection_in};
-
-    /// The text of the file at a position, or `None` if it couldn't be read.
-    fn text(&self, position: usize) -> Option<&[u8]>
-        ensures { option_map (λ bytes. bytes.now) result ≡ text_at self.entry.now position }
-    {
-        match self {
-            Opened::Texts(texts) => match texts.get(position) {
-                Some(Some(text)) => Some(text.as_slice()),
-                _ => None,
-            },
-            _ => None,
-        }
-    }
-
-    /// The opened connection, or `None`.
-    fn into_connection(self) -> Option<Connection<S>>
-        ensures { result ≡ connection_in self }
-    {
-        match self {
-            Opened::Fresh(connection) => Some(connection),
-            Opened::Database(connection) => Some(connection),
-            _ => None,
-        }
-    }
-}
-
 /// Runs a session over a new registry in memory. If the registry can't be created, the outcome is
 /// `Session(Memory)`.
 fn run_in_memory<R: Read, W: Write>(alloc: Global, reader: &mut R, writer: &mut W) -> Outcome
@@ -122,9 +74,9 @@ fn run_in_memory<R: Read, W: Write>(alloc: Global, reader: &mut R, writer: &mut 
 ///
 /// # Errors
 ///
-/// `Disk` if no database was opened. `NotARegistry` for a file that has no contents yet, for a log
-/// without its database, and for an empty database, which is returned unchanged. Otherwise why the
-/// database has no registry, with the connection.
+/// The opener's error if it opened no database, and `Disk` if the job names none. `NotARegistry` for
+/// an empty database, which is returned unchanged. Otherwise why the database has no registry, with
+/// the connection.
 fn open_existing_store<S: Alter + Drop>(
     alloc: Global,
     opened: Opened<S>,
@@ -135,11 +87,11 @@ fn open_existing_store<S: Alter + Drop>(
     ensures none { IfErr result (λ e. OpensNoExistingRegistry S.Store opened e.1 e.0) }
 {
     match opened {
-        Opened::Database(connection) => open_in(alloc, connection),
+        Opened::Nothing => Err((StoreError::Disk, None)),
+        Opened::Texts(_) => Err((StoreError::Disk, None)),
+        Opened::Failed(error) => Err((error, None)),
         Opened::Fresh(connection) => Err((StoreError::NotARegistry, Some(connection))),
-        Opened::NoContents => Err((StoreError::NotARegistry, None)),
-        Opened::OrphanedLog => Err((StoreError::NotARegistry, None)),
-        _ => Err((StoreError::Disk, None)),
+        Opened::Database(connection) => open_in(alloc, connection),
     }
 }
 
@@ -147,9 +99,9 @@ fn open_existing_store<S: Alter + Drop>(
 ///
 /// # Errors
 ///
-/// `Disk` if no database was opened. `NotARegistry` for a file that has no contents yet, and for a
-/// log without its database. With the connection: `Disk` inside a transaction, and the errors of
-/// `Store::create` for an empty database or of `Store::open` for any other.
+/// The opener's error if it opened no database, and `Disk` if the job names none. With the connection:
+/// `Disk` inside a transaction, and the errors of `Store::create` for an empty database or of
+/// `Store::open` for any other.
 pub fn open_store<S: Alter + Drop>(
     alloc: Global,
     opened: Opened<S>,
@@ -282,9 +234,9 @@ fn migrate_on<S: Alter + Drop, W: Write>(
                 Some(connection),
             )
         }
-        Opened::NoContents => (Outcome::Unopened(StoreError::NotARegistry), None),
-        Opened::OrphanedLog => (Outcome::Unopened(StoreError::NotARegistry), None),
-        _ => (Outcome::Unopened(StoreError::Disk), None),
+        Opened::Failed(error) => (Outcome::Unopened(error), None),
+        Opened::Texts(_) => (Outcome::Unopened(StoreError::Disk), None),
+        Opened::Nothing => (Outcome::Unopened(StoreError::Disk), None),
     }
 }
 

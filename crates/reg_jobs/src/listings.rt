@@ -23,7 +23,7 @@ pub enum ListOutcome {
     Whole,
     /// The registry couldn't be read to its end. The first lines were printed whole, perhaps none.
     Unread(StoreError),
-    /// A write or the final flush failed.
+    /// A write or the final flush failed. Any beginning of the listing was printed.
     NotWritten,
     /// An allocation failed. The first lines were printed whole, perhaps none.
     OutOfMemory,

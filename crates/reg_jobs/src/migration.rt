@@ -8,8 +8,8 @@ ghost use Rattle.reg_jobs.specs.Migration.{MigratesAs, PrintsLine, PrintsUnmigra
 
 use crate::outcome::Outcome;
 use itoa::Buffer;
-use reg_http::write_whole;
 use reg_migrate::{MigrateError, migrate};
+use reg_output::write_whole;
 use reg_store::StoreError;
 use sqlite::{Alter, Connection};
 use std::alloc::Global;

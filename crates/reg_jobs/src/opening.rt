@@ -1,21 +1,70 @@
-//! Opens what a job names.
+//! What is opened for a job.
 
-ghost use Rattle.std.specs.Prelude.{IfOk};
+ghost use Rattle.std.specs.Prelude.{◌≡◌, IfOk, option_map};
 ghost use Rattle.reg_jobs.specs.Opening.{OpensFor, OpensExisting, OpensOrCreates};
 
-use crate::job::Opened;
 use avro_nodes::OutOfMemory;
 use reg_cli::Job;
-use sqlite::Alter;
+use reg_store::StoreError;
+use sqlite::{Alter, Connection};
 use std::alloc::Global;
+
+/// What was opened for a job.
+#[derive(Drop)]
+pub enum Opened<S: Alter> {
+    /// Nothing: the registry is in memory.
+    Nothing,
+    /// The bytes of the files that the job names, in order; `None` for a file that couldn't be
+    /// read.
+    Texts(Vec<Option<Vec<u8>>>),
+    /// No database was opened. `NotARegistry`: only its log is left, or for a job that creates no
+    /// registry, the file has no contents yet. `Disk`: it can't be opened.
+    Failed(StoreError),
+    /// An empty database, in which the job creates its registry.
+    Fresh(Connection<S>),
+    /// Any other database. Whether it has a registry is checked later.
+    Database(Connection<S>),
+}
+
+impl<S: Alter> Opened<S> {
+    ghost use Rattle.reg_jobs.specs.Opening.{text_at, connection_in};
+
+    /// The text of the file at a position, or `None` if it couldn't be read.
+    pub(crate) fn text(&self, position: usize) -> Option<&[u8]>
+        ensures { option_map (λ bytes. bytes.now) result ≡ text_at self.entry.now position }
+    {
+        match self {
+            Opened::Texts(texts) => match texts.get(position) {
+                Some(Some(text)) => Some(text.as_slice()),
+                _ => None,
+            },
+            _ => None,
+        }
+    }
+
+    /// The opened connection, or `None`.
+    pub(crate) fn into_connection(self) -> Option<Connection<S>>
+        ensures { result ≡ connection_in self }
+    {
+        match self {
+            Opened::Fresh(connection) => Some(connection),
+            Opened::Database(connection) => Some(connection),
+            _ => None,
+        }
+    }
+}
 
 /// Opens the files that a job names.
 pub trait Opener<S: Alter> {
-    ghost use Rattle.std.specs.Prelude.{IfOk};
-    ghost use Rattle.reg_jobs.specs.Opening.{OpensExisting, OpensOrCreates};
+    ghost use Rattle.std.specs.Prelude.{ℕ, List, Option, Some, None, IfOk};
+    ghost use Rattle.reg_jobs.specs.Opening.{IsReadAs, OpensExisting, OpensOrCreates, file_bytes};
 
-    /// Opens the database in a file, and creates it if it is missing or empty. If only its log is
-    /// left, the result is `Opened::OrphanedLog`.
+    // What is known of the file with a name: nothing (`None`); or its bytes, or that it can't be
+    // read (`Some None`).
+    ghost known: { Self → List ℕ → Option (Option (List ℕ)) } = { λ _ _. None };
+
+    /// Opens the database in a file, and creates it if it is missing or empty, unless its log is
+    /// left.
     ///
     /// # Errors
     ///
@@ -23,9 +72,7 @@ pub trait Opener<S: Alter> {
     fn open_or_create(&self, file: &str) -> Result<Opened<S>, OutOfMemory>
         ensures { IfOk result OpensOrCreates };
 
-    /// Opens the database in a file for a job that creates no registry. It creates no file. If the
-    /// file has no contents yet, the result is `Opened::NoContents`; if only its log is left,
-    /// `Opened::OrphanedLog`.
+    /// Opens the database in a file for a job that creates no registry. It creates no file.
     ///
     /// # Errors
     ///
@@ -38,10 +85,12 @@ pub trait Opener<S: Alter> {
     /// # Errors
     ///
     /// `OutOfMemory` if an allocation fails.
-    fn read(&self, file: &str) -> Result<Option<Vec<u8>>, OutOfMemory>;
+    fn read(&self, file: &str) -> Result<Option<Vec<u8>>, OutOfMemory>
+        ensures { IfOk result (λ bytes. IsReadAs (known self.now file.now) (file_bytes (Some bytes))) };
 }
 
-/// Opens what a job names: nothing, one database, or the files of its schemas, in order.
+/// Opens what a job names: nothing, one database, or the files of its schemas, in order: for `check`
+/// the reader's first.
 ///
 /// # Errors
 ///
@@ -51,7 +100,7 @@ pub fn open_for<S: Alter, O: Opener<S>>(
     opener: &O,
     job: &Job,
 ) -> Result<Opened<S>, OutOfMemory>
-    ensures { IfOk result (OpensFor job.now) }
+    ensures { IfOk result (OpensFor (O.known opener.now) job.now) }
 {
     match job {
         Job::Run { database: None } => Ok(Opened::Nothing),
@@ -62,15 +111,13 @@ pub fn open_for<S: Alter, O: Opener<S>>(
             opener.open_existing(database.as_str())
         }
         Job::Text { file } => {
-            let mut texts = Vec::new(alloc);
-            texts.push(opener.read(file.as_str())?)?;
-            Ok(Opened::Texts(texts))
+            let text = opener.read(file.as_str())?;
+            Ok(Opened::Texts(vec![in alloc; text]?))
         }
         Job::Check { reader, writer } => {
-            let mut texts = Vec::new(alloc);
-            texts.push(opener.read(reader.as_str())?)?;
-            texts.push(opener.read(writer.as_str())?)?;
-            Ok(Opened::Texts(texts))
+            let first = opener.read(reader.as_str())?;
+            let second = opener.read(writer.as_str())?;
+            Ok(Opened::Texts(vec![in alloc; first, second]?))
         }
     }
 }

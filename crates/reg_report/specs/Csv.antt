@@ -1,6 +1,5 @@
 -- Listings as CSV.
-use Rattle.std.specs.Prelude.{ℕ, List, [], ◌∷◌, ◌++◌, take, codes, Option}
-use Rattle.std.specs.Io.KnownBytes.{Appends}
+use Rattle.std.specs.Prelude.{ℕ, List, [], ◌∷◌, ◌++◌, take, codes}
 use Rattle.csv.specs.Writing.{default_writer, row_text}
 use Rattle.reg_core.specs.Registry.{Registry}
 use Rattle.reg_store.specs.declared.listing.Listing.{Listing}
@@ -22,6 +21,6 @@ header Schemas = codes "id" ∷ codes "text" ∷ []
 abbrev pub listing : Listing → Registry → List ℕ
 listing kind g = csv_text (header kind ∷ listing_lines kind g)
 
--- the first of these lines, perhaps none or all, were written, each in full
-abbrev pub WritesPrefix : List Fields → Option (List ℕ) → Option (List ℕ) → Type 0
-WritesPrefix lines old new = (count : ℕ) × Appends old new (csv_text (take count lines))
+-- the first of these lines, perhaps none or all, were written, each in full. `Writes` is true of the bytes that were written
+abbrev pub WritesLines : (List ℕ → Type 0) → List Fields → Type 0
+WritesLines Writes lines = (count : ℕ) × Writes (csv_text (take count lines))

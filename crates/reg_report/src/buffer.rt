@@ -2,10 +2,12 @@
 
 ghost use Rattle.std.specs.Prelude.{◌≡◌, [], IfErr, OnOk};
 ghost use Rattle.std.specs.Io.KnownBytes.{Appends};
+ghost use Rattle.reg_output.specs.Prefixes.{AppendsPrefix};
 ghost use Rattle.reg_report.specs.declared.error.ReportError.TheVariants.{Write as WriteFailed};
-ghost use Rattle.reg_report.specs.Buffering.{Buffers, FlushesBuffer, buffered_contents};
+ghost use Rattle.reg_report.specs.Buffering.{Buffers, FlushesBuffer, output_of};
 
 use crate::error::ReportError;
+use reg_output::write_whole;
 use std::alloc::Global;
 use std::io::Write;
 
@@ -29,11 +31,10 @@ impl OutputBuffer {
     }
 
     /// Appends bytes. If the buffer is then longer than `capacity`, writes all of it and empties
-    /// it. If the allocation fails, nothing changes. After a failed write, the buffer keeps its
-    /// bytes.
+    /// it. If the allocation fails, nothing changes. If the write fails, a beginning of the bytes was
+    /// written, and the buffer is empty.
     pub fn put<W: Write>(&mut self, writer: &mut W, bytes: &[u8]) -> Result<(), ReportError>
-        ensures { Buffers result (buffered_contents W.contents writer.old self.old)
-            (buffered_contents W.contents writer.new self.new) bytes.now }
+        ensures { Buffers result (output_of W.contents writer.old self.old) (output_of W.contents writer.new self.new) bytes.now }
     {
         if self.bytes.extend_from_slice(bytes).is_err() {
             return Err(ReportError::OutOfMemory);
@@ -44,29 +45,31 @@ impl OutputBuffer {
         Ok(())
     }
 
-    /// Writes the whole buffer and empties it.
+    /// Writes the whole buffer and empties it. If the write fails, a beginning was written.
     fn flush_to<W: Write>(&mut self, writer: &mut W) -> Result<(), ReportError>
-        ensures none { OnOk result (self.new.bytes.items ≡ []) }
+        ensures none { self.new.bytes.items ≡ [] }
+        ensures front { AppendsPrefix (W.contents writer.old) (W.contents writer.new) self.old.bytes.items }
         ensures text { OnOk result (Appends (W.contents writer.old) (W.contents writer.new) self.old.bytes.items) }
         ensures failed { IfErr result (λ failure. failure ≡ WriteFailed) }
     {
-        writer.write_all(self.bytes.as_slice())?;
+        let is_whole = write_whole(writer, self.bytes.as_slice());
         self.bytes.clear();
-        Ok(())
+        if is_whole {
+            Ok(())
+        } else {
+            Err(ReportError::Write)
+        }
     }
 
     /// Writes the rest of the buffer, and returns `put`, the result so far, or `Write` if this write
-    /// fails. If `put` is a failed write, it writes nothing more.
+    /// fails. After a failed write the buffer is empty, and nothing more is written.
     pub fn finish<W: Write>(
         mut self,
         writer: &mut W,
         put: Result<(), ReportError>,
     ) -> Result<(), ReportError>
-        ensures { FlushesBuffer put (buffered_contents W.contents writer.old self) (W.contents writer.new) result }
+        ensures { FlushesBuffer put (output_of W.contents writer.old self) (W.contents writer.new) result }
     {
-        if let Err(ReportError::Write) = put {
-            return put;
-        }
         self.flush_to(writer)?;
         put
     }

@@ -2,7 +2,6 @@
 
 use reg_core::OutOfMemory;
 use reg_store::StoreError;
-use std::io;
 use thiserror::Error;
 
 /// Why a listing fails. A part of it may have been written.
@@ -38,16 +37,5 @@ impl From<OutOfMemory> for ReportError {
 
     fn from(_error: OutOfMemory) -> ReportError {
         ReportError::OutOfMemory
-    }
-}
-
-impl From<io::Error> for ReportError {
-    ghost use Rattle.std.specs.Prelude.{◌≡◌};
-    ghost use Rattle.reg_report.specs.declared.error.ReportError.TheVariants.{Write};
-
-    ghost from_gives = { λ _ failure. failure ≡ Write };
-
-    fn from(_error: io::Error) -> ReportError {
-        ReportError::Write
     }
 }

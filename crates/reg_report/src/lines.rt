@@ -4,8 +4,8 @@ ghost use Rattle.std.specs.Prelude.{◌≡◌, ◌<◌, ◌-◌, ◌^◌, [], If
 ghost use Rattle.csv.specs.Writing.{default_writer, row_text};
 ghost use Rattle.reg_store.specs.NextLines.{store_of};
 ghost use Rattle.reg_report.specs.Csv.{header};
-ghost use Rattle.reg_report.specs.Buffering.{Buffers, buffered_contents};
-ghost use Rattle.reg_report.specs.Printing.{IsAtStart, PrintsListing};
+ghost use Rattle.reg_report.specs.Buffering.{Buffers, Cuts, Puts, output_of};
+ghost use Rattle.reg_report.specs.Printing.{IsAtStart, Lists};
 
 use crate::buffer::OutputBuffer;
 use crate::error::ReportError;
@@ -28,8 +28,9 @@ pub(crate) fn put_lines<W: Write, S: Alter>(
 ) -> Result<(), ReportError>
     requires { IsAtStart kind lines.old }
     ensures same_reference { lines.new.store.ghost_name ≡ lines.old.store.ghost_name }
-    ensures lists { PrintsListing kind (store_of lines.old) (store_of lines.new)
-        (buffered_contents W.contents writer.old buffer.old) (buffered_contents W.contents writer.new buffer.new) result }
+    ensures lists { Lists (Puts (output_of W.contents writer.old buffer.old) (output_of W.contents writer.new buffer.new))
+        (Cuts (output_of W.contents writer.old buffer.old) (output_of W.contents writer.new buffer.new))
+        kind (store_of lines.old) (store_of lines.new) result }
 {
     put_header(alloc, writer, buffer, kind)?;
     for _ in 0..u64::MAX {
@@ -49,8 +50,8 @@ fn put_header<W: Write>(
     buffer: &mut OutputBuffer,
     kind: Listing,
 ) -> Result<(), ReportError>
-    ensures { Buffers result (buffered_contents W.contents writer.old buffer.old)
-        (buffered_contents W.contents writer.new buffer.new) (row_text default_writer (header kind)) }
+    ensures { Buffers result (output_of W.contents writer.old buffer.old)
+        (output_of W.contents writer.new buffer.new) (row_text default_writer (header kind)) }
 {
     match kind {
         Listing::Subjects => {
@@ -81,8 +82,8 @@ fn put_line<W: Write, T: AsSlice<u8>>(
     fields: &[T],
 ) -> Result<(), ReportError>
     requires { length fields.now < 2 ^ 64 - 1 }
-    ensures { Buffers result (buffered_contents W.contents writer.old buffer.old)
-        (buffered_contents W.contents writer.new buffer.new) (row_text default_writer (map T.items fields.now)) }
+    ensures { Buffers result (output_of W.contents writer.old buffer.old)
+        (output_of W.contents writer.new buffer.new) (row_text default_writer (map T.items fields.now)) }
 {
     let text = line_text(alloc, fields)?;
     buffer.put(writer, text.as_slice())

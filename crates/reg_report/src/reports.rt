@@ -25,8 +25,8 @@ const BUFFER_SIZE: usize = 65_536;
 ///
 /// `Store` if the store fails, runs out of memory, or failed before (then nothing is written).
 /// `OutOfMemory` if an allocation for the output fails. After either, the first lines of the
-/// listing were written, perhaps none, each in full. `Write` if a write fails; then part of a line
-/// may have been written. The registry stays the same in every case.
+/// listing were written, perhaps none, each in full. `Write` if a write fails; then any
+/// beginning of the listing was written. The registry stays the same in every case.
 pub fn list_subjects<W: Write, S: Alter>(
     alloc: Global,
     store: &mut Store<S>,
@@ -44,8 +44,8 @@ pub fn list_subjects<W: Write, S: Alter>(
 ///
 /// `Store` if the store fails, runs out of memory, or failed before (then nothing is written).
 /// `OutOfMemory` if an allocation for the output fails. After either, the first lines of the
-/// listing were written, perhaps none, each in full. `Write` if a write fails; then part of a line
-/// may have been written. The registry stays the same in every case.
+/// listing were written, perhaps none, each in full. `Write` if a write fails; then any
+/// beginning of the listing was written. The registry stays the same in every case.
 pub fn list_versions<W: Write, S: Alter>(
     alloc: Global,
     store: &mut Store<S>,
@@ -63,8 +63,8 @@ pub fn list_versions<W: Write, S: Alter>(
 ///
 /// `Store` if the store fails, runs out of memory, or failed before (then nothing is written).
 /// `OutOfMemory` if an allocation for the output fails. After either, the first lines of the
-/// listing were written, perhaps none, each in full. `Write` if a write fails; then part of a line
-/// may have been written. The registry stays the same in every case.
+/// listing were written, perhaps none, each in full. `Write` if a write fails; then any
+/// beginning of the listing was written. The registry stays the same in every case.
 pub fn list_schemas<W: Write, S: Alter>(
     alloc: Global,
     store: &mut Store<S>,
@@ -81,8 +81,8 @@ pub fn list_schemas<W: Write, S: Alter>(
 ///
 /// `Store` if the store fails, runs out of memory, or failed before (then nothing is written).
 /// `OutOfMemory` if an allocation for the output fails. After either, the first lines of the
-/// listing were written, perhaps none, each in full. `Write` if a write fails; then part of a line
-/// may have been written. The registry stays the same in every case.
+/// listing were written, perhaps none, each in full. `Write` if a write fails; then any
+/// beginning of the listing was written. The registry stays the same in every case.
 pub fn list<W: Write, S: Alter>(
     alloc: Global,
     store: &mut Store<S>,
@@ -102,7 +102,7 @@ pub fn list<W: Write, S: Alter>(
 /// `Store` if the store fails, runs out of memory, or failed before (then nothing is written).
 /// `OutOfMemory` if an allocation for the output fails. After either, the first lines of the
 /// listing were written, perhaps none, each in full. `Write` if a write fails, including the
-/// final write of the buffered lines after another error; then part of a line may have been
+/// final write of the buffered lines after another error; then any beginning of the listing was
 /// written. The registry stays the same in every case.
 pub fn list_in_pieces<W: Write, S: Alter>(
     alloc: Global,

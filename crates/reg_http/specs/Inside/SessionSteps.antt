@@ -13,7 +13,8 @@ use Rattle.reg_messages.specs.Framing.{max_body}
 use Rattle.reg_messages.specs.Messages.{max_head, Follows, Part, Faulty}
 use Rattle.reg_messages.specs.Closing.{closes}
 use Rattle.reg_messages.specs.Responses.{fault_response}
-use Rattle.reg_http.specs.Output.{AnsweredMessage, NoneCloses, response_to, responses, IsPrefix}
+use Rattle.reg_output.specs.Prefixes.{IsPrefix, AppendsPrefix}
+use Rattle.reg_http.specs.Output.{AnsweredMessage, NoneCloses, response_to, responses}
 use Rattle.reg_http.specs.Sessions.{ProcessesMessages}
 
 -- There are fewer than `needs` bytes, and the buffer has room for that many. Any bytes may be added: until there are `needs` bytes in all, they
@@ -88,8 +89,8 @@ step_outcome NoMemory close message_size = Stopped OutOfMemory
 -- what was written of the response to a fault, at each stop; `AtClose` and `Waiting` don't occur
 abbrev pub FaultAs : Option (List ℕ) → Option (List ℕ) → Code → Stop → Type 0
 FaultAs old new code AtFault = Appends old new (fault_response code)
-FaultAs old new code NotWritten = (part : List ℕ) × IsPrefix part (fault_response code) × Appends old new part
-FaultAs old new code OutOfMemory = (part : List ℕ) × IsPrefix part (fault_response code) × Appends old new part
+FaultAs old new code NotWritten = AppendsPrefix old new (fault_response code)
+FaultAs old new code OutOfMemory = AppendsPrefix old new (fault_response code)
 FaultAs old new code AtClose = ⊥
 FaultAs old new code (Waiting needs) = ⊥
 

@@ -1,9 +1,9 @@
-use Rattle.std.proofs.Common.{take, drop, ◌∙◌}
-use Rattle.std.proofs.lemmas.List.{take-append-drop}
+use Rattle.std.proofs.Common.{subst, ◌∙◌}
+use Rattle.reg_output.specs.Prefixes.{AppendsPrefix}
 use Rattle.reg_http.proofs.writing.send.Goals as goal
 
 pub returns-clause-front : goal.returns-clause-front
 returns-clause-front g c =
-    let a = c.write_whole.ensures.front in
-    let bytes = c.as_bytes.result.now in
-    (take a.0 bytes, (drop a.0 bytes, take-append-drop a.0 bytes ∙ (c.as_bytes.ensures.value ∙ c.in-Ok.ensures)), a.2)
+    let old = g.W.Write.contents c.args.writer.now in
+    let new = g.W.Write.contents c.write_whole.new.writer in
+    subst (AppendsPrefix old new) (c.as_bytes.ensures.value ∙ c.in-Ok.ensures) c.write_whole.ensures.front

@@ -11,9 +11,9 @@ returns g c =
     elim c.match-job.branch [
       | in-Run w ↦ rw (w.in-Run.is, w.outcome-is, w.reader-is, w.writer-is) (rw w.is_some.ensures at w.run.ensures)
       | in-Text w ↦ rw (w.in-Text.is, w.outcome-is, w.writer-is, w.reader-is)
-          (w.into_connection.ensures, refl, record { printed = w.print_text-printed.result; prints = rw w.text.ensures at w.print_text-printed.ensures; outcome_is = refl })
+          (w.into_connection.ensures, refl, (w.print_text-printed.result, refl, rw w.text.ensures at w.print_text-printed.ensures))
       | in-Check w ↦ rw (w.in-Check.is, w.outcome-is, w.writer-is, w.reader-is)
-          (w.into_connection-in-Check.ensures, refl, record { checked = w.check-checked.result; checks = rw (w.text-in-Check.ensures, w.text-in-Check-2.ensures) at w.check-checked.ensures; outcome_is = refl })
+          (w.into_connection-in-Check.ensures, refl, (w.check-checked.result, refl, rw (w.text-in-Check.ensures, w.text-in-Check-2.ensures) at w.check-checked.ensures))
       | in-List w ↦ rw (w.in-List.is, w.outcome-is, w.writer-is, w.reader-is) (refl, w.list_on.ensures)
       | in-Migrate w ↦ rw (w.in-Migrate.is, w.outcome-is, w.writer-is, w.reader-is) (refl, w.migrate_on.ensures)
       | in-Audit w ↦ rw (w.in-Audit.is, w.outcome-is, w.writer-is, w.reader-is) (refl, w.audit_on.ensures)

@@ -1,5 +1,4 @@
 use Rattle.std.proofs.Common.{◌≡◌, List, ◌∷◌, None}
-use Rattle.std.specs.Io.KnownBytes.{Appends}
 use Rattle.sqlite.specs.State.{HasCleanDisk}
 use Rattle.reg_core.specs.Stored.{Stored}
 use Rattle.reg_store.specs.NextLines.{store_of, failure_in, HasYielded}
@@ -7,7 +6,7 @@ use Rattle.reg_store.specs.Listings.{Fields}
 use Rattle.reg_store.specs.Spells.{SpellsWhileOpen}
 use Rattle.reg_store.specs.Stores.{state_of}
 use Rattle.reg_report.specs.Csv.{csv_text, header}
-use Rattle.reg_report.specs.Buffering.{buffered_contents}
+use Rattle.reg_report.specs.Buffering.{Puts, output_of}
 use Rattle.reg_report.proofs.KeepingLemmas.{Keeps}
 use Rattle.reg_report.proofs.lines.put_lines.Given as goal
 
@@ -18,5 +17,5 @@ invariant-loop g l = record {
   keeps : Keeps (store_of l.initial.lines) (store_of l.lines);
   written : HasCleanDisk (state_of (store_of l.lines)) → (was : Stored) → SpellsWhileOpen (state_of (store_of l.initial.lines)) was
       → (done : List Fields) × HasYielded l.lines l.fn.kind was.registry done
-      × Appends (buffered_contents g.W.Write.contents l.fn.writer l.fn.buffer) (buffered_contents g.W.Write.contents l.writer l.buffer) (csv_text (header l.fn.kind ∷ done));
+      × Puts (output_of g.W.Write.contents l.fn.writer l.fn.buffer) (output_of g.W.Write.contents l.writer l.buffer) (csv_text (header l.fn.kind ∷ done));
 }
