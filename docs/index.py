@@ -28,14 +28,14 @@ SECTIONS = [
     ("Storage", ("reg_tables/", "reg_rows/", "reg_store/")),
     ("Crashes", ("reg_service/",)),
     ("HTTP", ("reg_messages/", "reg_routes/")),
-    ("The server", ("reg_http/", "reg_jobs/")),
+    ("The server", ("reg_output/", "reg_http/", "reg_jobs/")),
     ("Other", ("",)),
 ]
 HEAD = """# Definitions
 
 `docs/index.py` writes this page: don't edit it. It lists the definitions on which the contracts of [proofs.md](proofs.md) rest, in reading order. A number is the line in the file above it. The text is the first sentence of the definition's comment; read the definition itself where it is.
 
-A definition is here if proofs.md quotes it. It is also here if a quote rests on it, directly or through other definitions, and another file names it. The rest of a file is read with it. Files of `specs/Inside/` only help the proofs, and nobody has to believe them. `docs/index.py --whole` prints all definitions as one page.
+A definition is here if proofs.md quotes it. It is also here if a quote rests on it, directly or through other definitions, and another file names it. The rest of a file is read with it. Public contracts don't cite files of `specs/Inside/`. `step` computes by some of them; laws say what the result means. `docs/index.py --whole` prints all definitions as one page.
 """
 DEFINED = re.compile(r"\s*(?:abbrev pub|unfoldable pub|pub record|pub data) (\w+)")
 USED = re.compile(r"^\s*(?:ghost )?use Rattle\.(\w+)\.specs\.([\w.]+)\.(?:\{([^}]*)\}|(\w+))", re.M)
